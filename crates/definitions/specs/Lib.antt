@@ -1,0 +1,1 @@
+-- The root of the definitions. Assumes nothing.
