@@ -1,1 +1,14 @@
-// How a call answers.
+// How the calls answer. An answer is the finished kind or a refusal number (the scope paper, 'Who causes which refusal');
+// specs/Answers.antt gives the paper's number and values for each case, and every promise goes through that definition.
+
+// The answer of a call whose result stands in a lent output.
+pub enum Answer {
+    Finished,
+    Refused(u32),
+}
+
+// The answer of a call whose result is a number: an inverse, or the length of a text.
+pub enum Valued {
+    Value(u32),
+    Refused(u32),
+}

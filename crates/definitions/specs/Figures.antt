@@ -1,0 +1,99 @@
+-- The figures to check by, P1 to P12 of the scope paper, and worked examples of our own.
+--   Call      a call with its input, its output as long as it must be; Totals stands for the two sides of the product law
+--   handed    what the call hands out: its verdict, with the definition's list or number as the values
+--   figures   each call beside what it must hand out
+--   examples  the same of our own, for what the paper's figures leave untouched
+-- figures-hold and examples-hold: every row of the tables is right, by computation from the definitions. Assumes nothing.
+use mathlib.Core.Path.{_≡_, refl}
+use mathlib.Core.List.{List, [], _∷_, map}
+use Prim.Native.Nat.{ℕ}
+use Rattle.definitions.specs.Number.{sum, table, negative, inverseBelow, inverse}
+use Rattle.definitions.specs.Family.{Family, family, size, rowAt, timesX, term, F, G}
+use Rattle.definitions.specs.Conversion.{expand, adjoint, top, lessTop, decomposeBelow, decompose}
+use Rattle.definitions.specs.Orthogonality.{reversal, nextQuotient, quotient, momentCount, moments, signedProduct, norm, norms, product, momentTotal, normTotal}
+use Rattle.definitions.specs.Refusals.{Verdict, finished, refused, verdict, some, differ, notBelow, noInverse, workLength, modulusTest, lengthsTest, rowCountTest, curveLengthTest, outputTest, workTest, entriesTest, aInverseTest, cInverseTest, curveEntriesTest, numberTest, numberInverseTest, plainTests, momentsTests, normsTests, inverseTests}
+
+pub data Call : Type 0 where
+  Expand : Family → List ℕ → Call
+  Adjoint : Family → List ℕ → Call
+  Decompose : Family → List ℕ → Call
+  Moments : Family → Call
+  Norms : Family → Call
+  Inverse : ℕ → ℕ → Call
+  Totals : Family → List ℕ → List ℕ → Call
+
+-- whoever unfolds it unfolds the definitions that it leads to
+unfoldable pub handed : Call → Verdict
+unfolding sum table negative inverseBelow inverse rowAt timesX term F G expand adjoint top lessTop decomposeBelow decompose reversal nextQuotient quotient moments signedProduct norm norms product momentTotal normTotal verdict some differ notBelow noInverse modulusTest lengthsTest rowCountTest curveLengthTest outputTest workTest entriesTest aInverseTest cInverseTest curveEntriesTest numberTest numberInverseTest plainTests momentsTests normsTests inverseTests
+handed (Expand f u) = verdict (plainTests f u (size f)) (expand f u)
+handed (Adjoint f u) = verdict (plainTests f u (size f)) (adjoint f u)
+handed (Decompose f p) = verdict (plainTests f p (size f)) (decompose f p)
+handed (Moments f) = verdict (momentsTests f (momentCount f) workLength) (moments f)
+handed (Norms f) = verdict (normsTests f (size f)) (norms f)
+handed (Inverse m x) = verdict (inverseTests m x) (inverse m x ∷ [])
+handed (Totals f u v) = finished (momentTotal (f .m) (size f) (expand f u) (expand f v) (moments f) ∷ normTotal (f .m) (size f) u v (norms f) ∷ [])
+
+pub record Figure : Type 0 where
+  pub call : Call
+  pub hands : Verdict
+
+infix 80 _gives_
+abbrev _gives_ : Call → Verdict → Figure
+call gives hands = record { call = call; hands = hands }
+
+-- the paper's R, of which F_2 = 2 x^2 + 3 x + 5, and a family of four rows modulo 35
+abbrev pub R : Family
+R = family 7 (1 ∷ 2 ∷ []) (0 ∷ 3 ∷ []) (1 ∷ 5 ∷ [])
+
+abbrev pub four : Family
+four = family 35 (2 ∷ 3 ∷ 4 ∷ 6 ∷ []) (1 ∷ 0 ∷ 34 ∷ 5 ∷ []) (3 ∷ 8 ∷ 9 ∷ 11 ∷ [])
+
+-- P1 to P12 in their order; P11 and P12 are two rows each
+abbrev pub figures : List Figure
+figures =
+    Expand R (3 ∷ 0 ∷ 1 ∷ []) gives finished (1 ∷ 3 ∷ 2 ∷ [])
+    ∷ Adjoint R (1 ∷ 3 ∷ 2 ∷ []) gives finished (1 ∷ 3 ∷ 4 ∷ [])
+    ∷ Decompose R (1 ∷ 3 ∷ 2 ∷ []) gives finished (3 ∷ 0 ∷ 1 ∷ [])
+    ∷ Moments R gives finished (1 ∷ 0 ∷ 1 ∷ 2 ∷ 1 ∷ [])
+    ∷ Norms R gives finished (1 ∷ 1 ∷ 5 ∷ [])
+    ∷ Expand (family 2 [] [] []) (1 ∷ []) gives finished (1 ∷ [])
+    ∷ Expand (family 2 (1 ∷ []) (1 ∷ []) (1 ∷ [])) (1 ∷ 1 ∷ []) gives finished (0 ∷ 1 ∷ [])
+    ∷ Inverse 15 4 gives finished (4 ∷ [])
+    ∷ Inverse 15 6 gives refused 13
+    ∷ Expand (family 15 (3 ∷ []) (0 ∷ []) (5 ∷ [])) (1 ∷ 1 ∷ []) gives refused 10
+    ∷ Moments (family 7 [] [] []) gives finished (1 ∷ [])
+    ∷ Norms (family 7 [] [] []) gives finished (1 ∷ [])
+    ∷ Moments (family 15 (2 ∷ []) (1 ∷ []) (4 ∷ [])) gives finished (8 ∷ 11 ∷ 13 ∷ [])
+    ∷ Norms (family 15 (2 ∷ []) (1 ∷ []) (4 ∷ [])) gives finished (8 ∷ 14 ∷ [])
+    ∷ []
+
+-- our own: the four-row family both ways; factors that are zero, that equal m and that share a factor with m; two faults at once
+abbrev pub examples : List Figure
+examples =
+    Expand four (1 ∷ 2 ∷ 3 ∷ 4 ∷ 5 ∷ []) gives finished (6 ∷ 31 ∷ 7 ∷ 1 ∷ 20 ∷ [])
+    ∷ Adjoint four (1 ∷ 2 ∷ 3 ∷ 4 ∷ 5 ∷ []) gives finished (1 ∷ 5 ∷ 32 ∷ 34 ∷ 4 ∷ [])
+    ∷ Decompose four (6 ∷ 31 ∷ 7 ∷ 1 ∷ 20 ∷ []) gives finished (1 ∷ 2 ∷ 3 ∷ 4 ∷ 5 ∷ [])
+    ∷ Moments four gives finished (18 ∷ 26 ∷ 33 ∷ 13 ∷ 20 ∷ 9 ∷ 30 ∷ 26 ∷ 19 ∷ [])
+    ∷ Norms four gives finished (18 ∷ 9 ∷ 18 ∷ 8 ∷ 22 ∷ [])
+    ∷ Totals four (1 ∷ 2 ∷ 3 ∷ 4 ∷ 5 ∷ []) (2 ∷ 7 ∷ 1 ∷ 8 ∷ 2 ∷ []) gives finished (27 ∷ 27 ∷ [])
+    ∷ Inverse 7 0 gives refused 13
+    ∷ Inverse 7 7 gives refused 12
+    ∷ Inverse 1 0 gives refused 3
+    ∷ Norms (family 7 (1 ∷ 0 ∷ []) (0 ∷ 0 ∷ []) (1 ∷ 1 ∷ [])) gives refused 10
+    ∷ Norms (family 7 (1 ∷ 7 ∷ []) (0 ∷ 0 ∷ []) (1 ∷ 1 ∷ [])) gives refused 9
+    ∷ Norms (family 15 (1 ∷ 1 ∷ []) (0 ∷ 0 ∷ []) (1 ∷ 6 ∷ [])) gives refused 11
+    ∷ Expand (family 15 (1 ∷ []) (0 ∷ []) (0 ∷ [])) (15 ∷ 15 ∷ []) gives refused 11
+    ∷ Expand (family 15 (1 ∷ []) (0 ∷ []) (1 ∷ [])) (15 ∷ 15 ∷ []) gives refused 12
+    ∷ []
+
+-- a table holds: each call hands out what stands beside it
+abbrev pub Hold : List Figure → Type 0
+Hold figures = map (λ x. handed (x .call)) figures ≡ map (λ x. x .hands) figures
+
+pub figures-hold : Hold figures
+unfolding handed
+figures-hold = refl
+
+pub examples-hold : Hold examples
+unfolding handed
+examples-hold = refl
