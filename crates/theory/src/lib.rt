@@ -1,0 +1,1 @@
+// What is true of the definitions: it has no code, only the laws of specs/.
