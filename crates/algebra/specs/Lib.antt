@@ -1,1 +1,7 @@
 -- The root of the algebra. Assumes nothing.
+pub mod Ring
+pub mod Numeral
+pub mod Expression
+pub mod Meaning
+pub mod Reading
+pub mod Solver
