@@ -5,3 +5,5 @@ pub mod Expression
 pub mod Meaning
 pub mod Reading
 pub mod Solver
+pub mod Sum
+pub mod Diagonal
