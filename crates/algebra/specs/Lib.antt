@@ -7,3 +7,5 @@ pub mod Reading
 pub mod Solver
 pub mod Sum
 pub mod Diagonal
+pub mod Unit
+pub mod Product
