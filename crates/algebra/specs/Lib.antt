@@ -9,3 +9,5 @@ pub mod Sum
 pub mod Diagonal
 pub mod Unit
 pub mod Product
+pub mod Series
+pub mod Variable
