@@ -1,1 +1,2 @@
 -- What is true of the definitions, for every modulus from 2 on and every convertible family. Assumes nothing.
+pub mod Lists
