@@ -4,7 +4,7 @@
 -- Proves that q·f ≡ g holds below x^n just if every step below n does, that q is unique below x^n, and
 -- that `quotient` is the only series with q·f ≡ g.
 -- Assumes nothing.
-use mathlib.Core.Path.{_≡_, refl, sym, _∙_, ap, ap₂, subst}
+use mathlib.Core.Path.{_≡_, sym, _∙_, ap, subst}
 use mathlib.Core.List.{[], _∷_}
 use Prim.Native.Nat.{ℕ, zero, suc, _<_, _-_ as _-ℕ_}
 use native.Mathlib.Nat
@@ -18,7 +18,7 @@ use Rattle.algebra.specs.Sum.{sum, sum-last}
 use Rattle.algebra.specs.Unit.{IsUnit}
 
 module _ (R : CommRing) where
-  open CommRing R using (Car, one as 𝟙, add as _⊕_, mul as _⊗_, neg as ⊖_)
+  open CommRing R using (Car, add as _⊕_, mul as _⊗_, neg as ⊖_)
   open CommRing (Ser R) using (Car as Series, one as 1#, add as _+_, mul as _*_, neg as -_)
 
   infixl 65 _⊕_ _+_
