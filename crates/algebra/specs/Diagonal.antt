@@ -5,7 +5,7 @@
 -- rectangle or a square. `diag` stays shut: `diag-zero` and `diag-first` are its clauses.
 -- Assumes nothing.
 use mathlib.Core.Path.{_≡_, refl, sym, _∙_, ap, ap₂}
-use Prim.Native.Nat.{ℕ, zero, suc, _+_, _-_, _<_, _≤_}
+use Prim.Native.Nat.{ℕ, zero, suc, _+_, _-_, _≤_}
 use native.Mathlib.Omega.{arith}
 use Rattle.algebra.specs.Ring
 use Rattle.algebra.specs.Ring.{CommRing}
