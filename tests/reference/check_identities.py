@@ -4,6 +4,7 @@ Sizes run over the ends of the tree's levels; moduli are prime, composite and
 powers of two. Every size meets at least one modulus of each kind.
 """
 
+from dataclasses import replace
 from fractions import Fraction
 from math import comb, factorial, gcd
 
@@ -99,8 +100,21 @@ def check_moments(tally, source, family, closing):
     tally.equal("moments", (case, other_b), moments, curves.moments(family, other_b))
 
 
+def check_free_first_c(tally, source, family):
+    """c_1 multiplies F_{-1} = 0, so another unit there changes no list."""
+    other = random_unit(source, family.modulus)
+    changed = replace(family, c=(other, *family.c[1:]))
+    curve = random_curve(source, family.modulus, family.n)
+    for operation in (curves.expand, curves.adjoint, curves.decompose):
+        case = (operation.__name__, family, curve, other)
+        tally.equal("free c_1", case, operation(family, curve), operation(changed, curve))
+    for operation in (curves.moments, curves.norms):
+        case = (operation.__name__, family, other)
+        tally.equal("free c_1", case, operation(family), operation(changed))
+
+
 def check_matrices(tally, family):
-    """F_{n-1}, F_n, G_{n-2} and G_{n-1} against the product of the rows' matrices."""
+    """F_n and G_{n-1} against the products of their rows' matrices."""
     n, modulus = family.n, family.modulus
     rows = family.rows()
     matrix = second_ways.matrix_of_rows(rows, modulus)
@@ -159,6 +173,8 @@ def check(tally, source):
             for _ in range(ROUNDS_SHORT if row_count < 9 else ROUNDS_LONG):
                 family = random_family(source, source.choice(moduli), row_count)
                 check_family(tally, source, family)
+                if row_count > 0:
+                    check_free_first_c(tally, source, family)
                 if row_count < 40:
                     check_matrices(tally, family)
                 if row_count < 9:
