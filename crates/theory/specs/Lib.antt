@@ -2,3 +2,5 @@
 pub mod Lists
 pub mod Remainder
 pub mod Inverse
+pub mod Verdicts
+pub mod Acceptance
