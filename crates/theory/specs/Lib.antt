@@ -1,6 +1,7 @@
 -- What is true of the definitions, for every modulus from 2 on and every convertible family. Assumes nothing.
 pub mod Lists
-pub mod Remainder
 pub mod Inverse
 pub mod Verdicts
 pub mod Acceptance
+pub mod Residue
+pub mod Curves
