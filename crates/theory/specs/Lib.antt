@@ -5,3 +5,4 @@ pub mod Verdicts
 pub mod Acceptance
 pub mod Residue
 pub mod Curves
+pub mod Euclid
