@@ -1,0 +1,4 @@
+-- What the contracts of the checks cite. Assumes nothing.
+pub mod Passes
+pub mod Groups
+pub mod Shape
