@@ -11,3 +11,6 @@ pub mod Unit
 pub mod Product
 pub mod Series
 pub mod Variable
+pub mod Order
+pub mod Quotient
+pub mod Map
