@@ -1,2 +1,3 @@
 -- What is true of the definitions, for every modulus from 2 on and every convertible family. Assumes nothing.
 pub mod Recurrence
+pub mod Reversal
