@@ -1,7 +1,9 @@
 -- What is true of the definitions, for every modulus from 2 on and every convertible family. Assumes nothing.
+pub mod Lists
+pub mod Recurrence
+pub mod Bridge
+pub mod Reversal
 pub mod Determinant
 pub mod Favard
 pub mod Form
 pub mod Orthogonal
-pub mod Recurrence
-pub mod Reversal
