@@ -7,3 +7,9 @@ pub mod Determinant
 pub mod Favard
 pub mod Form
 pub mod Orthogonal
+pub mod Inverse
+pub mod Verdicts
+pub mod Acceptance
+pub mod Residue
+pub mod Curves
+pub mod Euclid
