@@ -4,7 +4,7 @@
 -- Sums and units: Sum, Diagonal (the pairs i + j = n), Unit, Product.
 -- Power series: Series, Variable (constants and x), Order (series that vanish below x^k), Quotient.
 -- Between rings: Map, and Residues for the ring of numbers modulo m.
--- Every lemma takes its ring first. Assumes nothing.
+-- A lemma takes its ring first; those of Map take the map, and those of Residues the modulus. Assumes nothing.
 pub mod Ring
 pub mod Numeral
 pub mod Expression

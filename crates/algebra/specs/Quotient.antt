@@ -1,8 +1,8 @@
 -- The quotient of power series by a series whose constant coefficient is a unit.
 --   quotient R f u g : the series q with q·f ≡ g, by long division; u : the constant coefficient of f is a unit
 --   QuotientStep R f u g q k : q_k = (g_k - (q_0 f_k + .. + q_{k-1} f_1)) / f_0
--- Proves that q·f ≡ g holds below x^n just if every step below n does, that q is unique below x^n, and
--- that `quotient` is the only series with q·f ≡ g.
+-- Proves that q·f ≡ g holds below x^n just if every step below n does, that q is then unique below x^n, and
+-- that `quotient` is the only series with q·f ≡ g. The steps are how the coefficients are computed.
 -- Assumes nothing.
 use mathlib.Core.Path.{_≡_, sym, _∙_, ap, subst}
 use mathlib.Core.List.{[], _∷_}
@@ -81,6 +81,12 @@ module _ (R : CommRing) where
 
     pub quotient-is : (g q : Series) → q * f ≡ g → q ≡ quotient g
     quotient-is g q e = quotient-unique q (quotient g) (e ∙ sym (quotient-mul g))
+
+    pub quotient-step : (g : Series) (k : ℕ) → QuotientStep g (quotient g) k
+    quotient-step g k = steps-of-mul g (quotient g) (suc k) (λ n p. ap (λ s. co R s n) (quotient-mul g)) k (omega arith)
+
+    pub quotient-of-steps : (g q : Series) (n : ℕ) → ((k : ℕ) → k < n → QuotientStep g q k) → AgreeBelow R n q (quotient g)
+    quotient-of-steps g q n s = quotient-unique-below n q (quotient g) (λ k p. mul-of-steps g q n s k p ∙ ap (λ s. co R s k) (sym (quotient-mul g)))
 
     -- so f itself is a unit
     pub unit-series : IsUnit (Ser R) f

@@ -39,8 +39,8 @@ module _ (m : ℕ) (pos : 0 < m) where
   below-eq : {a b : Below} → a .0 ≡ b .0 → a ≡ b
   below-eq p = Σ-prop-path (λ x. le-prop) p
 
-  neg-whole : (a : Below) → a .0 + (m - a .0) ≡ m
-  neg-whole a = let h : a .0 < m = a .1 in omega arith
+  add-complement : (a : Below) → a .0 + (m - a .0) ≡ m
+  add-complement a = let h : a .0 < m = a .1 in omega arith
 
   pub Zmod : CommRing
   unfolding ℕ-discrete
@@ -55,7 +55,7 @@ module _ (m : ℕ) (pos : 0 < m) where
     add-assoc = λ a b c. below-eq (mod-add-mod (a .0 + b .0) m (c .0) ∙ ap (λ t. t % m) (add-assoc (a .0) (b .0) (c .0)) ∙ sym (add-mod-mod (a .0) (b .0 + c .0) m));
     add-comm = λ a b. below-eq (ap (λ t. t % m) (add-comm (a .0) (b .0)));
     add-zero = λ a. below-eq (add-mod-mod (a .0) 0 m ∙ ap (λ t. t % m) (add-zero (a .0)) ∙ mod-eq-of-lt (a .1));
-    add-neg = λ a. below-eq (add-mod-mod (a .0) (m - a .0) m ∙ ap (λ t. t % m) (neg-whole a) ∙ mod-self m ∙ sym (zero-mod m));
+    add-neg = λ a. below-eq (add-mod-mod (a .0) (m - a .0) m ∙ ap (λ t. t % m) (add-complement a) ∙ mod-self m ∙ sym (zero-mod m));
     mul-assoc = λ a b c. below-eq (mod-mul-mod (a .0 * b .0) (c .0) m ∙ ap (λ t. t % m) (mul-assoc (a .0) (b .0) (c .0)) ∙ sym (mul-mod-mod (a .0) (b .0 * c .0) m));
     mul-comm = λ a b. below-eq (ap (λ t. t % m) (mul-comm (a .0) (b .0)));
     mul-one = λ a. below-eq (mul-mod-mod (a .0) 1 m ∙ ap (λ t. t % m) (mul-one (a .0)) ∙ mod-eq-of-lt (a .1));

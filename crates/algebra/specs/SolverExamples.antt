@@ -17,7 +17,8 @@ use Rattle.algebra.specs.Variable.{C, X, C-mul}
 -- 'no proof of `Sides R ρ x y`': an atom of x or y is not in ρ, or stands past the twentieth place.
 -- 'stopped after 1000 lemmas had fitted': a large equation; `search reify depth 40 fits 5000` reads more.
 -- 'the left one begins `Remains 1 2 (0 ∷ 3 ∷ []) (term 1 0 [] ..)`': it was read and is no identity. Of x - y there is
--- left 1 - 2 times atom 0 times atom 3, and 1 - 0, and so on. For `linear` that is what the equations still have to give.
+-- left (1 - 2) times atom 0 times atom 3, and (1 - 0) times no atom, and so on; atoms count from 0. For `linear` it is
+-- what the equations still have to give. In another crate these names carry a mark, ‹out of reach ..›.
 
 -- Over any ring: the section opens the record under the operators' usual names.
 module _ (R : CommRing) where
