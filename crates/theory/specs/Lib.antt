@@ -4,3 +4,5 @@ pub mod Remainder
 pub mod Inverse
 pub mod Recurrence
 pub mod Bridge
+pub mod Combination
+pub mod RoundTrip
