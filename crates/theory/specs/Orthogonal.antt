@@ -1,6 +1,5 @@
 -- The polynomials F_0 .. F_r are orthogonal for the form of their moments, over any commutative ring.
---   Norms R r ρ d          d_i a_{i+1} = (-1)^i c_2 .. c_{i+1} for i ≤ r, which settles d_i where a_{i+1} is a unit
---   combination R ρ n u i  the coefficient of x^i in u_0 F_0 + .. + u_{n-1} F_{n-1}
+--   Norms R r ρ d   d_i a_{i+1} = (-1)^i c_2 .. c_{i+1} for i ≤ r, which settles d_i where a_{i+1} is a unit
 -- Proves for i, j ≤ r that F_i against F_j is 0 for i ≠ j and d_i for i = j, that each d_i is a unit, and the product law: the
 -- combinations of u and of v against each other are the sum of u_i v_i d_i. `form-row` is one row of it, F_i against the
 -- combination of v. The report, Section 3, equation (5) and F^t H F = D. Assumes nothing.
@@ -17,6 +16,7 @@ use Rattle.algebra.specs.Series.{Ser, gen, co, co-add, co-neg}
 use Rattle.algebra.specs.Solver.{linear, scaled, both, reify}
 use Rattle.algebra.specs.Sum.{sum, sum-cong, sum-cut, sum-single}
 use Rattle.algebra.specs.Unit.{IsUnit, unit-cancel, unit-one, unit-neg, unit-mul, unit-left}
+use Rattle.theory.specs.Combination.{combination}
 use Rattle.theory.specs.Determinant.{signedProduct}
 use Rattle.theory.specs.Favard.{Regular, Moments, remainder, pivot, remainder-vanishes, pivot-is}
 use Rattle.theory.specs.Form.{form, form-rows, form-sym, form-left, form-right}
@@ -29,9 +29,6 @@ module _ (R : CommRing) where
   infixl 70 _⊗_
   pub record Norms (r : ℕ) (ρ : Rows R) (d : ℕ → Car) : Type 0 where
     pub norm : (i : ℕ) → i ≤ r → d i ⊗ ρ .a i ≡ signedProduct R ρ i
-
-  abbrev pub combination : Rows R → ℕ → (ℕ → Car) → ℕ → Car
-  combination ρ n u i = sum R n (λ j. u j ⊗ term R ρ (suc j) i)
 
 -- ---- the norms
 module _ {R : CommRing} {r : ℕ} {ρ : Rows R} (reg : Regular R r ρ) where
