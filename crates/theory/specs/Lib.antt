@@ -15,3 +15,4 @@ pub mod Determinant
 pub mod Favard
 pub mod Form
 pub mod Orthogonal
+pub mod Quotient
