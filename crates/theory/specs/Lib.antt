@@ -16,3 +16,4 @@ pub mod Favard
 pub mod Form
 pub mod Orthogonal
 pub mod Quotient
+pub mod Moments
