@@ -17,3 +17,4 @@ pub mod Form
 pub mod Orthogonal
 pub mod Quotient
 pub mod Moments
+pub mod ProductLaw
