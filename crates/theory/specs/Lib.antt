@@ -18,3 +18,4 @@ pub mod Orthogonal
 pub mod Quotient
 pub mod Moments
 pub mod ProductLaw
+pub mod Gram
