@@ -6,3 +6,5 @@ pub mod Recurrence
 pub mod Bridge
 pub mod Combination
 pub mod RoundTrip
+pub mod Linear
+pub mod TransposedIdentity
