@@ -8,3 +8,4 @@ pub mod Combination
 pub mod RoundTrip
 pub mod Linear
 pub mod TransposedIdentity
+pub mod Operator
