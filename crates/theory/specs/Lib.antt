@@ -10,6 +10,9 @@ pub mod Curves
 pub mod Euclid
 pub mod Combination
 pub mod RoundTrip
+pub mod Linear
+pub mod TransposedIdentity
+pub mod Operator
 pub mod Reversal
 pub mod Determinant
 pub mod Favard
