@@ -8,3 +8,17 @@ pub mod Acceptance
 pub mod Residue
 pub mod Curves
 pub mod Euclid
+pub mod Combination
+pub mod RoundTrip
+pub mod Linear
+pub mod TransposedIdentity
+pub mod Operator
+pub mod Reversal
+pub mod Determinant
+pub mod Favard
+pub mod Form
+pub mod Orthogonal
+pub mod Quotient
+pub mod Moments
+pub mod ProductLaw
+pub mod Gram
