@@ -2,3 +2,4 @@
 pub mod Passes
 pub mod Groups
 pub mod Shape
+pub mod Calls
