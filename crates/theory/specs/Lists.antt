@@ -87,6 +87,10 @@ module _ (f : ℕ → ℕ) (old : List ℕ) where
       rw (drop-cons old k 0) (set-at (table k f) (getD old k 0) (drop (suc k) old) (f k) k (table-length k f))
       ∙ sym (append-assoc (table k f) (f k ∷ []) (drop (suc k) old)) ∙ rw (add-one, table-snoc)
 
+  -- the same of a list and a value that are given by equations, as a loop has them
+  pub filled-store : (k r : ℕ) (out : List ℕ) → k < length old → out ≡ filled f k old → r ≡ f k → set out k r ≡ filled f (k + 1) old
+  filled-store k r out h e q = rw (e, q) (filled-more k h)
+
   pub filled-all : (k : ℕ) → length old ≡ k → filled f k old ≡ table k f
   unfolding filled
   filled-all k e = rw (drop-of-length-le old {i = k} (omega arith)) (append-nil (table k f))
