@@ -1,8 +1,8 @@
 -- What a pass over a list answers: that every entry passes, or the first one that does not, with the reason.
 --   First bad xs i       entry i of xs is the first that is bad
 --   BelowAnswer m xs r   r says whether every entry is below m
---   FactorAnswer m xs r  r says whether every entry has an inverse, and of the first without one whether it is zero or
---                        which factor it shares with m
+--   Because m x reason   why x has no inverse: it is zero, or it shares a factor with m
+--   FactorAnswer m xs r  r says whether every entry has an inverse, and why the first without one has none
 --   Passed bad xs i      a pass in progress: none of the first i entries is bad
 -- Proved: how a pass begins, goes on and ends. Assumes nothing.
 use mathlib.Core.Path.{_≡_, subst, sym}
@@ -18,6 +18,7 @@ use Rattle.theory.specs.Euclid.{GreatestFactor}
 use Rattle.theory.specs.Verdicts.{some-false}
 use Rattle.checks.specs.declared.Entries.{Entries}
 use Rattle.checks.specs.declared.Factors.{Factors}
+use Rattle.checks.specs.declared.Reason.{Reason}
 
 pub record First (bad : ℕ → Bool) (xs : List ℕ) (i : ℕ) : Type 0 where
   pub place : i < length xs
@@ -25,17 +26,20 @@ pub record First (bad : ℕ → Bool) (xs : List ℕ) (i : ℕ) : Type 0 where
   pub before : (j : ℕ) → j < i → bad (getD xs j 0) ≡ false
 
 abbrev pub BelowAnswer : ℕ → List ℕ → Entries → Type 0
-BelowAnswer m xs Entries.Below = some (notBelow m) xs ≡ false
+BelowAnswer m xs Entries.Residues = some (notBelow m) xs ≡ false
 BelowAnswer m xs (Entries.NotBelow i) = First (notBelow m) xs i
 
 pub record SharedFactor (m x g : ℕ) : Type 0 where
   pub notZero : x ≡ 0 → ⊥
   pub factor : GreatestFactor g x m
 
+abbrev pub Because : ℕ → ℕ → Reason → Type 0
+Because m x Reason.Zero = x ≡ 0
+Because m x (Reason.Shared g) = SharedFactor m x g
+
 abbrev pub FactorAnswer : ℕ → List ℕ → Factors → Type 0
 FactorAnswer m xs Factors.Invertible = some (noInverse m) xs ≡ false
-FactorAnswer m xs (Factors.Zero i) = First (noInverse m) xs i × (getD xs i 0 ≡ 0)
-FactorAnswer m xs (Factors.Shared i g) = First (noInverse m) xs i × SharedFactor m (getD xs i 0) g
+FactorAnswer m xs (Factors.Without i reason) = First (noInverse m) xs i × Because m (getD xs i 0) reason
 
 pub record Passed (bad : ℕ → Bool) (xs : List ℕ) (i : ℕ) : Type 0 where
   pub within : i ≤ length xs

@@ -1,7 +1,7 @@
 -- The verdict of the tests on shape and lengths, at each place where a check answers.
 -- Proved: what the comparisons on the way to an answer say is the verdict of the tests. Assumes nothing.
 use mathlib.Core.Path.{_≡_, refl, sym, _∙_}
-use mathlib.Core.Bool.{Bool, true, false, _||_}
+use mathlib.Core.Bool.{true, false}
 use mathlib.Core.List.{List, [], _∷_}
 use Prim.Native.Nat.{ℕ, _<_, _≤_}
 use lib.Dec.{ltb, eqb}
@@ -10,6 +10,7 @@ use borrow.Author.Tests.{lt-ltb, le-ltb, eq-eqb, ne-eqb}
 use Rattle.definitions.specs.Family.{Family, family, greatestModulus, mostRows}
 use Rattle.definitions.specs.Refusals.{Verdict, finished, refused, verdict, differ, workLength, modulusTest, lengthsTest, rowCountTest, outputTest, workTest}
 use Rattle.theory.specs.Verdicts.{verdict-here, verdict-next}
+use Rattle.checks.specs.Either.{or-right, or-false}
 use Rattle.checks.specs.Groups.{shapeTests, lengthTests}
 
 differ-same : (x y : ℕ) → x ≡ y → differ x y ≡ false
@@ -19,14 +20,6 @@ differ-same x y e = rw (eq-eqb x y e)
 differ-other : (x y : ℕ) → (x ≡ y → ⊥) → differ x y ≡ true
 unfolding differ
 differ-other x y n = rw (ne-eqb x y n)
-
-or-right : (s t : Bool) → t ≡ true → (s || t) ≡ true
-or-right true t e = refl
-or-right false t e = e
-
-or-false : (s t : Bool) → s ≡ false → t ≡ false → (s || t) ≡ false
-or-false true t p q = p
-or-false false t p q = q
 
 -- ---- 3, 4, 5
 module _ (m : ℕ) (a b c : List ℕ) where

@@ -10,19 +10,25 @@ ghost use Rattle.definitions.specs.Refusals.{verdict, outputTest, workTest, cur
 ghost use Rattle.checks.specs.Passes.{BelowAnswer, FactorAnswer};
 ghost use Rattle.checks.specs.Groups.{shapeTests, rowTests, lengthTests};
 use definitions::Answer;
+use residue::Inversion;
+use residue::invert;
 
 // Whether every entry of a list is below the modulus: if not, the place of the first that is not.
 pub enum Entries {
-    Below,
+    Residues,
     NotBelow(usize),
 }
 
-// Whether every entry of a list has an inverse: if not, the place of the first without one, and whether it is zero or shares a
-// factor with the modulus, and which.
+// Why a number has no inverse: it is zero, or it shares this factor with the modulus.
+pub enum Reason {
+    Zero,
+    Shared(u32),
+}
+
+// Whether every entry of a list has an inverse: if not, the place of the first without one, and the reason.
 pub enum Factors {
     Invertible,
-    Zero(usize),
-    Shared(usize, u32),
+    Without(usize, Reason),
 }
 
 pub fn entries_below(m: u32, list: &[u32]) -> Entries
@@ -35,7 +41,26 @@ pub fn entries_below(m: u32, list: &[u32]) -> Entries
         }
         i += 1;
     }
-    Entries::Below
+    Entries::Residues
+}
+
+pub fn invertible(m: u32, list: &[u32]) -> Factors
+    requires { ⌜ 0 < m ⌝ }
+    ensures { λ r. ⌜ FactorAnswer m (now (list .entry)) r ⌝ }
+{
+    let mut i: usize = 0;
+    while i < list.len() {
+        let x = list[i];
+        let inversion = invert(m, x);
+        if let Inversion::Absent(g) = inversion {
+            if x == 0 {
+                return Factors::Without(i, Reason::Zero);
+            }
+            return Factors::Without(i, Reason::Shared(g));
+        }
+        i += 1;
+    }
+    Factors::Invertible
 }
 
 // 3, 4 and 5: the modulus, the lengths of the rows' lists, the number of rows.
@@ -87,5 +112,28 @@ pub fn work_length(work: usize) -> Answer
     if work < 16384 {
         return Answer::Refused(8);
     }
+    Answer::Finished
+}
+
+// 9, 10 and 11: the entries of the rows, then the inverses of the a, then of the c.
+pub fn family_rows(m: u32, a: &[u32], b: &[u32], c: &[u32]) -> Answer
+    requires { ⌜ 0 < m ⌝ }
+    ensures { λ r. ⌜ answered r ≡ verdict (rowTests (family m (now (a .entry)) (now (b .entry)) (now (c .entry)))) [] ⌝ }
+{
+    let Entries::Residues = entries_below(m, a) else {
+        return Answer::Refused(9);
+    };
+    let Entries::Residues = entries_below(m, b) else {
+        return Answer::Refused(9);
+    };
+    let Entries::Residues = entries_below(m, c) else {
+        return Answer::Refused(9);
+    };
+    let Factors::Invertible = invertible(m, a) else {
+        return Answer::Refused(10);
+    };
+    let Factors::Invertible = invertible(m, c) else {
+        return Answer::Refused(11);
+    };
     Answer::Finished
 }

@@ -4,7 +4,7 @@
 --   Inverted m x r       what the answer r says of x and m: the one or the other
 -- Proved: this settles the answer; and which of the two it is says whether `definitions`' test for an inverse holds.
 -- Assumes nothing.
-use mathlib.Core.Path.{_≡_, sym, _∙_, ap}
+use mathlib.Core.Path.{_≡_, sym, _∙_, ap, subst}
 use mathlib.Core.Bool.{true, false}
 use Prim.Native.Nat.{ℕ, _*_, _%_, _<_}
 use native.Mathlib.Omega.{arith}
@@ -27,6 +27,14 @@ pub record SharesFactor (m x g : ℕ) : Type 0 where
 abbrev pub Inverted : ℕ → ℕ → Inversion → Type 0
 Inverted m x (Inversion.Found y) = IsInverse m x y
 Inverted m x (Inversion.Absent g) = SharesFactor m x g
+
+-- what an answer says, once its case is known
+module _ (m x : ℕ) (r : Inversion) where
+  pub inverted-found : (y : ℕ) → r ≡ Inversion.Found y → Inverted m x r → IsInverse m x y
+  inverted-found y e h = subst (Inverted m x) e h
+
+  pub inverted-absent : (g : ℕ) → r ≡ Inversion.Absent g → Inverted m x r → SharesFactor m x g
+  inverted-absent g e h = subst (Inverted m x) e h
 
 pub inverted-unique : (m x : ℕ) (r r′ : Inversion) → Inverted m x r → Inverted m x r′ → r ≡ r′
 inverted-unique m x (Inversion.Found y) (Inversion.Found y′) p q = ap Inversion.Found (p .value ∙ sym (q .value))
