@@ -1,4 +1,5 @@
 -- Lists that are written entry by entry, and lists that a loop fills from the front.
+--   Each P xs d           every entry of xs has P; d is the default by which entries are read
 --   filled f k old        old with f 0, .., f (k - 1) in the place of its first k entries
 --   Filling f k old out   the invariant of a loop that fills a list, at the entry k: out is filled, and as long as old
 -- Proved: length and entries of a table, of a list with one entry more at its end, and of a filled list; a table is settled by its
@@ -13,6 +14,9 @@ use native.Mathlib.Omega.{arith}
 use lib.ListN.{length, getD, drop, set, length-append, length-drop, length-set, drop-of-length-le, List·getD-append, List·getD-eq-default}
 use lib.Seq.{drop-cons, getD-append-add, getD-at, getD-drop, set-at}
 use Rattle.definitions.specs.Number.{table}
+
+abbrev pub Each : (ℕ → Type 0) → List ℕ → ℕ → Type 0
+Each P xs d = (i : ℕ) → i < length xs → P (getD xs i d)
 
 -- below its length an entry does not depend on the default
 pub getD-default : (xs : List ℕ) (i d e : ℕ) → i < length xs → getD xs i d ≡ getD xs i e
