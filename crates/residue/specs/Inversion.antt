@@ -42,8 +42,14 @@ inverted-unique m x (Inversion.Found y) (Inversion.Absent g) p q = absurd (q .no
 inverted-unique m x (Inversion.Absent g) (Inversion.Found y) p q = absurd (p .none y (q .below) (q .product))
 inverted-unique m x (Inversion.Absent g) (Inversion.Absent g′) p q = ap Inversion.Absent (greatest-factor-unique (p .factor) (q .factor))
 
--- the answer against the test of the refusals
+-- an answer that is matched on, and the answer against the test of the refusals
 module _ (m x : ℕ) where
+  pub inverted-found : {r : Inversion} {y : ℕ} → Inverted m x r → r ≡ Inversion.Found y → IsInverse m x y
+  inverted-found answer e = subst (Inverted m x) e answer
+
+  pub inverted-absent : {r : Inversion} {g : ℕ} → Inverted m x r → r ≡ Inversion.Absent g → SharesFactor m x g
+  inverted-absent answer e = subst (Inverted m x) e answer
+
   pub found-passes : (y : ℕ) → IsInverse m x y → noInverse m x ≡ false
   unfolding HasInverse
   found-passes y found =

@@ -17,7 +17,7 @@ use Rattle.algebra.specs.Sum as Sum
 use Rattle.algebra.specs.Unit.{IsUnit}
 use Rattle.definitions.specs.Number.{sum, negative, HasInverse, inverse}
 use Rattle.theory.specs.Inverse.{inverse-right}
-use Rattle.theory.specs.Verdicts.{Each}
+use Rattle.theory.specs.Lists.{Each}
 
 -- the negative depends on the remainder only
 pub negative-mod : (m x : ℕ) → negative m (x % m) ≡ negative m x

@@ -1,6 +1,5 @@
 -- Verdicts, and each test of the refusals as a plain fact.
---   None ts       no test of ts holds
---   Each P xs d   every entry of xs has P; d is the default by which entries are read
+--   None ts   no test of ts holds
 -- Proved: a verdict is finished if and only if no test holds, and a verdict is settled test by test; of each test, that it does
 -- not hold is a plain fact about lengths, entries or inverses, and the fact is that it does not hold.
 -- Assumes nothing.
@@ -18,6 +17,7 @@ use Rattle.definitions.specs.Number.{HasInverse, inverse}
 use Rattle.definitions.specs.Family.{Family, Modulus, mostRows, rows, size}
 use Rattle.definitions.specs.Refusals.{Test, finished, refused, verdict, some, differ, notBelow, noInverse, workLength, modulusTest, lengthsTest, rowCountTest, curveLengthTest, outputTest, workTest, entriesTest, aInverseTest, cInverseTest, curveEntriesTest, numberTest, numberInverseTest}
 use Rattle.theory.specs.Inverse.{inverse-right}
+use Rattle.theory.specs.Lists.{Each}
 
 abbrev pub None : List Test → Type 0
 None [] = Unit {0}
@@ -89,9 +89,6 @@ noInverse-true m x h = (
 )
 
 -- the tests of every entry of a list
-abbrev pub Each : (ℕ → Type 0) → List ℕ → ℕ → Type 0
-Each P xs d = (i : ℕ) → i < length xs → P (getD xs i d)
-
 some-here : (passes : ℕ → Bool) (x : ℕ) (xs : List ℕ) → passes x ≡ true → some passes (x ∷ xs) ≡ true
 unfolding some
 some-here passes x xs e = rw (e, some)
