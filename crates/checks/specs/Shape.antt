@@ -7,9 +7,12 @@ use Prim.Native.Nat.{ℕ, _<_, _≤_}
 use lib.Dec.{ltb, eqb}
 use lib.ListN.{length}
 use borrow.Author.Tests.{lt-ltb, le-ltb, eq-eqb, ne-eqb}
+use Rattle.definitions.specs.Answers.{answered}
+use Rattle.definitions.specs.declared.Answer.{Answer}
 use Rattle.definitions.specs.Family.{Family, family, greatestModulus, mostRows}
 use Rattle.definitions.specs.Refusals.{Verdict, finished, refused, verdict, differ, workLength, modulusTest, lengthsTest, rowCountTest, outputTest, workTest}
 use Rattle.theory.specs.Verdicts.{verdict-here, verdict-next}
+use Rattle.checks.specs.Calls.{check-refuses, check-passes}
 use Rattle.checks.specs.Either.{or-right, or-false}
 use Rattle.checks.specs.Groups.{shapeTests, lengthTests}
 
@@ -21,26 +24,36 @@ differ-other : (x y : ℕ) → (x ≡ y → ⊥) → differ x y ≡ true
 unfolding differ
 differ-other x y n = rw (ne-eqb x y n)
 
--- ---- 3, 4, 5
-module _ (m : ℕ) (a b c : List ℕ) where
+-- ---- 3
+module _ (m : ℕ) where
+  pub modulus-small : m < 2 → refused 3 ≡ verdict (modulusTest m ∷ []) []
+  unfolding modulusTest
+  modulus-small h = sym (verdict-here (modulusTest m) [] [] (rw (lt-ltb m 2 h)))
+
+  pub modulus-large : greatestModulus < m → refused 3 ≡ verdict (modulusTest m ∷ []) []
+  unfolding modulusTest
+  modulus-large h = sym (verdict-here (modulusTest m) [] [] (or-right (ltb m 2) (ltb greatestModulus m) (lt-ltb greatestModulus m h)))
+
+  pub modulus-fits : 2 ≤ m → m ≤ greatestModulus → finished [] ≡ verdict (modulusTest m ∷ []) []
+  unfolding modulusTest verdict
+  modulus-fits low high = sym (verdict-next (modulusTest m) [] [] (or-false (ltb m 2) (ltb greatestModulus m) (le-ltb m 2 low) (le-ltb greatestModulus m high)))
+
+-- ---- 3, 4, 5, of which the first is a check of its own
+module _ (m : ℕ) (a b c : List ℕ) (range : Answer) (e : answered range ≡ verdict (modulusTest m ∷ []) []) where
   abbrev f : Family
   f = family m a b c
 
   abbrev shape : Verdict
   shape = verdict (shapeTests f) []
 
-  pub modulus-small : m < 2 → refused 3 ≡ shape
-  unfolding shapeTests modulusTest
-  modulus-small h = sym (verdict-here (modulusTest m) (lengthsTest f ∷ rowCountTest f ∷ []) [] (rw (lt-ltb m 2 h)))
+  pub range-refuses : (k : ℕ) → range ≡ Answer.Refused k → answered range ≡ shape
+  unfolding shapeTests
+  range-refuses k q = check-refuses range (modulusTest m ∷ []) e k (lengthsTest f ∷ rowCountTest f ∷ []) q
 
-  pub modulus-large : greatestModulus < m → refused 3 ≡ shape
-  unfolding shapeTests modulusTest
-  modulus-large h = sym (verdict-here (modulusTest m) (lengthsTest f ∷ rowCountTest f ∷ []) [] (or-right (ltb m 2) (ltb greatestModulus m) (lt-ltb greatestModulus m h)))
-
-  module _ (low : 2 ≤ m) (high : m ≤ greatestModulus) where
+  module _ (q : range ≡ Answer.Finished) where
     past-modulus : shape ≡ verdict (lengthsTest f ∷ rowCountTest f ∷ []) []
-    unfolding shapeTests modulusTest
-    past-modulus = verdict-next (modulusTest m) (lengthsTest f ∷ rowCountTest f ∷ []) [] (or-false (ltb m 2) (ltb greatestModulus m) (le-ltb m 2 low) (le-ltb greatestModulus m high))
+    unfolding shapeTests
+    past-modulus = sym (check-passes range (modulusTest m ∷ []) e (lengthsTest f ∷ rowCountTest f ∷ []) q)
 
     pub b-uneven : (length b ≡ length a → ⊥) → refused 4 ≡ shape
     unfolding lengthsTest

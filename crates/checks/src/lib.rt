@@ -6,7 +6,7 @@ ghost use Prim.Native.Nat.{ℕ, _<_};
 ghost use lib.ListN.{length};
 ghost use Rattle.definitions.specs.Answers.{answered};
 ghost use Rattle.definitions.specs.Family.{family};
-ghost use Rattle.definitions.specs.Refusals.{verdict, outputTest, workTest, curveEntriesTest};
+ghost use Rattle.definitions.specs.Refusals.{verdict, modulusTest, outputTest, workTest};
 ghost use Rattle.checks.specs.Passes.{BelowAnswer, FactorAnswer};
 ghost use Rattle.checks.specs.Groups.{shapeTests, rowTests, lengthTests};
 use definitions::Answer;
@@ -63,9 +63,9 @@ pub fn invertible(m: u32, list: &[u32]) -> Factors
     Factors::Invertible
 }
 
-// 3, 4 and 5: the modulus, the lengths of the rows' lists, the number of rows.
-pub fn family_shape(m: u32, a: &[u32], b: &[u32], c: &[u32]) -> Answer
-    ensures { λ r. ⌜ answered r ≡ verdict (shapeTests (family m (now (a .entry)) (now (b .entry)) (now (c .entry)))) [] ⌝ }
+// 3: the range of the modulus.
+pub fn modulus(m: u32) -> Answer
+    ensures { λ r. ⌜ answered r ≡ verdict (modulusTest m ∷ []) [] ⌝ }
 {
     if m < 2 {
         return Answer::Refused(3);
@@ -73,6 +73,17 @@ pub fn family_shape(m: u32, a: &[u32], b: &[u32], c: &[u32]) -> Answer
     if 2147483647 < m {
         return Answer::Refused(3);
     }
+    Answer::Finished
+}
+
+// 3, 4 and 5: the modulus, the lengths of the rows' lists, the number of rows.
+pub fn family_shape(m: u32, a: &[u32], b: &[u32], c: &[u32]) -> Answer
+    ensures { λ r. ⌜ answered r ≡ verdict (shapeTests (family m (now (a .entry)) (now (b .entry)) (now (c .entry)))) [] ⌝ }
+{
+    let range = modulus(m);
+    let Answer::Finished = range else {
+        return range;
+    };
     if b.len() != a.len() {
         return Answer::Refused(4);
     }

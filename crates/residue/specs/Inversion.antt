@@ -28,14 +28,6 @@ abbrev pub Inverted : ℕ → ℕ → Inversion → Type 0
 Inverted m x (Inversion.Found y) = IsInverse m x y
 Inverted m x (Inversion.Absent g) = SharesFactor m x g
 
--- what an answer says, once its case is known
-module _ (m x : ℕ) (r : Inversion) where
-  pub inverted-found : (y : ℕ) → r ≡ Inversion.Found y → Inverted m x r → IsInverse m x y
-  inverted-found y e h = subst (Inverted m x) e h
-
-  pub inverted-absent : (g : ℕ) → r ≡ Inversion.Absent g → Inverted m x r → SharesFactor m x g
-  inverted-absent g e h = subst (Inverted m x) e h
-
 pub inverted-unique : (m x : ℕ) (r r′ : Inversion) → Inverted m x r → Inverted m x r′ → r ≡ r′
 inverted-unique m x (Inversion.Found y) (Inversion.Found y′) p q = ap Inversion.Found (p .value ∙ sym (q .value))
 inverted-unique m x (Inversion.Found y) (Inversion.Absent g) p q = absurd (q .none y (p .below) (p .product))

@@ -32,11 +32,11 @@ enum-known-inversion : tie.Need-enum-known-inversion Inv-loop μ-loop
 enum-known-inversion c = search needs
 
 returns : tie.Need-returns Inv-loop μ-loop
-returns c = (passed-first _ _ _ (c .before .before .before .before .before .before .before .loop .inv) (c .before .before .before .before .before .before .loop-test .taken) (absent-fails _ _ _ (c .before .before .before .before .before .before .before .before .before .pre) (inverted-absent _ _ _ _ (c .before .before .inversion .given .1) (c .before .before .before .before .invert .ensures))), c .if1 .taken)
+returns c = (passed-first _ _ _ (c .before .before .before .before .before .before .before .loop .inv) (c .before .before .before .before .before .before .loop-test .taken) (absent-fails _ _ _ (c .before .before .before .before .before .before .before .before .before .pre) (inverted-absent _ _ (c .before .before .before .before .invert .ensures) (c .before .before .inversion .given .1))), c .if1 .taken)
 
 returns-2 : tie.Need-returns-2 Inv-loop μ-loop
 returns-2 c =
-    let absent = inverted-absent _ _ _ _ (c .before .before .inversion .given .1) (c .before .before .before .before .invert .ensures) in
+    let absent = inverted-absent _ _ (c .before .before .before .before .invert .ensures) (c .before .before .inversion .given .1) in
     (passed-first _ _ _ (c .before .before .before .before .before .before .before .loop .inv) (c .before .before .before .before .before .before .loop-test .taken) (absent-fails _ _ _ (c .before .before .before .before .before .before .before .before .before .pre) absent), record { notZero = c .if1 .left; factor = absent .factor })
 
 enum-told : tie.Need-enum-told Inv-loop μ-loop
@@ -49,7 +49,7 @@ loop-less : tie.Need-loop-less Inv-loop μ-loop
 loop-less c = omega arith
 
 loop-again : tie.Need-loop-again Inv-loop μ-loop
-loop-again c = passed-next _ _ _ (c .before .before .before .before .before .loop .inv) (c .before .before .before .before .loop-test .taken) (found-passes _ _ _ (inverted-found _ _ _ _ (c .enum-told .given .1) (c .before .before .invert .ensures)))
+loop-again c = passed-next _ _ _ (c .before .before .before .before .before .loop .inv) (c .before .before .before .before .loop-test .taken) (found-passes _ _ _ (inverted-found _ _ (c .before .before .invert .ensures) (c .enum-told .given .1)))
 
 returns-3 : tie.Need-returns-3 Inv-loop μ-loop
 returns-3 c = passed-ends _ _ _ (c .before .loop .inv) (c .loop-test .left)
