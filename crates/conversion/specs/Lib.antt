@@ -1,0 +1,2 @@
+-- How the tests that a call makes settle its answer. Assumes nothing.
+pub mod Inverting
