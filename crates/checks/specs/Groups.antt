@@ -20,20 +20,20 @@ rowTests f = entriesTest f ∷ aInverseTest f ∷ cInverseTest f ∷ []
 unfoldable pub lengthTests : ℕ → ℕ → ℕ → List Test
 lengthTests n curve output = record { number = 6; holds = differ curve n } ∷ outputTest n output ∷ []
 
-pub plain-groups : (f : Family) (u : List ℕ) (output : ℕ) → plainTests f u output ≡ shapeTests f ++ lengthTests (size f) (length u) output ++ rowTests f ++ curveEntriesTest f u ∷ []
+pub plain-groups : (f : Family) (u : List ℕ) (output : ℕ) → plainTests f u output ≡ shapeTests f ++ (lengthTests (size f) (length u) output ++ (rowTests f ++ curveEntriesTest f u ∷ []))
 unfolding plainTests shapeTests lengthTests rowTests curveLengthTest
 plain-groups f u output = refl
 
 pub tree-groups : (f : Family) (u : List ℕ) (output work : ℕ)
-    → treeTests f u output work ≡ shapeTests f ++ lengthTests (size f) (length u) output ++ (workTest work ∷ []) ++ rowTests f ++ curveEntriesTest f u ∷ []
+    → treeTests f u output work ≡ shapeTests f ++ (lengthTests (size f) (length u) output ++ ((workTest work ∷ []) ++ (rowTests f ++ curveEntriesTest f u ∷ [])))
 unfolding treeTests shapeTests lengthTests rowTests curveLengthTest
 tree-groups f u output work = refl
 
 pub moments-groups : (f : Family) (output work : ℕ)
-    → momentsTests f output work ≡ shapeTests f ++ (outputTest (momentCount f) output ∷ []) ++ (workTest work ∷ []) ++ rowTests f
+    → momentsTests f output work ≡ shapeTests f ++ ((outputTest (momentCount f) output ∷ []) ++ ((workTest work ∷ []) ++ rowTests f))
 unfolding momentsTests shapeTests rowTests
 moments-groups f output work = refl
 
-pub norms-groups : (f : Family) (output : ℕ) → normsTests f output ≡ shapeTests f ++ (outputTest (size f) output ∷ []) ++ rowTests f
+pub norms-groups : (f : Family) (output : ℕ) → normsTests f output ≡ shapeTests f ++ ((outputTest (size f) output ∷ []) ++ rowTests f)
 unfolding normsTests shapeTests rowTests
 norms-groups f output = refl
