@@ -2,3 +2,7 @@
 pub mod Lists
 pub mod Recurrence
 pub mod Bridge
+pub mod Remainder
+pub mod Inverse
+pub mod Verdicts
+pub mod Acceptance
