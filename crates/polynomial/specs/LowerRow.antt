@@ -1,0 +1,74 @@
+-- A step of Expand downwards.
+--   lowered    the entries of x + (a X + b) current + c older
+--   Lowering   the step in progress: the first i entries of both lists are done
+-- Proved: how the step starts, what it sums, how it goes on and how it ends.
+-- Assumes nothing.
+use mathlib.Core.Path.{_≡_, refl, sym, _∙_, ap}
+use mathlib.Core.List.{List}
+use Prim.Native.Nat.{ℕ, zero, suc, _+_, _*_, _%_, _≤_, _<_}
+use native.Mathlib.Numerals.{add-one}
+use native.Mathlib.Omega.{arith}
+use lib.ListN.{getD, set}
+use Rattle.definitions.specs.Family.{timesX}
+use Rattle.theory.specs.Lists.{filled}
+use Rattle.polynomial.specs.Filling.{Filling, filling-starts, filling-ahead, filling-next, filling-ends}
+use Rattle.polynomial.specs.Row.{Summands, RowInput, constant, constant-below}
+
+unfoldable pub lowered : ℕ → ℕ → ℕ → ℕ → ℕ → List ℕ → List ℕ → ℕ → ℕ
+lowered m x a b c current older i = (constant x i + a * timesX (λ j. getD current j 0) i + b * getD current i 0 + c * getD older i 0) % m
+
+module _ (m x a b c : ℕ) (current₀ older₀ : List ℕ) (count : ℕ) where
+  pub record Lowering (current older : List ℕ) (carried previous i : ℕ) : Type 0 where
+    pub currentFilling : Filling (lowered m x a b c current₀ older₀) current₀ count current i
+    pub olderFilling : Filling (λ j. getD current₀ j 0) older₀ count older i
+    pub carriedIs : carried ≡ constant x i
+    pub previousIs : previous ≡ timesX (λ j. getD current₀ j 0) i
+
+  module _ (input : RowInput m x a b c current₀ older₀ count) where
+    pub lowering-starts : Lowering current₀ older₀ x 0 0
+    unfolding constant timesX
+    lowering-starts = record {
+      currentFilling = filling-starts _ current₀ count (input .currentLong);
+      olderFilling = filling-starts _ older₀ count (input .olderLong);
+      carriedIs = refl;
+      previousIs = refl;
+    }
+
+    module _ (current older : List ℕ) (carried previous i : ℕ) (l : i < count) (h : Lowering current older carried previous i) where
+      here-is : getD current i 0 ≡ getD current₀ i 0
+      here-is = filling-ahead _ current₀ count current i (h .currentFilling) i 0 (omega arith)
+
+      old-is : getD older i 0 ≡ getD older₀ i 0
+      old-is = filling-ahead _ older₀ count older i (h .olderFilling) i 0 (omega arith)
+
+      previous-below : (i : ℕ) → timesX (λ j. getD current₀ j 0) i < m
+      unfolding timesX
+      previous-below zero = let p : x < m = input .xBelow in omega arith
+      previous-below (suc i) = input .currentBelow i
+
+      pub lowering-summands : Summands m carried a previous b (getD current i 0) c (getD older i 0)
+      lowering-summands = record {
+        most = input .most;
+        sBelow = rw (h .carriedIs) (constant-below m x i (input .xBelow));
+        aBelow = input .aBelow;
+        pBelow = rw (h .previousIs) (previous-below i);
+        bBelow = input .bBelow;
+        qBelow = rw here-is (input .currentBelow i);
+        cBelow = input .cBelow;
+        rBelow = rw old-is (input .olderBelow i);
+      }
+
+      pub lowering-next : (v : ℕ) → v ≡ (carried + a * previous + b * getD current i 0 + c * getD older i 0) % m
+          → Lowering (set current i v) (set older i (getD current i 0)) 0 (getD current i 0) (i + 1)
+      unfolding lowered constant timesX
+      lowering-next v e = record {
+        currentFilling = filling-next _ current₀ count current i (h .currentFilling) v l (e ∙ rw (here-is, old-is, h .carriedIs, h .previousIs));
+        olderFilling = filling-next _ older₀ count older i (h .olderFilling) _ l here-is;
+        carriedIs = sym (ap (constant x) (add-one i));
+        previousIs = here-is ∙ sym (ap (timesX (λ j. getD current₀ j 0)) (add-one i));
+      }
+
+  pub lowering-ends : (current older : List ℕ) (carried previous i : ℕ) → count ≤ i → Lowering current older carried previous i
+      → (current ≡ filled (lowered m x a b c current₀ older₀) count current₀) × (older ≡ filled (λ j. getD current₀ j 0) count older₀)
+  lowering-ends current older carried previous i l h =
+      (filling-ends _ current₀ count current i (h .currentFilling) l, filling-ends _ older₀ count older i (h .olderFilling) l)
