@@ -2,7 +2,9 @@
 pub mod Lists
 pub mod Recurrence
 pub mod Bridge
-pub mod Remainder
 pub mod Inverse
 pub mod Verdicts
 pub mod Acceptance
+pub mod Residue
+pub mod Curves
+pub mod Euclid
