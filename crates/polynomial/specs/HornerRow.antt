@@ -12,8 +12,7 @@ use native.Mathlib.Numerals.{add-one}
 use native.Mathlib.Omega.{arith}
 use lib.ListN.{length, getD, set}
 use Rattle.definitions.specs.Family.{greatestModulus, timesX}
-use Rattle.theory.specs.Lists.{filled}
-use Rattle.polynomial.specs.Filling.{Filling, filling-starts, filling-ahead, filling-next, filling-ends}
+use Rattle.theory.specs.Lists.{filled, Filling, filling-start, filling-next, filling-stop, filling-from}
 use Rattle.polynomial.specs.Row.{Below, Summands, constant, constant-below}
 
 pub record HornerInput (m p : ℕ) (rise stay fall current : List ℕ) (count : ℕ) : Type 0 where
@@ -33,7 +32,8 @@ multiplied m p rise stay fall current i =
 
 module _ (m p : ℕ) (rise stay fall current₀ : List ℕ) (count : ℕ) where
   pub record Multiplying (current : List ℕ) (carried lead previous i : ℕ) : Type 0 where
-    pub filling : Filling (multiplied m p rise stay fall current₀) current₀ count current i
+    pub reached : i ≤ count
+    pub filling : Filling (multiplied m p rise stay fall current₀) i current₀ current
     pub carriedIs : carried ≡ constant p i
     pub behindIs : lead * previous ≡ timesX (λ j. getD rise j 0 * getD current₀ j 0) i
     pub leadBelow : lead < m
@@ -45,7 +45,8 @@ module _ (m p : ℕ) (rise stay fall current₀ : List ℕ) (count : ℕ) where
     multiplying-starts =
         let b : p < m = input .pBelow in
         record {
-          filling = filling-starts _ current₀ count (input .currentLong);
+          reached = omega arith;
+          filling = filling-start;
           carriedIs = refl;
           behindIs = refl;
           leadBelow = omega arith;
@@ -54,10 +55,10 @@ module _ (m p : ℕ) (rise stay fall current₀ : List ℕ) (count : ℕ) where
 
     module _ (current : List ℕ) (carried lead previous i : ℕ) (l : i < count) (h : Multiplying current carried lead previous i) where
       here-is : getD current i 0 ≡ getD current₀ i 0
-      here-is = filling-ahead _ current₀ count current i (h .filling) i 0 (omega arith)
+      here-is = filling-from (h .filling) i 0 (omega arith)
 
       next-is : getD current (i + 1) 0 ≡ getD current₀ (suc i) 0
-      next-is = filling-ahead _ current₀ count current i (h .filling) (i + 1) 0 (omega arith) ∙ ap (λ j. getD current₀ j 0) (add-one i)
+      next-is = filling-from (h .filling) (i + 1) 0 (omega arith) ∙ ap (λ j. getD current₀ j 0) (add-one i)
 
       module _ (f n : ℕ) (ef : f ≡ getD fall (i + 1) 0) (en : n ≡ getD current (i + 1) 0) where
         pub multiplying-summands : Summands m carried lead previous (getD stay i 0) (getD current i 0) f n
@@ -76,7 +77,8 @@ module _ (m p : ℕ) (rise stay fall current₀ : List ℕ) (count : ℕ) where
             → Multiplying (set current i v) 0 (getD rise i 0) (getD current i 0) (i + 1)
         unfolding multiplied constant timesX
         multiplying-next v e = record {
-          filling = filling-next _ current₀ count current i (h .filling) v l (e ∙ rw (h .carriedIs, h .behindIs, ef, en, next-is, here-is, add-one));
+          reached = omega arith;
+          filling = filling-next (h .filling) (omega (arith, input .currentLong)) (e ∙ rw (h .carriedIs, h .behindIs, ef, en, next-is, here-is, add-one));
           carriedIs = sym (ap (constant p) (add-one i));
           behindIs = rw here-is (sym (ap (timesX (λ j. getD rise j 0 * getD current₀ j 0)) (add-one i)));
           leadBelow = input .riseBelow i;
@@ -85,4 +87,4 @@ module _ (m p : ℕ) (rise stay fall current₀ : List ℕ) (count : ℕ) where
 
   pub multiplying-ends : (current : List ℕ) (carried lead previous i : ℕ) → count ≤ i → Multiplying current carried lead previous i
       → current ≡ filled (multiplied m p rise stay fall current₀) count current₀
-  multiplying-ends current carried lead previous i l h = filling-ends _ current₀ count current i (h .filling) l
+  multiplying-ends current carried lead previous i l h = filling-stop (h .filling) count (omega arith)

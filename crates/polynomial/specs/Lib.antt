@@ -1,5 +1,4 @@
 -- What the contracts of the row steps cite, and the laws of their loops. Assumes nothing.
-pub mod Filling
 pub mod Row
 pub mod LowerRow
 pub mod RaiseRow

@@ -10,8 +10,7 @@ use native.Mathlib.Numerals.{add-one}
 use native.Mathlib.Omega.{arith}
 use lib.ListN.{getD, set}
 use Rattle.definitions.specs.Family.{timesX}
-use Rattle.theory.specs.Lists.{filled}
-use Rattle.polynomial.specs.Filling.{Filling, filling-starts, filling-ahead, filling-next, filling-ends}
+use Rattle.theory.specs.Lists.{filled, Filling, filling-start, filling-next, filling-stop, filling-from}
 use Rattle.polynomial.specs.Row.{Summands, RowInput, constant, constant-below}
 
 unfoldable pub lowered : ℕ → ℕ → ℕ → ℕ → ℕ → List ℕ → List ℕ → ℕ → ℕ
@@ -19,8 +18,9 @@ lowered m x a b c current older i = (constant x i + a * timesX (λ j. getD curre
 
 module _ (m x a b c : ℕ) (current₀ older₀ : List ℕ) (count : ℕ) where
   pub record Lowering (current older : List ℕ) (carried previous i : ℕ) : Type 0 where
-    pub currentFilling : Filling (lowered m x a b c current₀ older₀) current₀ count current i
-    pub olderFilling : Filling (λ j. getD current₀ j 0) older₀ count older i
+    pub reached : i ≤ count
+    pub currentFilling : Filling (lowered m x a b c current₀ older₀) i current₀ current
+    pub olderFilling : Filling (λ j. getD current₀ j 0) i older₀ older
     pub carriedIs : carried ≡ constant x i
     pub previousIs : previous ≡ timesX (λ j. getD current₀ j 0) i
 
@@ -28,18 +28,19 @@ module _ (m x a b c : ℕ) (current₀ older₀ : List ℕ) (count : ℕ) where
     pub lowering-starts : Lowering current₀ older₀ x 0 0
     unfolding constant timesX
     lowering-starts = record {
-      currentFilling = filling-starts _ current₀ count (input .currentLong);
-      olderFilling = filling-starts _ older₀ count (input .olderLong);
+      reached = omega arith;
+      currentFilling = filling-start;
+      olderFilling = filling-start;
       carriedIs = refl;
       previousIs = refl;
     }
 
     module _ (current older : List ℕ) (carried previous i : ℕ) (l : i < count) (h : Lowering current older carried previous i) where
       here-is : getD current i 0 ≡ getD current₀ i 0
-      here-is = filling-ahead _ current₀ count current i (h .currentFilling) i 0 (omega arith)
+      here-is = filling-from (h .currentFilling) i 0 (omega arith)
 
       old-is : getD older i 0 ≡ getD older₀ i 0
-      old-is = filling-ahead _ older₀ count older i (h .olderFilling) i 0 (omega arith)
+      old-is = filling-from (h .olderFilling) i 0 (omega arith)
 
       previous-below : (i : ℕ) → timesX (λ j. getD current₀ j 0) i < m
       unfolding timesX
@@ -62,8 +63,9 @@ module _ (m x a b c : ℕ) (current₀ older₀ : List ℕ) (count : ℕ) where
           → Lowering (set current i v) (set older i (getD current i 0)) 0 (getD current i 0) (i + 1)
       unfolding lowered constant timesX
       lowering-next v e = record {
-        currentFilling = filling-next _ current₀ count current i (h .currentFilling) v l (e ∙ rw (here-is, old-is, h .carriedIs, h .previousIs));
-        olderFilling = filling-next _ older₀ count older i (h .olderFilling) _ l here-is;
+        reached = omega arith;
+        currentFilling = filling-next (h .currentFilling) (omega (arith, input .currentLong)) (e ∙ rw (here-is, old-is, h .carriedIs, h .previousIs));
+        olderFilling = filling-next (h .olderFilling) (omega (arith, input .olderLong)) here-is;
         carriedIs = sym (ap (constant x) (add-one i));
         previousIs = here-is ∙ sym (ap (timesX (λ j. getD current₀ j 0)) (add-one i));
       }
@@ -71,4 +73,4 @@ module _ (m x a b c : ℕ) (current₀ older₀ : List ℕ) (count : ℕ) where
   pub lowering-ends : (current older : List ℕ) (carried previous i : ℕ) → count ≤ i → Lowering current older carried previous i
       → (current ≡ filled (lowered m x a b c current₀ older₀) count current₀) × (older ≡ filled (λ j. getD current₀ j 0) count older₀)
   lowering-ends current older carried previous i l h =
-      (filling-ends _ current₀ count current i (h .currentFilling) l, filling-ends _ older₀ count older i (h .olderFilling) l)
+      (filling-stop (h .currentFilling) count (omega arith), filling-stop (h .olderFilling) count (omega arith))

@@ -10,8 +10,7 @@ use native.Mathlib.Nat.{zero-add}
 use native.Mathlib.Numerals.{add-one}
 use native.Mathlib.Omega.{arith}
 use lib.ListN.{getD, set}
-use Rattle.theory.specs.Lists.{filled}
-use Rattle.polynomial.specs.Filling.{Filling, filling-starts, filling-ahead, filling-next, filling-ends}
+use Rattle.theory.specs.Lists.{filled, Filling, filling-start, filling-next, filling-stop, filling-from}
 use Rattle.polynomial.specs.Row.{Summands, RowInput}
 
 unfoldable pub raised : ℕ → ℕ → ℕ → ℕ → List ℕ → List ℕ → ℕ → ℕ
@@ -19,25 +18,27 @@ raised m a b c current older t = (a * getD current (suc t) 0 + b * getD current 
 
 module _ (m a b c : ℕ) (current₀ older₀ : List ℕ) (count : ℕ) where
   pub record Raising (current older : List ℕ) (i : ℕ) : Type 0 where
-    pub currentFilling : Filling (raised m a b c current₀ older₀) current₀ count current i
-    pub olderFilling : Filling (λ j. getD current₀ j 0) older₀ count older i
+    pub reached : i ≤ count
+    pub currentFilling : Filling (raised m a b c current₀ older₀) i current₀ current
+    pub olderFilling : Filling (λ j. getD current₀ j 0) i older₀ older
 
   module _ (input : RowInput m 0 a b c current₀ older₀ count) where
     pub raising-starts : Raising current₀ older₀ 0
     raising-starts = record {
-      currentFilling = filling-starts _ current₀ count (input .currentLong);
-      olderFilling = filling-starts _ older₀ count (input .olderLong);
+      reached = omega arith;
+      currentFilling = filling-start;
+      olderFilling = filling-start;
     }
 
     module _ (current older : List ℕ) (i : ℕ) (l : i < count) (h : Raising current older i) where
       next-is : getD current (i + 1) 0 ≡ getD current₀ (suc i) 0
-      next-is = filling-ahead _ current₀ count current i (h .currentFilling) (i + 1) 0 (omega arith) ∙ ap (λ j. getD current₀ j 0) (add-one i)
+      next-is = filling-from (h .currentFilling) (i + 1) 0 (omega arith) ∙ ap (λ j. getD current₀ j 0) (add-one i)
 
       here-is : getD current i 0 ≡ getD current₀ i 0
-      here-is = filling-ahead _ current₀ count current i (h .currentFilling) i 0 (omega arith)
+      here-is = filling-from (h .currentFilling) i 0 (omega arith)
 
       old-is : getD older i 0 ≡ getD older₀ i 0
-      old-is = filling-ahead _ older₀ count older i (h .olderFilling) i 0 (omega arith)
+      old-is = filling-from (h .olderFilling) i 0 (omega arith)
 
       pub raising-summands : Summands m 0 a (getD current (i + 1) 0) b (getD current i 0) c (getD older i 0)
       raising-summands = record {
@@ -55,11 +56,12 @@ module _ (m a b c : ℕ) (current₀ older₀ : List ℕ) (count : ℕ) where
           → Raising (set current i v) (set older i (getD current i 0)) (i + 1)
       unfolding raised
       raising-next v e = record {
-        currentFilling = filling-next _ current₀ count current i (h .currentFilling) v l (e ∙ rw (zero-add, next-is, here-is, old-is));
-        olderFilling = filling-next _ older₀ count older i (h .olderFilling) _ l here-is;
+        reached = omega arith;
+        currentFilling = filling-next (h .currentFilling) (omega (arith, input .currentLong)) (e ∙ rw (zero-add, next-is, here-is, old-is));
+        olderFilling = filling-next (h .olderFilling) (omega (arith, input .olderLong)) here-is;
       }
 
   pub raising-ends : (current older : List ℕ) (i : ℕ) → count ≤ i → Raising current older i
       → (current ≡ filled (raised m a b c current₀ older₀) count current₀) × (older ≡ filled (λ j. getD current₀ j 0) count older₀)
   raising-ends current older i l h =
-      (filling-ends _ current₀ count current i (h .currentFilling) l, filling-ends _ older₀ count older i (h .olderFilling) l)
+      (filling-stop (h .currentFilling) count (omega arith), filling-stop (h .olderFilling) count (omega arith))

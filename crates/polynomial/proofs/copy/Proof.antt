@@ -1,21 +1,21 @@
 -- `copy` meets its contract: its loop fills to from the front. The measure is what is left of the count.
 -- Assumes nothing.
 use mathlib.Core.Path.{refl}
-use Prim.Native.Nat.{_-_}
+use Prim.Native.Nat.{_-_, _≤_}
 use native.Mathlib.Omega.{arith}
 use lib.ListN.{getD}
-use Rattle.polynomial.specs.Filling.{Filling, filling-starts, filling-next, filling-ends}
+use Rattle.theory.specs.Lists.{Filling, filling-start, filling-next, filling-stop}
 use Rattle.polynomial.proofs.copy.Statement.{statement}
 use Rattle.polynomial.proofs.copy.Tie as tie
 
 abbrev Inv-loop : tie.InvT-loop
-Inv-loop from count to₀ i₀ to i = Filling (λ j. getD from j 0) to₀ count to i
+Inv-loop from count to₀ i₀ to i = (i ≤ count) × Filling (λ j. getD from j 0) i to₀ to
 
 abbrev μ-loop : tie.MeasureT-loop
 μ-loop from count to₀ i₀ to i = count - i
 
 loop-holds : tie.Need-loop-holds Inv-loop μ-loop
-loop-holds c = filling-starts _ _ _ (c .pre .1)
+loop-holds c = (omega arith, filling-start)
 
 mul-to : tie.Need-mul-to Inv-loop μ-loop
 mul-to c = omega arith
@@ -36,13 +36,13 @@ loop-less : tie.Need-loop-less Inv-loop μ-loop
 loop-less c = omega arith
 
 loop-again : tie.Need-loop-again Inv-loop μ-loop
-loop-again c = filling-next _ _ _ _ _ (c .before .before .loop .inv) _ (c .before .loop-test .taken) refl
+loop-again c = (omega arith, filling-next (c .before .before .loop .inv .1) (omega arith) refl)
 
 same-length : tie.Need-same-length Inv-loop μ-loop
-same-length c = c .before .loop .inv .long
+same-length c = c .before .loop .inv .1 .sameLength
 
 returns : tie.Need-returns Inv-loop μ-loop
-returns c = filling-ends _ _ _ _ _ (c .before .loop .inv) (c .loop-test .left)
+returns c = filling-stop (c .before .loop .inv .1) _ (omega arith)
 
 pub copy-spec : {M : Type 1} → statement M
 copy-spec =

@@ -65,7 +65,7 @@ loop-again : tie.Need-loop-again Inv-loop μ-loop
 loop-again c = multiplying-next _ _ _ _ _ _ _ (c .before .before .before .before .before .before .before .before .before .before .before .before .before .pre) _ _ _ _ _ (c .before .before .before .before .before .before .before .loop-test .taken) (c .before .before .before .before .before .before .before .before .loop .inv) _ _ (c .before .before .before .entry2 .ensures) (c .before .before .before .before .entry .ensures) _ (c .before .combine .ensures)
 
 same-length : tie.Need-same-length Inv-loop μ-loop
-same-length c = c .before .loop .inv .filling .long
+same-length c = c .before .loop .inv .filling .sameLength
 
 returns : tie.Need-returns Inv-loop μ-loop
 returns c = multiplying-ends _ _ _ _ _ _ _ _ _ _ _ _ (c .loop-test .left) (c .before .loop .inv)

@@ -52,10 +52,10 @@ loop-again : tie.Need-loop-again Inv-loop μ-loop
 loop-again c = lowering-next _ _ _ _ _ _ _ _ (c .before .before .before .before .before .before .before .pre) _ _ _ _ _ (c .before .before .before .loop-test .taken) (c .before .before .before .before .loop .inv) _ (c .combine .ensures)
 
 same-length : tie.Need-same-length Inv-loop μ-loop
-same-length c = c .before .loop .inv .currentFilling .long
+same-length c = c .before .loop .inv .currentFilling .sameLength
 
 same-length-2 : tie.Need-same-length-2 Inv-loop μ-loop
-same-length-2 c = c .before .loop .inv .olderFilling .long
+same-length-2 c = c .before .loop .inv .olderFilling .sameLength
 
 returns : tie.Need-returns Inv-loop μ-loop
 returns c = lowering-ends _ _ _ _ _ _ _ _ _ _ _ _ _ (c .loop-test .left) (c .before .loop .inv)
