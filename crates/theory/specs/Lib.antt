@@ -9,3 +9,7 @@ pub mod RoundTrip
 pub mod Linear
 pub mod TransposedIdentity
 pub mod Operator
+pub mod PlainModels
+pub mod Entries
+pub mod PlainExpand
+pub mod PlainAdjoint
