@@ -1,10 +1,19 @@
 -- What is true of the definitions, for every modulus from 2 on and every convertible family. Assumes nothing.
 pub mod Lists
+pub mod Inverse
 pub mod Recurrence
 pub mod Bridge
-pub mod Inverse
 pub mod Verdicts
 pub mod Acceptance
 pub mod Residue
 pub mod Curves
 pub mod Euclid
+pub mod Combination
+pub mod RoundTrip
+pub mod Linear
+pub mod TransposedIdentity
+pub mod Operator
+pub mod PlainModels
+pub mod Entries
+pub mod PlainExpand
+pub mod PlainAdjoint
