@@ -7,13 +7,14 @@
 -- Assumes nothing.
 use mathlib.Core.Path.{_≡_, refl, sym, _∙_, ap}
 use mathlib.Core.List.{List}
-use Prim.Native.Nat.{ℕ, zero, suc, _+_, _*_, _%_, _≤_, _<_}
+use Prim.Native.Nat.{ℕ, suc, _+_, _*_, _%_, _≤_, _<_}
 use native.Mathlib.Numerals.{add-one}
 use native.Mathlib.Omega.{arith}
 use lib.ListN.{length, getD, set}
 use Rattle.definitions.specs.Family.{greatestModulus, timesX}
 use Rattle.theory.specs.Lists.{filled, Filling, filling-start, filling-next, filling-stop, filling-from}
-use Rattle.polynomial.specs.Row.{Below, Summands, constant, constant-below}
+use Rattle.theory.specs.PlainModels.{constant}
+use Rattle.polynomial.specs.Row.{Below, Summands, constant-below}
 
 pub record HornerInput (m p : ℕ) (rise stay fall current : List ℕ) (count : ℕ) : Type 0 where
   pub most : m ≤ greatestModulus

@@ -1,5 +1,4 @@
--- A step of Expand downwards.
---   lowered    the entries of x + (a X + b) current + c older
+-- A step of Expand downwards, the plain model's `expandEntry` in the place of the list before it.
 --   Lowering   the step in progress: the first i entries of both lists are done
 -- Proved: how the step starts, what it sums, how it goes on and how it ends.
 -- Assumes nothing.
@@ -11,15 +10,13 @@ use native.Mathlib.Omega.{arith}
 use lib.ListN.{getD, set}
 use Rattle.definitions.specs.Family.{timesX}
 use Rattle.theory.specs.Lists.{filled, Filling, filling-start, filling-next, filling-stop, filling-from}
-use Rattle.polynomial.specs.Row.{Summands, RowInput, constant, constant-below}
-
-unfoldable pub lowered : ℕ → ℕ → ℕ → ℕ → ℕ → List ℕ → List ℕ → ℕ → ℕ
-lowered m x a b c current older i = (constant x i + a * timesX (λ j. getD current j 0) i + b * getD current i 0 + c * getD older i 0) % m
+use Rattle.theory.specs.PlainModels.{constant, expandEntry}
+use Rattle.polynomial.specs.Row.{Summands, RowInput, constant-below}
 
 module _ (m x a b c : ℕ) (current₀ older₀ : List ℕ) (count : ℕ) where
   pub record Lowering (current older : List ℕ) (carried previous i : ℕ) : Type 0 where
     pub reached : i ≤ count
-    pub currentFilling : Filling (lowered m x a b c current₀ older₀) i current₀ current
+    pub currentFilling : Filling (expandEntry m x a b c current₀ older₀) i current₀ current
     pub olderFilling : Filling (λ j. getD current₀ j 0) i older₀ older
     pub carriedIs : carried ≡ constant x i
     pub previousIs : previous ≡ timesX (λ j. getD current₀ j 0) i
@@ -61,7 +58,7 @@ module _ (m x a b c : ℕ) (current₀ older₀ : List ℕ) (count : ℕ) where
 
       pub lowering-next : (v : ℕ) → v ≡ (carried + a * previous + b * getD current i 0 + c * getD older i 0) % m
           → Lowering (set current i v) (set older i (getD current i 0)) 0 (getD current i 0) (i + 1)
-      unfolding lowered constant timesX
+      unfolding expandEntry constant timesX
       lowering-next v e = record {
         reached = omega arith;
         currentFilling = filling-next (h .currentFilling) (omega (arith, input .currentLong)) (e ∙ rw (here-is, old-is, h .carriedIs, h .previousIs));
@@ -71,6 +68,6 @@ module _ (m x a b c : ℕ) (current₀ older₀ : List ℕ) (count : ℕ) where
       }
 
   pub lowering-ends : (current older : List ℕ) (carried previous i : ℕ) → count ≤ i → Lowering current older carried previous i
-      → (current ≡ filled (lowered m x a b c current₀ older₀) count current₀) × (older ≡ filled (λ j. getD current₀ j 0) count older₀)
+      → (current ≡ filled (expandEntry m x a b c current₀ older₀) count current₀) × (older ≡ filled (λ j. getD current₀ j 0) count older₀)
   lowering-ends current older carried previous i l h =
       (filling-stop (h .currentFilling) count (omega arith), filling-stop (h .olderFilling) count (omega arith))

@@ -1,5 +1,4 @@
--- A step of Adjoint upwards.
---   raised    the entries a current[t + 1] + b current[t] + c older[t]
+-- A step of Adjoint upwards, the plain model's `adjointEntry` in the place of the list before it.
 --   Raising   the step in progress: the first i entries of both lists are done
 -- Proved: how the step starts, what it sums, how it goes on and how it ends.
 -- Assumes nothing.
@@ -11,15 +10,13 @@ use native.Mathlib.Numerals.{add-one}
 use native.Mathlib.Omega.{arith}
 use lib.ListN.{getD, set}
 use Rattle.theory.specs.Lists.{filled, Filling, filling-start, filling-next, filling-stop, filling-from}
+use Rattle.theory.specs.PlainModels.{adjointEntry}
 use Rattle.polynomial.specs.Row.{Summands, RowInput}
-
-unfoldable pub raised : ℕ → ℕ → ℕ → ℕ → List ℕ → List ℕ → ℕ → ℕ
-raised m a b c current older t = (a * getD current (suc t) 0 + b * getD current t 0 + c * getD older t 0) % m
 
 module _ (m a b c : ℕ) (current₀ older₀ : List ℕ) (count : ℕ) where
   pub record Raising (current older : List ℕ) (i : ℕ) : Type 0 where
     pub reached : i ≤ count
-    pub currentFilling : Filling (raised m a b c current₀ older₀) i current₀ current
+    pub currentFilling : Filling (adjointEntry m a b c current₀ older₀) i current₀ current
     pub olderFilling : Filling (λ j. getD current₀ j 0) i older₀ older
 
   module _ (input : RowInput m 0 a b c current₀ older₀ count) where
@@ -54,7 +51,7 @@ module _ (m a b c : ℕ) (current₀ older₀ : List ℕ) (count : ℕ) where
 
       pub raising-next : (v : ℕ) → v ≡ (0 + a * getD current (i + 1) 0 + b * getD current i 0 + c * getD older i 0) % m
           → Raising (set current i v) (set older i (getD current i 0)) (i + 1)
-      unfolding raised
+      unfolding adjointEntry
       raising-next v e = record {
         reached = omega arith;
         currentFilling = filling-next (h .currentFilling) (omega (arith, input .currentLong)) (e ∙ rw (zero-add, next-is, here-is, old-is));
@@ -62,6 +59,6 @@ module _ (m a b c : ℕ) (current₀ older₀ : List ℕ) (count : ℕ) where
       }
 
   pub raising-ends : (current older : List ℕ) (i : ℕ) → count ≤ i → Raising current older i
-      → (current ≡ filled (raised m a b c current₀ older₀) count current₀) × (older ≡ filled (λ j. getD current₀ j 0) count older₀)
+      → (current ≡ filled (adjointEntry m a b c current₀ older₀) count current₀) × (older ≡ filled (λ j. getD current₀ j 0) count older₀)
   raising-ends current older i l h =
       (filling-stop (h .currentFilling) count (omega arith), filling-stop (h .olderFilling) count (omega arith))

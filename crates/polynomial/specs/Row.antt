@@ -2,7 +2,6 @@
 --   Below m xs   every entry of xs is below m, and so is the zero that is read past its end
 --   Summands     the numbers of one sum of products are residues modulo a modulus of at most 31 bits
 --   RowInput     the same of a row and of the two lists that it moves on, which have room for count entries
---   constant x   the entries of the polynomial x alone
 -- Proved: three products of residues, summed, are far below 64 bits.
 -- Assumes nothing.
 use mathlib.Core.List.{List}
@@ -11,6 +10,7 @@ use native.Mathlib.Nat.{mul-le-mul}
 use native.Mathlib.Omega.{arith}
 use lib.ListN.{length, getD}
 use Rattle.definitions.specs.Family.{greatestModulus}
+use Rattle.theory.specs.PlainModels.{constant}
 
 abbrev pub Below : ℕ → List ℕ → Type 0
 Below m xs = (i : ℕ) → getD xs i 0 < m
@@ -35,10 +35,6 @@ pub record RowInput (m x a b c : ℕ) (current older : List ℕ) (count : ℕ) :
   pub olderBelow : Below m older
   pub currentLong : count ≤ length current
   pub olderLong : count ≤ length older
-
-unfoldable pub constant : ℕ → ℕ → ℕ
-constant x zero = x
-constant x (suc i) = 0
 
 pub constant-below : (m x i : ℕ) → x < m → constant x i < m
 unfolding constant

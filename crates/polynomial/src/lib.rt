@@ -1,12 +1,11 @@
 // Loops over lists of residues: one step of each plain way. Lists are lent whole, with a count of the entries that take part;
 // the entries past the count stay. Each stored coefficient costs one remainder.
 ghost use mathlib.Core.Path.{_≡_};
-ghost use Prim.Native.Nat.{ℕ, _+_, _*_, _%_, _≤_, _<_};
+ghost use Prim.Native.Nat.{_+_, _*_, _%_, _≤_, _<_};
 ghost use lib.ListN.{length, getD, replicate};
 ghost use Rattle.theory.specs.Lists.{filled};
+ghost use Rattle.theory.specs.PlainModels.{expandEntry, adjointEntry};
 ghost use Rattle.polynomial.specs.HornerRow.{HornerInput, multiplied};
-ghost use Rattle.polynomial.specs.LowerRow.{lowered};
-ghost use Rattle.polynomial.specs.RaiseRow.{raised};
 ghost use Rattle.polynomial.specs.Row.{Summands, RowInput};
 
 // A local list, all zeros.
@@ -57,7 +56,7 @@ pub fn lower_row(
     count: usize,
 )
     requires { ⌜ RowInput m x a b c (now current) (now older) count ⌝ }
-    ensures { λ _. ⌜ (now (current .exit) ≡ filled (lowered m x a b c (now (current .entry)) (now (older .entry))) count (now (current .entry))) × (now (older .exit) ≡ filled (λ i. getD (now (current .entry)) i 0) count (now (older .entry))) ⌝ }
+    ensures { λ _. ⌜ (now (current .exit) ≡ filled (expandEntry m x a b c (now (current .entry)) (now (older .entry))) count (now (current .entry))) × (now (older .exit) ≡ filled (λ i. getD (now (current .entry)) i 0) count (now (older .entry))) ⌝ }
 {
     let mut constant = x;
     let mut previous: u32 = 0;
@@ -86,7 +85,7 @@ pub fn raise_row(
     count: usize,
 )
     requires { ⌜ RowInput m 0 a b c (now current) (now older) count × (count < length (now current)) ⌝ }
-    ensures { λ _. ⌜ (now (current .exit) ≡ filled (raised m a b c (now (current .entry)) (now (older .entry))) count (now (current .entry))) × (now (older .exit) ≡ filled (λ i. getD (now (current .entry)) i 0) count (now (older .entry))) ⌝ }
+    ensures { λ _. ⌜ (now (current .exit) ≡ filled (adjointEntry m a b c (now (current .entry)) (now (older .entry))) count (now (current .entry))) × (now (older .exit) ≡ filled (λ i. getD (now (current .entry)) i 0) count (now (older .entry))) ⌝ }
 {
     let mut i: usize = 0;
     while i < count {
