@@ -3,3 +3,4 @@ pub mod Input
 pub mod FirstRows
 pub mod Agreement
 pub mod Expanding
+pub mod Adjoining
