@@ -13,3 +13,5 @@ pub mod PlainModels
 pub mod Entries
 pub mod PlainExpand
 pub mod PlainAdjoint
+pub mod Horner
+pub mod PlainDecompose

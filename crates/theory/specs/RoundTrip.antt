@@ -2,7 +2,8 @@
 --   Decomposable f   2 ≤ m, and the a of rows 1 to r have inverses: all that Decompose divides by
 -- Proves that the coefficient of x^k in F_k is a_1 .. a_k and has an inverse for k ≤ r, that Decompose's answer is a curve, both
 -- round trips, that Expand is injective on curves, and that Decompose's answer is the only curve that Expand takes to its
--- input. No c and no closing row is in any hypothesis, c_1 included. The scope paper, demand 1. Assumes nothing.
+-- input. No c and no closing row is in any hypothesis, c_1 included. The scope paper, 'The definitions': 'There is exactly one.'
+-- Assumes nothing.
 use mathlib.Core.Path.{_≡_, refl, sym, _∙_, ap, ap₂}
 use mathlib.Core.List.{List, [], _∷_, _++_}
 use mathlib.Core.Logic.{_⊎_, inl, inr}
