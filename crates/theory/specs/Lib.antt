@@ -1,9 +1,13 @@
 -- What is true of the definitions, for every modulus from 2 on and every convertible family. Assumes nothing.
 pub mod Lists
-pub mod Remainder
-pub mod Inverse
 pub mod Recurrence
 pub mod Bridge
+pub mod Inverse
+pub mod Verdicts
+pub mod Acceptance
+pub mod Residue
+pub mod Curves
+pub mod Euclid
 pub mod Combination
 pub mod RoundTrip
 pub mod Linear
@@ -15,3 +19,12 @@ pub mod PlainExpand
 pub mod PlainAdjoint
 pub mod Horner
 pub mod PlainDecompose
+pub mod Reversal
+pub mod Determinant
+pub mod Favard
+pub mod Form
+pub mod Orthogonal
+pub mod Quotient
+pub mod Moments
+pub mod ProductLaw
+pub mod Gram
