@@ -9,7 +9,7 @@ use Prim.Native.Nat.{ℕ, zero, suc, _%_, _<_, _≤_, _+_ as _+ℕ_, _-_ as _-�
 use native.Mathlib.Nat.{add-zero, zero-add}
 use native.Mathlib.Omega.{arith}
 use lib.ListN.{length, getD}
-use Rattle.algebra.specs.Residues.{Zmod, res, res-zero, res-one, res-add, res-mul, res-mod, res-neg}
+use Rattle.algebra.specs.Residues.{Zmod, res, res-zero, res-add, res-mul, res-mod}
 use Rattle.algebra.specs.Ring
 use Rattle.algebra.specs.Ring.{CommRing}
 use Rattle.algebra.specs.Solver.{ring, linear, scaled, both, reify}
@@ -17,7 +17,7 @@ use Rattle.algebra.specs.Sum.{sum-vanish}
 use Rattle.algebra.specs.Variable.{shift}
 use Rattle.definitions.specs.Conversion.{expand, decompose}
 use Rattle.definitions.specs.Family.{Family, Curve, rows, size, rowAt, timesX}
-use Rattle.definitions.specs.Number.{negative, HasInverse, inverse}
+use Rattle.definitions.specs.Number.{HasInverse, inverse}
 use Rattle.theory.specs.Bridge.{entries, rowsOf, entries-expand, expand-curve, curve-equal}
 use Rattle.theory.specs.Combination.{combination, combination-last, combination-cong}
 use Rattle.theory.specs.Entries.{entries-past, entries-zeros, entries-table}
@@ -25,6 +25,7 @@ use Rattle.theory.specs.Horner.{raised, raised-ends, horner-combination}
 use Rattle.theory.specs.Inverse.{inverse-right}
 use Rattle.theory.specs.PlainModels.{constant, divide, raiseEntry, raise, decomposeState, plainDecompose, decomposeState-curve}
 use Rattle.theory.specs.Recurrence.{Rows, term, degree}
+use Rattle.theory.specs.Residue.{residue-negative, residue-product-one}
 use Rattle.theory.specs.RoundTrip.{Decomposable, decompose-unique}
 
 pub record Inverts (f : Family) (d : List ℕ) : Type 0 where
@@ -70,13 +71,13 @@ module _ (f : Family) (pos : 0 < f .m) (d : List ℕ) (inverts : Inverts f d) wh
       (λ j h. simp (res-mod m pos, res-mul m pos)) (λ j h. ap (λ t. t ⊗ E d j) (ends j h) ∙ Ring.zero-mul Q (E d j))
 
   a-inverse : (i : ℕ) → i < rows f → ρ .a i ⊗ E d i ≡ 𝟙
-  a-inverse i h = sym (res-mul m pos (rowAt f i .a) (getD d i 0)) ∙ sym (res-mod m pos (rowAt f i .a *ℕ getD d i 0)) ∙ ap (res m pos) (inverts .inverts i h) ∙ res-one m pos
+  a-inverse i h = residue-product-one m pos (rowAt f i .a) (getD d i 0) (inverts .inverts i h)
 
   raise-entry : (y : ℕ) (q : List ℕ) (j : ℕ) → res m pos (raiseEntry m y (rowAt f j .b) (rowAt f (suc j) .c) q j) ≡ res m pos y ⊗ term Q ρ 1 j ⊕ raised Q ρ (E q) j
-  unfolding raiseEntry constant timesX negative term
-  raise-entry y q zero = simp (res-mod m pos, res-add m pos, res-mul m pos, res-neg m pos, res-zero m pos)
+  unfolding raiseEntry constant timesX term
+  raise-entry y q zero = simp (res-mod m pos, res-add m pos, res-mul m pos, residue-negative m pos, res-zero m pos)
       (ring Q (res m pos y ∷ ρ .b 0 ∷ ρ .c 1 ∷ E q 0 ∷ E q 1 ∷ []) (search reify depth 20) tt)
-  raise-entry y q (suc j) = simp (res-mod m pos, res-add m pos, res-mul m pos, res-neg m pos, res-zero m pos)
+  raise-entry y q (suc j) = simp (res-mod m pos, res-add m pos, res-mul m pos, residue-negative m pos, res-zero m pos)
       (ring Q (res m pos y ∷ ρ .b (suc j) ∷ ρ .c (suc (suc j)) ∷ E q j ∷ E q (suc j) ∷ E q (suc (suc j)) ∷ []) (search reify depth 20) tt)
 
   -- one step of the model, where w holds i terms
