@@ -20,7 +20,7 @@ use Rattle.definitions.specs.Family.{Family, Curve, rows, size, rowAt, timesX}
 use Rattle.definitions.specs.Number.{HasInverse, inverse}
 use Rattle.theory.specs.Bridge.{entries, rowsOf, entries-expand, expand-curve, curve-equal}
 use Rattle.theory.specs.Combination.{combination, combination-last, combination-cong}
-use Rattle.theory.specs.Entries.{entries-past, entries-zeros, entries-table}
+use Rattle.theory.specs.Entries.{entries-past, entries-zeros, entries-table, entry-zero}
 use Rattle.theory.specs.Horner.{raised, raised-ends, horner-combination}
 use Rattle.theory.specs.Inverse.{inverse-right}
 use Rattle.theory.specs.PlainModels.{constant, divide, raiseEntry, raise, decomposeState, plainDecompose, decomposeState-curve}
@@ -43,7 +43,7 @@ inverses-invert f d e same =
     let pos : 0 < f .m = omega arith in
     record { modulus = two; inverts = λ i h. rw (same i h) (inverse-right (f .m) (rowAt f i .a) pos (e .aInverse i h)) }
 
-module _ (f : Family) (pos : 0 < f .m) (d : List ℕ) (inverts : Inverts f d) where
+module _ (f : Family) (pos : 0 < f .m) (d : List ℕ) where
   abbrev m : ℕ
   m = f .m
 
@@ -53,11 +53,10 @@ module _ (f : Family) (pos : 0 < f .m) (d : List ℕ) (inverts : Inverts f d) wh
   abbrev ρ : Rows Q
   ρ = rowsOf f pos
 
-  open CommRing Q using (Car, zero as 𝟘, one as 𝟙, add as _⊕_, mul as _⊗_, neg as ⊖_)
+  open CommRing Q using (Car, zero as 𝟘, one as 𝟙, add as _⊕_, mul as _⊗_)
 
   infixl 65 _⊕_
   infixl 70 _⊗_
-  infix 75 ⊖_
   abbrev E : List ℕ → ℕ → Car
   E = entries m pos
 
@@ -70,9 +69,6 @@ module _ (f : Family) (pos : 0 < f .m) (d : List ℕ) (inverts : Inverts f d) wh
   divide-entries w ends = entries-table m pos (size f) _ (λ j. E w j ⊗ E d j)
       (λ j h. simp (res-mod m pos, res-mul m pos)) (λ j h. ap (λ t. t ⊗ E d j) (ends j h) ∙ Ring.zero-mul Q (E d j))
 
-  a-inverse : (i : ℕ) → i < rows f → ρ .a i ⊗ E d i ≡ 𝟙
-  a-inverse i h = residue-product-one m pos (rowAt f i .a) (getD d i 0) (inverts .inverts i h)
-
   raise-entry : (y : ℕ) (q : List ℕ) (j : ℕ) → res m pos (raiseEntry m y (rowAt f j .b) (rowAt f (suc j) .c) q j) ≡ res m pos y ⊗ term Q ρ 1 j ⊕ raised Q ρ (E q) j
   unfolding raiseEntry constant timesX term
   raise-entry y q zero = simp (res-mod m pos, res-add m pos, res-mul m pos, residue-negative m pos, res-zero m pos)
@@ -80,7 +76,7 @@ module _ (f : Family) (pos : 0 < f .m) (d : List ℕ) (inverts : Inverts f d) wh
   raise-entry y q (suc j) = simp (res-mod m pos, res-add m pos, res-mul m pos, residue-negative m pos, res-zero m pos)
       (ring Q (res m pos y ∷ ρ .b (suc j) ∷ ρ .c (suc (suc j)) ∷ E q j ∷ E q (suc j) ∷ E q (suc (suc j)) ∷ []) (search reify depth 20) tt)
 
-  -- one step of the model, where w holds i terms
+  -- ---- one step of the model, where w holds i terms
   module _ (y i : ℕ) (w : List ℕ) (room : i ≤ rows f) (ends : EndsBefore i w) where
     abbrev q : List ℕ
     q = divide f d w
@@ -103,48 +99,50 @@ module _ (f : Family) (pos : 0 < f .m) (d : List ℕ) (inverts : Inverts f d) wh
     raise-ends j h = raise-entries j ∙ next-ends j h
 
     -- a_{j+1} times what was divided by it; the last place is still empty
-    restored-entry : (j : ℕ) → j < rows f → ρ .a j ⊗ E q j ≡ E w j
-    restored-entry j h = linear Q (ρ .a j ∷ E q j ∷ E w j ∷ E d j ∷ []) (both Q (scaled Q (ρ .a j) (divided j)) (scaled Q (E w j) (a-inverse j h))) (search reify depth 20) tt
+    module _ (inverts : Inverts f d) where
+      restored-entry : (j : ℕ) → j < rows f → ρ .a j ⊗ E q j ≡ E w j
+      restored-entry j h =
+          let inverse-at = residue-product-one m pos (rowAt f j .a) (getD d j 0) (inverts .inverts j h) in
+          linear Q (ρ .a j ∷ E q j ∷ E w j ∷ E d j ∷ []) (both Q (scaled Q (ρ .a j) (divided j)) (scaled Q (E w j) inverse-at)) (search reify depth 20) tt
 
-    restored : (t : ℕ) → combination Q ρ (rows f) (λ j. ρ .a j ⊗ E q j) t ≡ combination Q ρ (size f) (E w) t
-    restored t = combination-cong Q ρ (rows f) t restored-entry
-        ∙ sym (combination-last Q ρ (rows f) (E w) t ∙ rw (ends (rows f) room, Ring.zero-mul Q (term Q ρ (size f) t)) (Q .add-zero (combination Q ρ (rows f) (E w) t)))
+      restored : (t : ℕ) → combination Q ρ (rows f) (λ j. ρ .a j ⊗ E q j) t ≡ combination Q ρ (size f) (E w) t
+      restored t = combination-cong Q ρ (rows f) t restored-entry
+          ∙ sym (combination-last Q ρ (rows f) (E w) t ∙ rw (ends (rows f) room, Ring.zero-mul Q (term Q ρ (size f) t)) (Q .add-zero (combination Q ρ (rows f) (E w) t)))
 
-    raise-combination : (t : ℕ) → combination Q ρ (size f) (E (raise f y q)) t ≡ res m pos y ⊗ term Q ρ 1 t ⊕ shift Q (combination Q ρ (size f) (E w)) t
-    raise-combination t = combination-cong Q ρ (size f) t (λ j h. raise-entries j) ∙ horner-combination Q ρ (rows f) (res m pos y) (E q) (λ j h. divided-ends j (omega arith)) t
-        ∙ ap (λ p. res m pos y ⊗ term Q ρ 1 t ⊕ shift Q p t) (fun-ext restored)
+      raise-combination : (t : ℕ) → combination Q ρ (size f) (E (raise f y q)) t ≡ res m pos y ⊗ term Q ρ 1 t ⊕ shift Q (combination Q ρ (size f) (E w)) t
+      raise-combination t = combination-cong Q ρ (size f) t (λ j h. raise-entries j) ∙ horner-combination Q ρ (rows f) (res m pos y) (E q) (λ j h. divided-ends j (omega arith)) t
+          ∙ ap (λ p. res m pos y ⊗ term Q ρ 1 t ⊕ shift Q p t) (fun-ext restored)
 
   -- ---- all steps: i powers taken in, from the top one down
-  module _ (p : List ℕ) (short : length p ≤ size f) where
-    record Taken (i k : ℕ) (w : List ℕ) : Type 0 where
-      endsBefore : EndsBefore i w
-      powers : (t : ℕ) → combination Q ρ (size f) (E w) t ≡ E p (k +ℕ t)
+  module _ (p : List ℕ) where
+    state-ends : (i : ℕ) → i ≤ size f → EndsBefore i (decomposeState f d p i)
+    unfolding decomposeState
+    state-ends zero h j l = entries-zeros m pos (size f) j
+    state-ends (suc i) h j l = raise-ends (getD p (rows f -ℕ i) 0) i (decomposeState f d p i) (omega arith) (state-ends i (omega arith)) j l
+
+    -- nothing stands from place i on, so a loop may stop there
+    pub decomposeState-ends : (i j : ℕ) → i ≤ size f → i ≤ j → getD (decomposeState f d p i) j 0 ≡ 0
+    decomposeState-ends i j b h = entry-zero f pos (decomposeState f d p i) (decomposeState-curve f pos d p i) j (state-ends i b j h)
 
     powers-next : (k t : ℕ) → E p k ⊗ term Q ρ 1 t ⊕ shift Q (λ s. E p (suc k +ℕ s)) t ≡ E p (k +ℕ t)
     unfolding term
     powers-next k zero = Q .add-zero (E p k ⊗ 𝟙) ∙ Q .mul-one (E p k) ∙ ap (E p) (sym (add-zero k))
     powers-next k (suc t) = ap (λ x. x ⊕ E p (suc k +ℕ t)) (Ring.mul-zero Q (E p k)) ∙ Ring.zero-add Q (E p (suc k +ℕ t)) ∙ ap (E p) (omega arith)
 
-    decomposeState-taken : (i k : ℕ) → k +ℕ i ≡ size f → Taken i k (decomposeState f d p i)
-    unfolding decomposeState
-    decomposeState-taken zero k e = record {
-      endsBefore = λ j h. entries-zeros m pos (size f) j;
-      powers = λ t. sum-vanish Q (size f) (λ j h. ap (λ x. x ⊗ term Q ρ (suc j) t) (entries-zeros m pos (size f) j) ∙ Ring.zero-mul Q (term Q ρ (suc j) t))
-          ∙ sym (entries-past m pos p (k +ℕ t) (omega arith));
-    }
-    decomposeState-taken (suc i) k e =
-        let here : rows f -ℕ i ≡ k = omega arith in
-        let before = decomposeState-taken i (suc k) (omega arith) in
-        rw here (record {
-          endsBefore = raise-ends (getD p k 0) i (decomposeState f d p i) (omega arith) (before .endsBefore);
-          powers = λ t. raise-combination (getD p k 0) i (decomposeState f d p i) (omega arith) (before .endsBefore) t
-              ∙ ap (λ s. E p k ⊗ term Q ρ 1 t ⊕ shift Q s t) (fun-ext (before .powers)) ∙ powers-next k t;
-        })
+    module _ (inverts : Inverts f d) (short : length p ≤ size f) where
+      state-powers : (i k : ℕ) → k +ℕ i ≡ size f → (t : ℕ) → combination Q ρ (size f) (E (decomposeState f d p i)) t ≡ E p (k +ℕ t)
+      unfolding decomposeState
+      state-powers zero k e t = sum-vanish Q (size f) (λ j h. ap (λ x. x ⊗ term Q ρ (suc j) t) (entries-zeros m pos (size f) j) ∙ Ring.zero-mul Q (term Q ρ (suc j) t))
+          ∙ sym (entries-past m pos p (k +ℕ t) (omega arith))
+      state-powers (suc i) k e t =
+          let here : rows f -ℕ i ≡ k = omega arith in
+          rw here (raise-combination (getD p k 0) i (decomposeState f d p i) (omega arith) (state-ends i (omega arith)) inverts t
+          ∙ ap (λ s. E p k ⊗ term Q ρ 1 t ⊕ shift Q s t) (fun-ext (state-powers i (suc k) (omega arith))) ∙ powers-next k t)
 
-    plainDecompose-back : Curve f p → expand f (plainDecompose f d p) ≡ p
-    unfolding plainDecompose
-    plainDecompose-back cp = curve-equal f pos (expand f (plainDecompose f d p)) p (expand-curve f pos (plainDecompose f d p)) cp
-        (λ i h. entries-expand f pos (plainDecompose f d p) i h ∙ decomposeState-taken (size f) 0 (zero-add (size f)) .powers i ∙ ap (E p) (zero-add i))
+      plainDecompose-back : Curve f p → expand f (plainDecompose f d p) ≡ p
+      unfolding plainDecompose
+      plainDecompose-back cp = curve-equal f pos (expand f (plainDecompose f d p)) p (expand-curve f pos (plainDecompose f d p)) cp
+          (λ i h. entries-expand f pos (plainDecompose f d p) i h ∙ state-powers (size f) 0 (zero-add (size f)) i ∙ ap (E p) (zero-add i))
 
 pub plainDecompose-decompose : (f : Family) (d p : List ℕ) → Inverts f d → Curve f p → plainDecompose f d p ≡ decompose f p
 unfolding plainDecompose
@@ -152,4 +150,4 @@ plainDecompose-decompose f d p v cp =
     let two : 2 ≤ f .m = v .modulus in
     let pos : 0 < f .m = omega arith in
     let long : length p ≡ size f = cp .long in
-    decompose-unique f (inverts-decomposable f d v) p (plainDecompose f d p) cp (decomposeState-curve f pos d p (size f)) (plainDecompose-back f pos d v p (omega arith) cp)
+    decompose-unique f (inverts-decomposable f d v) p (plainDecompose f d p) cp (decomposeState-curve f pos d p (size f)) (plainDecompose-back f pos d p v (omega arith) cp)
