@@ -17,6 +17,7 @@ pub mod PlainModels
 pub mod Entries
 pub mod PlainExpand
 pub mod PlainAdjoint
+pub mod Closing
 pub mod Horner
 pub mod PlainDecompose
 pub mod Reversal
