@@ -1,8 +1,8 @@
 -- What is true of the definitions, for every modulus from 2 on and every convertible family. Assumes nothing.
 pub mod Lists
-pub mod Inverse
 pub mod Recurrence
 pub mod Bridge
+pub mod Inverse
 pub mod Verdicts
 pub mod Acceptance
 pub mod Residue
@@ -17,3 +17,15 @@ pub mod PlainModels
 pub mod Entries
 pub mod PlainExpand
 pub mod PlainAdjoint
+pub mod Closing
+pub mod Horner
+pub mod PlainDecompose
+pub mod Reversal
+pub mod Determinant
+pub mod Favard
+pub mod Form
+pub mod Orthogonal
+pub mod Quotient
+pub mod Moments
+pub mod ProductLaw
+pub mod Gram

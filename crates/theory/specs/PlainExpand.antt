@@ -21,7 +21,7 @@ use Rattle.definitions.specs.Conversion.{expand}
 use Rattle.definitions.specs.Family.{Family, rows, size, rowAt, timesX}
 use Rattle.theory.specs.Bridge.{entries, rowsOf, entries-expand, expand-curve, curve-equal}
 use Rattle.theory.specs.Combination.{combination}
-use Rattle.theory.specs.Entries.{entries-zeros, entries-table}
+use Rattle.theory.specs.Entries.{entries-zeros, entries-table, entry-zero}
 use Rattle.theory.specs.PlainModels.{State, zeros, constant, expandEntry, expandStep, expandState, plainExpand, expandState-curves}
 use Rattle.theory.specs.Recurrence.{Rows, poly, poly-zero, poly-one, poly-step, co-poly}
 
@@ -127,6 +127,11 @@ module _ (f : Family) (pos : 0 < f .m) where
     expandState-partial (suc i) k e =
         let here : rows f -ℕ i ≡ k = omega arith in
         rw here (expandStep-partial i k (expandState f u i) (omega arith) (expandState-partial i (suc k) (omega arith)))
+
+    -- after i steps nothing stands from place i on, so a loop may stop there
+    pub expandState-ends : (i t : ℕ) → i ≤ size f → i ≤ t → getD (expandState f u i .current) t 0 ≡ 0
+    expandState-ends i t b h = entry-zero f pos (expandState f u i .current) (expandState-curves f pos u i .currentCurve) t
+        (expandState-partial i (size f -ℕ i) (omega arith) .currentHolds t ∙ partial-degree Q ρ (entries m pos u) (size f -ℕ i) (suc i) t (omega arith))
 
     pub plainExpand-expand : plainExpand f u ≡ expand f u
     unfolding plainExpand
