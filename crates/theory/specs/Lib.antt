@@ -13,6 +13,13 @@ pub mod RoundTrip
 pub mod Linear
 pub mod TransposedIdentity
 pub mod Operator
+pub mod PlainModels
+pub mod Entries
+pub mod PlainExpand
+pub mod PlainAdjoint
+pub mod Closing
+pub mod Horner
+pub mod PlainDecompose
 pub mod Reversal
 pub mod Determinant
 pub mod Favard

@@ -123,6 +123,9 @@ module _ {f : ℕ → ℕ} {k : ℕ} {old out : List ℕ} (now : Filling f k old
   filling-next {r} h e =
       record { written = rw (now .written, e) (filled-more f old k h); sameLength = length-set out k r ∙ now .sameLength }
 
+  pub filling-stop : (n : ℕ) → k ≡ n → out ≡ filled f n old
+  filling-stop n e = now .written ∙ ap (λ i. filled f i old) e
+
   pub filling-end : (n : ℕ) → k ≡ n → length old ≡ n → out ≡ table n f
   filling-end n e l = now .written ∙ rw e (filled-all f old n l)
 

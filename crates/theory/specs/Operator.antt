@@ -145,6 +145,9 @@ module _ (R : CommRing) where
       pairing-first p t = sym (sum-cut R n (suc n) (λ i. u (t + i) ⊗ p i) (omega arith) (λ i h. ap (λ x. x ⊗ p i) (ends (t + i) (omega arith)) ∙ Ring.zero-mul R (p i)))
           ∙ sum-first R n (λ i. u (t + i) ⊗ p i) ∙ ap₂ _⊕_ (ap (λ j. u j ⊗ p 0) (add-zero t)) (sum-cong R n (λ i h. ap (λ j. u j ⊗ p (suc i)) (omega arith)))
 
+      pub pairing-past : (p : ℕ → Car) (t : ℕ) → n ≤ t → pairing .to p t ≡ 𝟘
+      pairing-past p t h = sum-vanish R n (λ i l. ap (λ x. x ⊗ p i) (ends (t + i) (omega arith)) ∙ Ring.zero-mul R (p i))
+
       pub pairing-forward : (p : ℕ → Car) (t : ℕ) → pairing .to (shift R p) t ≡ pairing .to p (suc t)
       pairing-forward p t = pairing-first (shift R p) t ∙ ap (λ x. x ⊕ pairing .to p (suc t)) (Ring.mul-zero R (u t)) ∙ Ring.zero-add R (pairing .to p (suc t))
 

@@ -28,7 +28,7 @@ module _ (m : ℕ) (g d : List ℕ) where
   quotient-length zero = refl
   quotient-length (suc k) = snoc-length (quotient m g d k) (nextQuotient m g d k (quotient m g d k)) ∙ ap suc (quotient-length k)
 
-  quotient-suc : (k : ℕ) → quotient m g d (suc k) ≡ quotient m g d k ++ nextQuotient m g d k (quotient m g d k) ∷ []
+  pub quotient-suc : (k : ℕ) → quotient m g d (suc k) ≡ quotient m g d k ++ nextQuotient m g d k (quotient m g d k) ∷ []
   unfolding quotient
   quotient-suc k = refl
 

@@ -1,0 +1,65 @@
+// The plain ways, on input that is already checked: row by row, one remainder for each coefficient, in local arrays. Lists are
+// lent whole, with n: the first n - 1 entries of the rows' lists take part, the first n of the curve, and the first n of the
+// output are written.
+ghost use mathlib.Core.Path.{_≡_};
+ghost use mathlib.Core.List.{List, _++_};
+ghost use Prim.Native.Nat.{_-_, _≤_};
+ghost use lib.ListN.{length, getD, take, drop};
+ghost use Rattle.definitions.specs.Conversion.{expand, adjoint, decompose};
+ghost use Rattle.plain.specs.Input.{firstRows, ConvertInput, InversesOf};
+use polynomial::copy;
+use polynomial::horner_row;
+use polynomial::lower_row;
+use polynomial::raise_row;
+use polynomial::zeros;
+
+// The entry at i of the first rows entries, and that of the closing row from there on.
+fn row_entry(list: &[u32], rows: usize, i: usize, close: u32) -> u32
+    requires { ⌜ rows ≤ length (now list) ⌝ }
+    ensures { λ r. ⌜ r ≡ getD (take rows (now (list .entry))) i close ⌝ }
+{
+    if i < rows { list[i] } else { close }
+}
+
+// The coefficients in powers of x, downwards (Clenshaw): after i steps current is B_{n-i}, of i coefficients, and older
+// B_{n-i+1}, where B_k = u_k + (a_{k+1} x + b_{k+1}) B_{k+1} + c_{k+2} B_{k+2}. The closing row multiplies zeros.
+pub fn expand(m: u32, a: &[u32], b: &[u32], c: &[u32], curve: &[u32], n: usize, output: &mut [u32])
+    requires { ⌜ ConvertInput m (now a) (now b) (now c) (now curve) n (now output) ⌝ }
+    ensures { λ _. ⌜ now (output .exit) ≡ expand (firstRows m n (now (a .entry)) (now (b .entry)) (now (c .entry))) (take n (now (curve .entry))) ++ drop n (now (output .entry)) ⌝ }
+{
+    let rows = n - 1;
+    let mut current = zeros();
+    let mut older = zeros();
+    let mut i: usize = 0;
+    while i < n {
+        let k = rows - i;
+        let x = curve[k];
+        let p = row_entry(a, rows, k, 1);
+        let q = row_entry(b, rows, k, 1);
+        let r = row_entry(c, rows, k + 1, 1);
+        lower_row(m, x, p, q, r, &mut current, &mut older, i + 1);
+        i += 1;
+    }
+    copy(&current, n, output);
+}
+
+// The transposed of expand, upwards: after j rows current[t] is the sum of u_i times the coefficient of x^i in x^t F_j, for t below
+// n - j, and older the same of F_{j-1}. Entry j of the output is the first of them.
+pub fn adjoint(m: u32, a: &[u32], b: &[u32], c: &[u32], curve: &[u32], n: usize, output: &mut [u32])
+    requires { ⌜ ConvertInput m (now a) (now b) (now c) (now curve) n (now output) ⌝ }
+    ensures { λ _. ⌜ now (output .exit) ≡ adjoint (firstRows m n (now (a .entry)) (now (b .entry)) (now (c .entry))) (take n (now (curve .entry))) ++ drop n (now (output .entry)) ⌝ }
+{
+    let rows = n - 1;
+    let mut current = zeros();
+    let mut older = zeros();
+    copy(curve, n, &mut current);
+    let mut j: usize = 0;
+    while j < n {
+        output[j] = current[0];
+        let p = row_entry(a, rows, j, 1);
+        let q = row_entry(b, rows, j, 1);
+        let r = row_entry(c, rows, j, 1);
+        raise_row(m, p, q, r, &mut current, &mut older, rows - j);
+        j += 1;
+    }
+}
