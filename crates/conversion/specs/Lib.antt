@@ -1,4 +1,4 @@
--- How the tests that a call makes settle its answer. Assumes nothing.
+-- How a call's verdict settles its answer, and how its core meets the definition. Assumes nothing.
 pub mod Inverting
-pub mod CurveCall
-pub mod FamilyCall
+pub mod PlainCall
+pub mod PlainCore

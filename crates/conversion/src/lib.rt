@@ -3,9 +3,12 @@
 ghost use mathlib.Core.Path.{_≡_};
 ghost use mathlib.Core.List.{List, [], _∷_};
 ghost use Prim.Native.Nat.{ℕ};
-ghost use Rattle.definitions.specs.Answers.{valued};
+ghost use lib.ListN.{length};
+ghost use Rattle.definitions.specs.Answers.{valued, Converted};
+ghost use Rattle.definitions.specs.Conversion.{expand, adjoint};
+ghost use Rattle.definitions.specs.Family.{family};
 ghost use Rattle.definitions.specs.Number.{inverse};
-ghost use Rattle.definitions.specs.Refusals.{verdict, inverseTests};
+ghost use Rattle.definitions.specs.Refusals.{verdict, plainTests, inverseTests};
 use definitions::Answer;
 use definitions::Valued;
 use residue::Inversion;
@@ -25,4 +28,45 @@ pub fn invert(m: u32, x: u32) -> Valued
         return Valued::Refused(13);
     };
     Valued::Value(y)
+}
+
+// Expand, row by row: from a curve the n coefficients, in powers of x, of the sum of its entries times F_i.
+// Refused with 3 to 7: m, the lists or their lengths are not in order (the station's program); with 9 to 11: an entry of the family
+// is not below m or lacks an inverse (the maker of the element); with 12: a curve entry is not below m (the sender of the curve).
+pub fn plain_expand(
+    m: u32,
+    a: &[u32],
+    b: &[u32],
+    c: &[u32],
+    curve: &[u32],
+    output: &mut [u32],
+) -> Answer
+    ensures { λ r. ⌜ Converted (plainTests (family m (now (a .entry)) (now (b .entry)) (now (c .entry))) (now (curve .entry)) (length (now (output .entry)))) (expand (family m (now (a .entry)) (now (b .entry)) (now (c .entry))) (now (curve .entry))) r (now (output .entry)) (now (output .exit)) ⌝ }
+{
+    let tested = verdicts::plain(m, a, b, c, curve, output.len());
+    let Answer::Finished = tested else {
+        return tested;
+    };
+    plain::expand(m, a, b, c, curve, a.len() + 1, output);
+    Answer::Finished
+}
+
+// Adjoint (transposed expand), row by row: entry j is the sum over i of curve entry i times the coefficient of x^i in F_j.
+// Refused as plain_expand is.
+pub fn plain_adjoint(
+    m: u32,
+    a: &[u32],
+    b: &[u32],
+    c: &[u32],
+    curve: &[u32],
+    output: &mut [u32],
+) -> Answer
+    ensures { λ r. ⌜ Converted (plainTests (family m (now (a .entry)) (now (b .entry)) (now (c .entry))) (now (curve .entry)) (length (now (output .entry)))) (adjoint (family m (now (a .entry)) (now (b .entry)) (now (c .entry))) (now (curve .entry))) r (now (output .entry)) (now (output .exit)) ⌝ }
+{
+    let tested = verdicts::plain(m, a, b, c, curve, output.len());
+    let Answer::Finished = tested else {
+        return tested;
+    };
+    plain::adjoint(m, a, b, c, curve, a.len() + 1, output);
+    Answer::Finished
 }
