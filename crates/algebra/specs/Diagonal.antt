@@ -5,7 +5,7 @@
 -- rectangle or a square. `diag` stays shut: `diag-zero` and `diag-first` are its clauses.
 -- Assumes nothing.
 use mathlib.Core.Path.{_≡_, refl, sym, _∙_, ap, ap₂}
-use Prim.Native.Nat.{ℕ, zero, suc, _+_, _-_, _<_, _≤_}
+use Prim.Native.Nat.{ℕ, zero, suc, _+_, _-_, _≤_}
 use native.Mathlib.Omega.{arith}
 use Rattle.algebra.specs.Ring
 use Rattle.algebra.specs.Ring.{CommRing}
@@ -80,7 +80,7 @@ module _ (R : CommRing) where
   diag-sum (suc n) f = ap₂ _⊕_ (ap (f 0) (omega arith)) (diag-sum n (λ i j. f (suc i) j) ∙ sum-cong R (suc n) (λ i p. ap (f (suc i)) (omega arith)))
       ∙ sym (sum-first R (suc n) (λ i. f i (suc n - i)))
 
-  -- the triangle i + j < n, by diagonals and by rows
+  -- the triangle i + j < n, by diagonals and by rows: row 0 is apart, and below it stands the triangle of f (suc i)
   pub sum-diag : (n : ℕ) (f : ℕ → ℕ → Car) → sum R n (λ k. diag k f) ≡ sum R n (λ i. sum R (n - i) (λ j. f i j))
   unfolding diag
   sum-diag zero f = sum-empty R (λ k. diag k f) ∙ sym (sum-empty R (λ i. sum R (0 - i) (f i)))

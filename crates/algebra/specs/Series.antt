@@ -23,6 +23,7 @@ module _ (R : CommRing) where
   constantOne zero = 𝟙
   constantOne (suc n) = 𝟘
 
+  -- by a diagonal sum, so that no subtraction enters the laws
   convolution : (ℕ → Car) → (ℕ → Car) → ℕ → Car
   convolution f g n = diag R n (λ i j. f i ⊗ g j)
 

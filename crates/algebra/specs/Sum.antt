@@ -111,3 +111,9 @@ module _ (R : CommRing) where
       → sum n (λ i. sum m (λ j. u j ⊗ p j i) ⊗ s i) ≡ sum m (λ j. u j ⊗ sum n (λ i. p j i ⊗ s i))
   sum-linear m n u p s = sum-cong n (λ i h. sym (sum-mul-right m (λ j. u j ⊗ p j i) (s i))) ∙ sum-exchange n m (λ i j. u j ⊗ p j i ⊗ s i)
       ∙ sum-cong m (λ j h. sum-cong n (λ i g. R .mul-assoc (u j) (p j i) (s i)) ∙ sum-mul-left n (u j) (λ i. p j i ⊗ s i))
+
+  -- the terms of a square, collected by i + j: d k i j is the term where k = i + j, and zero elsewhere
+  pub sum-collect : (n m : ℕ) (f : ℕ → ℕ → Car) (d : ℕ → ℕ → ℕ → Car) → n + n ≤ suc m → ((i j : ℕ) → d (i + j) i j ≡ f i j)
+      → ((k i j : ℕ) → ¬ (k ≡ i + j) → d k i j ≡ 𝟘) → sum m (λ k. sum n (λ i. sum n (λ j. d k i j))) ≡ sum n (λ i. sum n (λ j. f i j))
+  sum-collect n m f d h e z = sum-exchange m n (λ k i. sum n (λ j. d k i j)) ∙ sum-cong n (λ i p. sum-exchange m n (λ k j. d k i j)
+      ∙ sum-cong n (λ j q. sum-single m (i + j) (λ k. d k i j) (omega arith) (λ k r. z k i j) ∙ e i j))

@@ -1,7 +1,7 @@
 -- Constants and the variable in the ring of power series.
 --   C R c : the series c + 0·x + ..
 --   X R : the series x
---   shift p : the coefficients of x·p, where p are those of a series
+--   shift R p : 0, p 0, p 1, ..: the coefficients of x times the series with coefficients p
 --   coefficients : the laws of `co`, for `simp`, that take a series written with +, -, C and X apart
 -- Proves that C is a map of rings, that C c scales and that X shifts coefficients.
 -- Assumes nothing.
