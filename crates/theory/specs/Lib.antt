@@ -3,3 +3,4 @@ pub mod Lists
 pub mod Remainder
 pub mod Inverse
 pub mod Recurrence
+pub mod Level
