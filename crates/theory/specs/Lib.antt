@@ -4,3 +4,4 @@ pub mod Remainder
 pub mod Inverse
 pub mod Recurrence
 pub mod Level
+pub mod Bridge

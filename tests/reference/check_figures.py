@@ -1,0 +1,98 @@
+"""The scope paper's figures: P1 to P12, and those that are run only."""
+
+import calls
+import jobs
+from cases import Case, family_case, inverse_case, run
+from curves import Family
+
+R = Family(7, (1, 2), (0, 3), (1, 5))
+NO_ROWS_7 = Family(7, (), (), ())
+P10_FAMILY = Family(15, (3,), (0,), (5,))
+P12_FAMILY = Family(15, (2,), (1,), (4,))
+SHOWN_JOB = b"mod=7\na=1 2\nb=0 3\nc=1 5\nop=expand\nv=3 0 1\n"
+
+PROVED = (
+    ("P1", family_case(1, R, (3, 0, 1)), 0, [1, 3, 2]),
+    ("P1 tree", family_case(6, R, (3, 0, 1)), 0, [1, 3, 2]),
+    ("P2", family_case(2, R, (1, 3, 2)), 0, [1, 3, 4]),
+    ("P2 tree", family_case(7, R, (1, 3, 2)), 0, [1, 3, 4]),
+    ("P3", family_case(3, R, (1, 3, 2)), 0, [3, 0, 1]),
+    ("P3 tree", family_case(8, R, (1, 3, 2)), 0, [3, 0, 1]),
+    ("P4", family_case(9, R, ()), 0, [1, 0, 1, 2, 1]),
+    ("P5", family_case(4, R, ()), 0, [1, 1, 5]),
+    ("P6", family_case(1, Family(2, (), (), ()), (1,)), 0, [1]),
+    ("P6 tree", family_case(6, Family(2, (), (), ()), (1,)), 0, [1]),
+    ("P7", family_case(1, Family(2, (1,), (1,), (1,)), (1, 1)), 0, [0, 1]),
+    ("P7 tree", family_case(6, Family(2, (1,), (1,), (1,)), (1, 1)), 0, [0, 1]),
+    ("P8", inverse_case(15, 4), 0, [4]),
+    ("P9", inverse_case(15, 6), 13, []),
+    ("P10", family_case(1, P10_FAMILY, (1, 1)), 10, [4294967295, 4294967294]),
+    ("P10 tree", family_case(6, P10_FAMILY, (1, 1)), 10, [4294967295, 4294967294]),
+    ("P11 moments", family_case(9, NO_ROWS_7, ()), 0, [1]),
+    ("P11 norms", family_case(4, NO_ROWS_7, ()), 0, [1]),
+    ("P12 moments", family_case(9, P12_FAMILY, ()), 0, [8, 11, 13]),
+    ("P12 norms", family_case(4, P12_FAMILY, ()), 0, [8, 14]),
+)
+
+
+def ones(modulus, row_count):
+    """The family whose entries are all 1."""
+    return Family(modulus, *((1,) * row_count for _ in range(3)))
+
+
+def run_only_cases():
+    """The run-only figures on lists: name, case, verdict."""
+    inner = Case(6, 7, (1,), (1,), (1,), (1, 1), 2, 16383)
+    return (
+        ("m = 1", family_case(1, Family(1, (), (), ()), (0,)), 3),
+        ("m = 1, inverse", inverse_case(1, 0), 3),
+        ("m = 2147483647", family_case(1, ones(2147483647, 1), (1, 1)), 0),
+        ("m = 2147483647, inverse", inverse_case(2147483647, 2147483646), 0),
+        ("m = 2147483648", family_case(1, ones(2147483648, 1), (1, 1)), 3),
+        ("m = 2147483648, inverse", inverse_case(2147483648, 1), 3),
+        ("127 rows", family_case(6, ones(7, 127), (1,) * 128), 0),
+        ("128 rows", family_case(6, ones(7, 128), (1,) * 129), 5),
+        ("curve entry 6", family_case(1, R, (6, 6, 6)), 0),
+        ("curve entry 7", family_case(1, R, (3, 0, 7)), 12),
+        ("working list of 16,383", inner, 8),
+    )
+
+
+def text_of_length(length):
+    """A text of the job's form with exactly this many bytes."""
+    empty = b"mod=7\na=\nb=\nc=\nop=norms\nv=\n"
+    missing = length - len(empty)
+    zeros = b"0 " * ((missing - 1) // 2) + (b"0" if missing % 2 else b"10")
+    return empty.replace(b"v=", b"v=" + zeros)
+
+
+def run_only_texts():
+    """The run-only figures on texts: name, text, verdict."""
+    return (
+        ("shown job", SHOWN_JOB, 0),
+        ("8,192 bytes", text_of_length(8192), 6),
+        ("8,193 bytes", text_of_length(8193), 1),
+        ("4294967295 in v", SHOWN_JOB.replace(b"3 0 1", b"3 0 4294967295"), 12),
+        ("4294967296 in v", SHOWN_JOB.replace(b"3 0 1", b"3 0 4294967296"), 2),
+        ("no last byte 10", SHOWN_JOB[:-1], 2),
+    )
+
+
+def check(tally, _source):
+    """All figures; they are the same for every seed."""
+    for name, case, verdict, output in PROVED:
+        outcome = run(case)
+        tally.equal("figures", (name, case), (verdict, output), (outcome.verdict, outcome.output))
+    for name, case, verdict in run_only_cases():
+        tally.equal("figures", (name, case), verdict, run(case).verdict)
+    for length in (8191, 8192, 8193):
+        tally.equal("figures", "length of a made text", length, len(text_of_length(length)))
+    for name, text, verdict in run_only_texts():
+        outcome = jobs.text_call(text, bytes(4096), [0] * calls.WORKING_LENGTH)
+        tally.equal("figures", (name, text), verdict, outcome.verdict)
+    tally.equal(
+        "figures", SHOWN_JOB, b"op=expand\nout=1 3 2\n", jobs.program_answer(SHOWN_JOB)
+    )
+    tally.equal(
+        "figures", SHOWN_JOB[:-1], b"refused=2\n", jobs.program_answer(SHOWN_JOB[:-1])
+    )

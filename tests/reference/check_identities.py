@@ -1,0 +1,186 @@
+"""Identities and second ways, on random and classical families.
+
+Sizes run over the ends of the tree's levels; moduli are prime, composite and
+powers of two. Every size meets at least one modulus of each kind.
+"""
+
+from dataclasses import replace
+from fractions import Fraction
+from math import comb, factorial, gcd
+
+import curves
+import second_ways
+from families import (
+    CLASSICAL,
+    COMPOSITES,
+    OTHER_SIZES,
+    POWERS_OF_TWO,
+    PRIMES,
+    SIZES,
+    classical_family,
+    classical_row,
+    greatest_family,
+    random_curve,
+    random_family,
+    random_unit,
+)
+
+ROUNDS_SHORT, ROUNDS_LONG = 8, 2
+LARGE_PRIME = 2147483647
+
+
+def even_moment(value):
+    """A sequence of moments whose odd ones are zero."""
+    return lambda k: value(k // 2) if k % 2 == 0 else Fraction(0)
+
+
+CLASSICAL_MOMENTS = {
+    "Chebyshev T": even_moment(lambda h: Fraction(comb(2 * h, h), 4**h)),
+    "Chebyshev U": even_moment(lambda h: Fraction(comb(2 * h, h), 2 * (h + 1) * 4**h)),
+    "Legendre": even_moment(lambda h: Fraction(1, 2 * h + 1)),
+    "Laguerre": lambda k: Fraction(-factorial(k)),
+    "Hermite": even_moment(lambda h: Fraction(factorial(2 * h), 2 * 4**h * factorial(h))),
+}
+
+
+def inner(left, right, modulus):
+    """The sum of the products of two equally long lists."""
+    return sum(x * y for x, y in zip(left, right, strict=True)) % modulus
+
+
+def check_inverse(tally, source):
+    """Inverse against search for small moduli, against gcd for great ones."""
+    for modulus in range(2, 41):
+        for x in range(modulus):
+            expected = second_ways.inverse_by_search(x, modulus)
+            tally.equal("inverse", (modulus, x), expected, curves.inverse(x, modulus))
+    for _ in range(2000):
+        modulus = 2 + source.below(LARGE_PRIME - 1)
+        x = source.below(modulus)
+        found = curves.inverse(x, modulus)
+        tally.equal("inverse", (modulus, x), gcd(x, modulus) == 1, found is not None)
+        if found is not None:
+            tally.equal("inverse", (modulus, x), (1, True), (x * found % modulus, found < modulus))
+
+
+def check_curves(tally, source, family):
+    """Both round trips, the transposed identity, and the second ways."""
+    modulus, n = family.modulus, family.n
+    u, v = random_curve(source, modulus, n), random_curve(source, modulus, n)
+    expanded = curves.expand(family, u)
+    decomposed = curves.decompose(family, v)
+    tally.equal("round trip", (family, u), list(u), curves.decompose(family, expanded))
+    tally.equal("round trip", (family, v), list(v), curves.expand(family, decomposed))
+    turned = curves.adjoint(family, v)
+    case = (family, u, v)
+    tally.equal(
+        "transposed", case, inner(v, expanded, modulus), inner(turned, u, modulus)
+    )
+    tally.equal("second way", case, second_ways.expand_from_the_top(family, u), expanded)
+    tally.equal("second way", case, second_ways.adjoint_by_table(family, v), turned)
+    tally.equal("second way", case, second_ways.decompose_by_moments(family, v), decomposed)
+
+
+def check_moments(tally, source, family, closing):
+    """Moments and norms: the product law, the quotient multiplied out, paths."""
+    modulus, n = family.modulus, family.n
+    case = (family, closing)
+    moments = curves.moments(family, closing)
+    norms = curves.norms(family, closing)
+    u, v = random_curve(source, modulus, n), random_curve(source, modulus, n)
+    by_moments, by_norms = curves.product_law_totals(family, u, v, closing)
+    tally.equal("product law", (*case, u, v), by_norms, by_moments)
+    tally.equal("norms", case, True, all(gcd(norm, modulus) == 1 for norm in norms))
+    tally.equal("moments", case, second_ways.moments_by_paths(family, closing), moments)
+    denominator = curves.reversal(curves.basis(family, closing)[n], n + 1)
+    numerator = curves.reversal(curves.associated(family, closing)[n - 1], 2 * n - 1)[n - 1 :]
+    product = curves.uncut_product(moments, denominator, modulus)[: 2 * n - 1]
+    tally.equal("moments", case, numerator + [0] * (n - 1), product)
+    other_b = (closing[0], source.below(modulus), closing[2])
+    tally.equal("moments", (case, other_b), moments, curves.moments(family, other_b))
+
+
+def check_free_first_c(tally, source, family):
+    """c_1 multiplies F_{-1} = 0, so another unit there changes no list."""
+    other = random_unit(source, family.modulus)
+    changed = replace(family, c=(other, *family.c[1:]))
+    curve = random_curve(source, family.modulus, family.n)
+    for operation in (curves.expand, curves.adjoint, curves.decompose):
+        case = (operation.__name__, family, curve, other)
+        tally.equal("free c_1", case, operation(family, curve), operation(changed, curve))
+    for operation in (curves.moments, curves.norms):
+        case = (operation.__name__, family, other)
+        tally.equal("free c_1", case, operation(family), operation(changed))
+
+
+def check_matrices(tally, family):
+    """F_n and G_{n-1} against the products of their rows' matrices."""
+    n, modulus = family.n, family.modulus
+    rows = family.rows()
+    matrix = second_ways.matrix_of_rows(rows, modulus)
+    tally.equal(
+        "matrices",
+        family,
+        curves.basis(family)[n],
+        second_ways.trimmed(matrix[1][1], n + 1),
+    )
+    matrix = second_ways.matrix_of_rows(rows[1:], modulus)
+    tally.equal(
+        "matrices",
+        family,
+        curves.associated(family)[n - 1],
+        second_ways.trimmed(matrix[1][1], n),
+    )
+
+
+def check_orthogonal(tally, family):
+    """Every pair F_i, F_j under the moments: norm i if i = j, else zero."""
+    units = [tuple(int(i == j) for j in range(family.n)) for i in range(family.n)]
+    norms = curves.norms(family)
+    for i, u in enumerate(units):
+        for j, v in enumerate(units):
+            expected = norms[i] if i == j else 0
+            by_moments, by_norms = curves.product_law_totals(family, u, v)
+            tally.equal("orthogonal", (family, i, j), (expected, expected), (by_moments, by_norms))
+
+
+def check_classical(tally, name, row_count):
+    """The moments of a classical family, its own next row closing it."""
+    family = classical_family(name, LARGE_PRIME, row_count, 1)
+    closing = classical_row(name, LARGE_PRIME, row_count + 1)
+    known = [CLASSICAL_MOMENTS[name](k) for k in range(2 * row_count + 1)]
+    expected = [
+        curves.divide(moment.numerator % LARGE_PRIME, moment.denominator % LARGE_PRIME, LARGE_PRIME)
+        for moment in known
+    ]
+    tally.equal("classical", (name, row_count), expected, curves.moments(family, closing))
+
+
+def check_family(tally, source, family):
+    """All identities on one family, with the paper's closing row and another."""
+    modulus = family.modulus
+    check_curves(tally, source, family)
+    check_moments(tally, source, family, curves.CLOSING_ROW)
+    closing = (random_unit(source, modulus), source.below(modulus), random_unit(source, modulus))
+    check_moments(tally, source, family, closing)
+
+
+def check(tally, source):
+    """Identities on families of every size and kind of modulus."""
+    check_inverse(tally, source)
+    for row_count in SIZES + OTHER_SIZES:
+        for moduli in (PRIMES, COMPOSITES, POWERS_OF_TWO):
+            for _ in range(ROUNDS_SHORT if row_count < 9 else ROUNDS_LONG):
+                family = random_family(source, source.choice(moduli), row_count)
+                check_family(tally, source, family)
+                if row_count > 0:
+                    check_free_first_c(tally, source, family)
+                if row_count < 40:
+                    check_matrices(tally, family)
+                if row_count < 9:
+                    check_orthogonal(tally, family)
+    for row_count in (0, 1, 2, 127):
+        check_family(tally, source, greatest_family(LARGE_PRIME, row_count))
+    for name in CLASSICAL:
+        for row_count in (0, 1, 2, 3, 8, 15, 127):
+            check_classical(tally, name, row_count)

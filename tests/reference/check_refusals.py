@@ -1,0 +1,80 @@
+"""Each refusal number for each call that can give it, alone and with another.
+
+The expected number is known by how the case was spoiled, not by calls.py. On
+every case the output and the working list after the call are checked whole.
+"""
+
+from dataclasses import replace
+from itertools import combinations
+
+import cases
+import faults
+from families import random_curve, random_family
+
+BASES = ((15, 5), (7, 3), (2**30, 4), (2147483646, 3), (2, 6))
+PAIRS_EACH = 4
+
+
+def base_cases(source, call):
+    """Accepted cases of a call, with three rows or more."""
+    if call == cases.INVERSE:
+        return [cases.inverse_case(m, x) for m, x in ((15, 4), (7, 6), (2**30, 3))]
+    return [
+        cases.family_case(
+            call,
+            random_family(source, modulus, row_count),
+            random_curve(source, modulus, row_count + 1),
+        )
+        for modulus, row_count in BASES
+    ]
+
+
+def check_refused(tally, kind, case, verdict):
+    """A refused case: its number, and both lists as they were."""
+    outcome = cases.run(case)
+    has_working = case.call in cases.WITH_WORKING
+    expected = (
+        verdict,
+        cases.output_before(case.output_length),
+        cases.working_before(case.working_length) if has_working else None,
+    )
+    tally.equal(kind, case, expected, (outcome.verdict, outcome.output, outcome.working))
+
+
+def check_accepted(tally, case):
+    """An accepted case: verdict 0, an output below m, the working list's rule."""
+    outcome = cases.run(case)
+    tally.equal("accepted", case, 0, outcome.verdict)
+    length = 1 if case.call == cases.INVERSE else case.output_length
+    tally.equal("accepted", case, length, len(outcome.output))
+    tally.equal("accepted", case, True, all(0 <= x < case.modulus for x in outcome.output))
+    if case.call in cases.WITH_WORKING:
+        kept = [4000000000 + place % 1000 for place in range(16384, case.working_length)]
+        tally.equal("accepted", case, [0] * 16384 + kept, outcome.working)
+    else:
+        tally.equal("accepted", case, None, outcome.working)
+
+
+def check_longer_working(tally, source, call):
+    """Working lists longer than asked for keep what they held further on."""
+    for row_count in (0, 1, 6):
+        family = random_family(source, 15, row_count)
+        case = cases.family_case(call, family, random_curve(source, 15, row_count + 1))
+        for length in (16384, 16385, 20000):
+            check_accepted(tally, replace(case, working_length=length))
+
+
+def check(tally, source):
+    """All calls, all their numbers, and all pairs of numbers."""
+    for call, numbers in cases.REFUSALS.items():
+        for case in base_cases(source, call):
+            check_accepted(tally, case)
+            for number in numbers:
+                for spoiled in faults.faults(case, number):
+                    check_refused(tally, "one fault", spoiled, number)
+            for lower, higher in combinations(numbers, 2):
+                for _ in range(PAIRS_EACH):
+                    spoiled = faults.two_faults(source, case, lower, higher)
+                    check_refused(tally, "two faults", spoiled, lower)
+        if call in cases.WITH_WORKING:
+            check_longer_working(tally, source, call)
