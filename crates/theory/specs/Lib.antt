@@ -5,3 +5,6 @@ pub mod Inverse
 pub mod Recurrence
 pub mod Level
 pub mod Bridge
+pub mod Products
+pub mod Tree
+pub mod TreeExamples
