@@ -5,7 +5,7 @@
 -- both bounds, which is what code shows of the leading zeros of n - 1. Up to n = 256 the span is 256 at most, and it covers the
 -- n + 1 = 129 coefficients of F_n at 127 rows. The report, section 2; the scope paper, 'The tree covers the least power of two'.
 -- Assumes nothing.
-use mathlib.Core.Path.{_≡_, refl, sym, _∙_, ap}
+use mathlib.Core.Path.{_≡_, refl, ap}
 use mathlib.Core.Bool.{Bool, true, false}
 use mathlib.Core.Logic.{_⊎_, inl, inr}
 use Prim.Native.Nat.{ℕ, zero, suc, _+_, _*_, _^_, _<_, _≤_}

@@ -8,3 +8,5 @@ pub mod Bridge
 pub mod Products
 pub mod Tree
 pub mod TreeExamples
+pub mod TreeLengths
+pub mod TreeBelow

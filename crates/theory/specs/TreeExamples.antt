@@ -15,7 +15,7 @@ use Rattle.definitions.specs.Conversion.{expand, adjoint}
 use Rattle.definitions.specs.Figures.{four}
 use Rattle.theory.specs.Level.{span, levelFrom, levelFor}
 use Rattle.theory.specs.Products.{productAt, plusProduct, plusProducts, transposedAt, transposed, transposedSum}
-use Rattle.theory.specs.Tree.{leaf, join, node, raise, up, expandAt, treeExpand, firstTerms, lower, down, rootPair, adjointAt, treeAdjoint}
+use Rattle.theory.specs.Tree.{withTree, leaf, join, node, raise, up, expandAt, treeExpand, firstTerms, lower, down, rootPair, adjointAt, treeAdjoint}
 
 pub record Example : Type 0 where
   pub family : Family
@@ -53,9 +53,9 @@ unfolding sum table rowAt timesX term F adjoint
 adjoint-examples = refl
 
 pub tree-expand-examples : map (λ x. treeExpand (x .family) (x .input)) examples ≡ map (λ x. x .expanded) examples
-unfolding sum table rowAt span levelFrom levelFor productAt plusProduct plusProducts leaf join node raise up expandAt treeExpand
+unfolding sum table rowAt span levelFrom levelFor productAt plusProduct plusProducts withTree leaf join node raise up expandAt treeExpand
 tree-expand-examples = refl
 
 pub tree-adjoint-examples : map (λ x. treeAdjoint (x .family) (x .input)) examples ≡ map (λ x. x .adjoined) examples
-unfolding sum table rowAt span levelFrom levelFor productAt plusProducts transposedAt transposed transposedSum leaf join node firstTerms lower down rootPair adjointAt treeAdjoint
+unfolding sum table rowAt span levelFrom levelFor productAt plusProducts transposedAt transposed transposedSum withTree leaf join node firstTerms lower down rootPair adjointAt treeAdjoint
 tree-adjoint-examples = refl
