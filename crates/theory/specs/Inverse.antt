@@ -12,8 +12,8 @@ use native.Mathlib.Nat.{mod-eq-of-lt, mod-lt, mul-assoc, mul-comm, mul-left-comm
 use native.Mathlib.Omega.{arith}
 use lib.Dec.{eqb}
 use borrow.Author.Tests.{eq-eqb, ne-eqb}
+use Rattle.algebra.specs.Residues.{mod-mul-mod, mul-mod-mod}
 use Rattle.definitions.specs.Number.{HasInverse, inverse, inverseBelow}
-use Rattle.theory.specs.Remainder.{mod-mul-mod, mul-mod-mod}
 
 -- what the search below k answers
 record Searched (m x k r : ℕ) : Type 0 where
@@ -70,7 +70,7 @@ module _ (m x : ℕ) where
   inverses-agree : (y z : ℕ) → x * y % m ≡ 1 → x * z % m ≡ 1 → y % m ≡ z % m
   inverses-agree y z e f =
       let regrouped : y * (x * z) ≡ x * y * z = sym (mul-assoc y x z) ∙ ap (λ t. t * z) (mul-comm y x) in
-      cc (mul-mod-mod y (x * z) m, mod-mul-mod (x * y) m z, mul-one y, one-mul z)
+      cc (mul-mod-mod y (x * z) m, mod-mul-mod (x * y) z m, mul-one y, one-mul z)
 
   pub inverse-unique : (y : ℕ) → 1 < m → y < m → x * y % m ≡ 1 → y ≡ inverse m x
   unfolding HasInverse
@@ -89,7 +89,7 @@ one-has-inverse m h = (1, mod-eq-of-lt h)
 -- numbers of one remainder have the same inverse, or both have none
 module _ (m x y : ℕ) (same : x % m ≡ y % m) where
   products-agree : (z : ℕ) → x * z % m ≡ y * z % m
-  products-agree z = sym (mod-mul-mod x m z) ∙ rw same (mod-mul-mod y m z)
+  products-agree z = sym (mod-mul-mod x z m) ∙ rw same (mod-mul-mod y z m)
 
   pub has-inverse-remainder : HasInverse m x → HasInverse m y
   unfolding HasInverse
@@ -114,4 +114,4 @@ product-has-inverse m x y = (apart, together)
 
     together : HasInverse m x × HasInverse m y → HasInverse m (x * y)
     together ((z, e), (w, f)) =
-        (z * w, rw (mul-mul-mul-comm x y z w, ← mod-mul-mod (x * z) m (y * w), e, one-mul) f)
+        (z * w, rw (mul-mul-mul-comm x y z w, ← mod-mul-mod (x * z) (y * w) m, e, one-mul) f)

@@ -10,3 +10,8 @@ pub mod Tree
 pub mod TreeExamples
 pub mod TreeLengths
 pub mod TreeBelow
+pub mod Verdicts
+pub mod Acceptance
+pub mod Residue
+pub mod Curves
+pub mod Euclid
