@@ -1,6 +1,5 @@
 -- What is true of the definitions, for every modulus from 2 on and every convertible family. Assumes nothing.
 pub mod Lists
-pub mod Remainder
 pub mod Inverse
 pub mod Recurrence
 pub mod Level
@@ -15,3 +14,5 @@ pub mod Acceptance
 pub mod Residue
 pub mod Curves
 pub mod Euclid
+pub mod ListSeries
+pub mod TreeNodes
