@@ -16,3 +16,4 @@ pub mod Curves
 pub mod Euclid
 pub mod ListSeries
 pub mod TreeNodes
+pub mod Closing

@@ -13,11 +13,12 @@ use Prim.Native.Nat.{ℕ, zero, suc, _+_, _*_, _%_, _<_}
 use native.Mathlib.Omega.{arith}
 use lib.ListN.{getD, take}
 use Rattle.definitions.specs.Family.{Family, Row, rows, size, rowAt}
+use Rattle.theory.specs.Closing.{closedBy}
 use Rattle.theory.specs.Level.{span, levelFor}
 use Rattle.theory.specs.Products.{plusProduct, plusProducts, transposed, transposedSum}
 
 abbrev pub padded : Family → Family
-padded f = record { m = f .m; a = f .a; b = f .b; c = f .c; close = record { a = 0; b = 0; c = 0 } }
+padded f = closedBy (record { a = 0; b = 0; c = 0 }) f
 
 -- F_0 and F_1, the lowest power first
 abbrev pub F₀ : List ℕ
