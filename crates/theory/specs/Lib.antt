@@ -17,3 +17,5 @@ pub mod Euclid
 pub mod ListSeries
 pub mod TreeNodes
 pub mod Closing
+pub mod TreeExpand
+pub mod Alone
