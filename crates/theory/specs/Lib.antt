@@ -19,3 +19,6 @@ pub mod TreeNodes
 pub mod Closing
 pub mod TreeExpand
 pub mod Alone
+pub mod Pairing
+pub mod ListPairing
+pub mod TreeAdjoint
