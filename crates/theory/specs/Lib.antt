@@ -22,3 +22,4 @@ pub mod Alone
 pub mod Pairing
 pub mod ListPairing
 pub mod TreeAdjoint
+pub mod Extended
