@@ -23,3 +23,17 @@ pub mod Pairing
 pub mod ListPairing
 pub mod TreeAdjoint
 pub mod Extended
+pub mod Combination
+pub mod RoundTrip
+pub mod Linear
+pub mod TransposedIdentity
+pub mod Operator
+pub mod Reversal
+pub mod Determinant
+pub mod Favard
+pub mod Form
+pub mod Orthogonal
+pub mod Quotient
+pub mod Moments
+pub mod ProductLaw
+pub mod Gram
