@@ -117,7 +117,7 @@ join-below m n pos right left =
 pub node-below : (f : Family) → ((i : ℕ) → RowBelow (f .m) (rowAt f i)) → (l t : ℕ) → MatrixBelow (f .m) (node f l t)
 unfolding node
 node-below f row zero t = leaf-below (f .m) (rowAt f (suc t)) (rowAt f (suc (suc t))) (row (suc t))
-node-below f row (suc l) t = join-below (f .m) (suc (span (suc l))) (omega (arith, row 0 .aBelow)) (node f l (t + span l)) (node f l t)
+node-below f row (suc l) t = join-below (f .m) (suc (span (suc l))) (omega (arith, row 0 .aBelow)) _ _
 
 -- ---- up the tree
 pub raise-below : (m n : ℕ) → 0 < m → (left right : Pair) (x : Matrix) → PairBelow m (raise m n left right x)
@@ -127,7 +127,7 @@ raise-below m n pos left right x = record { b0 = plusProducts-below m n pos _ _ 
 pub up-below : (f : Family) (u : List ℕ) → Below (f .m) u → (l t : ℕ) → PairBelow (f .m) (up f u l t)
 unfolding up
 up-below f u h zero t = record { b0 = two-below (f .m) _ _ (h t) (omega (arith, h 0)); b1 = two-below (f .m) _ _ (h (suc t)) (omega (arith, h 0)) }
-up-below f u h (suc l) t = raise-below (f .m) (span (suc l)) (omega (arith, h 0)) (up f u l t) (up f u l (t + span l)) (node f l t)
+up-below f u h (suc l) t = raise-below (f .m) (span (suc l)) (omega (arith, h 0)) _ _ _
 
 pub expandAt-below : (f : Family) → 0 < f .m → (l : ℕ) (u : List ℕ) → Below (f .m) (expandAt f l u)
 unfolding expandAt

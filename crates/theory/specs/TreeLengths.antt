@@ -36,7 +36,7 @@ join-length m n right left =
 pub node-length : (f : Family) (l t : ℕ) → MatrixLength (suc (span l)) (node f l t)
 unfolding node span
 node-length f zero t = leaf-length (f .m) (rowAt f (suc t)) (rowAt f (suc (suc t)))
-node-length f (suc l) t = join-length (f .m) (suc (span (suc l))) (node f l (t + span l)) (node f l t)
+node-length f (suc l) t = join-length (f .m) (suc (span (suc l))) _ _
 
 -- ---- up the tree
 pub raise-length : (m n : ℕ) (left right : Pair) (x : Matrix) → PairLength n (raise m n left right x)
@@ -46,7 +46,7 @@ raise-length m n left right x = record { l0 = plusProducts-length m n _ _ _ _ _;
 pub up-length : (f : Family) (u : List ℕ) (l t : ℕ) → PairLength (span l) (up f u l t)
 unfolding up span
 up-length f u zero t = record { l0 = refl; l1 = refl }
-up-length f u (suc l) t = raise-length (f .m) (span (suc l)) (up f u l t) (up f u l (t + span l)) (node f l t)
+up-length f u (suc l) t = raise-length (f .m) (span (suc l)) _ _ _
 
 pub expandAt-length : (f : Family) (l : ℕ) (u : List ℕ) → length (expandAt f l u) ≡ size f
 unfolding expandAt
