@@ -1,5 +1,6 @@
--- With no rows n is 1 and F_0 = 1 is the only polynomial: Expand and Adjoint answer the remainder of the one entry.
--- Proved: expand-alone, adjoint-alone. The tree ways answer so and build no tree. Assumes nothing.
+-- With no rows n is 1 and F_0 = 1 is the only polynomial.
+-- Proved: Expand and Adjoint answer the remainder of the one entry. The tree ways do the same and build no tree.
+-- The scope paper, 'The definitions': 'For n = 1 Expand, Adjoint and Decompose build no tree'. Assumes nothing.
 use mathlib.Core.Path.{_≡_, refl, _∙_, ap}
 use mathlib.Core.List.{List, [], _∷_}
 use Prim.Native.Nat.{ℕ, zero, suc, _*_, _%_}

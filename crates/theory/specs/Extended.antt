@@ -18,6 +18,7 @@ use Rattle.definitions.specs.Number.{sum, table}
 use Rattle.theory.specs.Acceptance.{row-accepted}
 use Rattle.theory.specs.Closing.{EqualLengths, accepted-lengths}
 use Rattle.theory.specs.Lists.{snoc-length, table-equal}
+use Rattle.theory.specs.Sums.{sum-zero}
 use Rattle.theory.specs.Tree.{treeExpand}
 use Rattle.theory.specs.TreeBelow.{RowBelow, RowsBelow}
 use Rattle.theory.specs.TreeExpand.{tree-expand}
@@ -137,11 +138,6 @@ F-below f h j i = term-below (f .m) (rowAt f) h (suc j) i
 pub G-below : (f : Family) → 2 ≤ f .m → (j i : ℕ) → G f j i < f .m
 unfolding G
 G-below f h j i = term-below (f .m) (λ i. rowAt f (suc i)) h (suc j) i
-
-sum-zero : (n : ℕ) (g : ℕ → ℕ) → ((i : ℕ) → i < n → g i ≡ 0) → sum n g ≡ 0
-unfolding sum
-sum-zero zero g h = refl
-sum-zero (suc n) g h = let e : sum n g ≡ 0 = sum-zero n g (λ i p. h i (omega arith)) in let d : g n ≡ 0 = h n (omega arith) in omega arith
 
 sum-lastUnit : (r : ℕ) (g : ℕ → ℕ) → sum (suc r) (λ j. getD (lastUnit r) j 0 * g j) ≡ g r
 unfolding sum

@@ -6,6 +6,7 @@ pub mod Level
 pub mod Bridge
 pub mod Products
 pub mod Tree
+pub mod TreeClauses
 pub mod TreeExamples
 pub mod TreeLengths
 pub mod TreeBelow
@@ -37,3 +38,5 @@ pub mod Quotient
 pub mod Moments
 pub mod ProductLaw
 pub mod Gram
+pub mod Sums
+pub mod ProductTerms

@@ -1,4 +1,4 @@
--- The tree's Adjoint is Adjoint: THEOREM tree-adjoint, for every family of equally long lists and every list of n numbers.
+-- The tree's Adjoint is Adjoint, for every modulus but 0, every family of equally long lists and every list of n numbers.
 --   Terms f pos u n k xs    the n first numbers of xs are those of u against F_k, x F_k, x^2 F_k, ..
 --   Values f pos u n t v    the two lists of the pair v are such terms for F_t and F_{t+1}
 -- Proved: the root's pair has such terms, as many as the tree has rows; with 2 n of them at a node the left half has n by cutting
@@ -18,10 +18,10 @@ use Rattle.algebra.specs.Ring.{CommRing}
 use Rattle.algebra.specs.Series.{Ser}
 use Rattle.algebra.specs.Sum.{sum-cong}
 use Rattle.definitions.specs.Conversion.{adjoint}
-use Rattle.definitions.specs.Family.{Family, size}
+use Rattle.definitions.specs.Family.{Family, Accepted, Curve, size}
 use Rattle.theory.specs.Alone.{adjoint-alone}
 use Rattle.theory.specs.Bridge.{entries, rowsOf, entries-adjoint, adjoint-curve}
-use Rattle.theory.specs.Closing.{EqualLengths, adjoint-close}
+use Rattle.theory.specs.Closing.{EqualLengths, accepted-lengths, adjoint-close}
 use Rattle.theory.specs.Curves.{curves-equal-residues}
 use Rattle.theory.specs.Level.{span, levelFor, level-covers}
 use Rattle.theory.specs.ListPairing.{transposed-pairing, transposedSum-pairing}
@@ -29,8 +29,9 @@ use Rattle.theory.specs.ListSeries.{series}
 use Rattle.theory.specs.Pairing.{pairing, pairing-here, pairing-one}
 use Rattle.theory.specs.Products.{transposed, transposedSum}
 use Rattle.theory.specs.Recurrence.{term, co-poly}
-use Rattle.theory.specs.Tree.{padded, F₀, F₁, withTree-cases, Matrix, Pair, node, firstTerms, lower, down, rootPair, adjointAt, treeAdjoint}
+use Rattle.theory.specs.Tree.{padded, F₀, F₁, Matrix, Pair, node, firstTerms, lower, down, rootPair, adjointAt, treeAdjoint}
 use Rattle.theory.specs.TreeBelow.{adjointAt-below}
+use Rattle.theory.specs.TreeClauses.{withTree-cases}
 use Rattle.theory.specs.TreeLengths.{MatrixLength, node-length, down-length, adjointAt-length}
 use Rattle.theory.specs.TreeNodes.{P, Transition, node-transition, first-series, second-series}
 
@@ -139,3 +140,6 @@ pub tree-adjoint : (f : Family) → 0 < f .m → EqualLengths f → (u : List �
 unfolding treeAdjoint
 tree-adjoint f pos equal u long = withTree-cases (λ x. x ≡ adjoint f u) f u _ (λ e. sym (adjoint-alone f u e))
     (λ _. adjointAt-adjoint (padded f) pos u long (levelFor (size f)) (level-covers (size f)) ∙ adjoint-close f pos equal _ u)
+
+pub tree-adjoint-accepted : (f : Family) → Accepted f → (u : List ℕ) → Curve f u → treeAdjoint f u ≡ adjoint f u
+tree-adjoint-accepted f acc u curve = tree-adjoint f (omega (arith, acc .modulus .least)) (accepted-lengths f acc) u (curve .long)

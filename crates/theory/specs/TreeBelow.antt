@@ -16,7 +16,8 @@ use Rattle.theory.specs.Closing.{EqualLengths, accepted-lengths}
 use Rattle.theory.specs.Level.{span, levelFor}
 use Rattle.theory.specs.Lists.{getD-default}
 use Rattle.theory.specs.Products.{Below, plusProduct-below, plusProducts-below, transposed-below, transposedSum-below}
-use Rattle.theory.specs.Tree.{padded, Matrix, Pair, F₀, F₁, withTree-cases, leaf, join, node, raise, up, expandAt, treeExpand, firstTerms, lower, down, rootPair, adjointAt, treeAdjoint}
+use Rattle.theory.specs.Tree.{padded, Matrix, Pair, F₀, F₁, leaf, join, node, raise, up, expandAt, treeExpand, firstTerms, lower, down, rootPair, adjointAt, treeAdjoint}
+use Rattle.theory.specs.TreeClauses.{withTree-cases}
 
 pub record RowBelow (m : ℕ) (row : Row) : Type 0 where
   pub aBelow : row .a < m

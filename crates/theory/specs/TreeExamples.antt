@@ -5,8 +5,8 @@
 --   seven   n = 8, with no padding
 --   eight   n = 9: halves of eight rows, of which the left is joined from two joined quarters
 -- expand-examples, adjoint-examples: the definitions give those lists; tree-expand-examples, tree-adjoint-examples: so does the
--- tree; tree-F-example, tree-G-example: F_5 and G_4 of `four`. All by computation, so that a wrong tree is refused here, too.
--- Assumes nothing.
+-- tree; tree-F-example, tree-G-example: F_5 and G_4 of `four`; span-examples: sizes of trees. All by computation, so that a wrong
+-- tree is refused here, too. Assumes nothing.
 use mathlib.Core.Path.{_≡_, refl}
 use mathlib.Core.List.{List, [], _∷_, map}
 use Prim.Native.Nat.{ℕ}
@@ -70,3 +70,8 @@ tree-F-example = refl
 pub tree-G-example : treeExpand (fromSecond (extended four)) (lastUnit 4) ≡ 19 ∷ 9 ∷ 21 ∷ 9 ∷ 2 ∷ []
 unfolding sum table rowAt span levelFrom levelFor productAt plusProduct plusProducts withTree leaf join node raise up expandAt treeExpand extended fromSecond lastUnit
 tree-G-example = refl
+
+-- the spans of the least trees: 129 coefficients of F_n at 127 rows need 256
+pub span-examples : map (λ n. span (levelFor n)) (2 ∷ 3 ∷ 4 ∷ 5 ∷ 8 ∷ 9 ∷ 64 ∷ 65 ∷ 128 ∷ 129 ∷ 256 ∷ []) ≡ 2 ∷ 4 ∷ 4 ∷ 8 ∷ 8 ∷ 16 ∷ 64 ∷ 128 ∷ 128 ∷ 256 ∷ 256 ∷ []
+unfolding span levelFrom levelFor
+span-examples = refl

@@ -1,4 +1,4 @@
--- The tree's Expand is Expand: THEOREM tree-expand, for every family of equally long lists and every list of n numbers.
+-- The tree's Expand is Expand, for every modulus but 0, every family of equally long lists and every list of n numbers.
 --   Combination f pos u n t v   v_0 F_t + v_1 F_{t+1} is the sum of u_j F_j over the n places from t on
 -- Proved: the pairs that `up` makes are such combinations, the root's among them, so that v_0 F_0 + v_1 F_1 is the sum of all; the
 -- padding adds nothing, since the curve is zero there. No inverse is needed. The report, Figure 1 and equation (4).
@@ -18,16 +18,17 @@ use Rattle.algebra.specs.Solver.{ring, reify}
 use Rattle.algebra.specs.Sum.{sum, sum-empty, sum-last, sum-cong, sum-split, sum-cut}
 use Rattle.algebra.specs.Variable.{C, co-C-mul}
 use Rattle.definitions.specs.Conversion.{expand}
-use Rattle.definitions.specs.Family.{Family, size}
+use Rattle.definitions.specs.Family.{Family, Accepted, Curve, size}
 use Rattle.theory.specs.Alone.{expand-alone}
 use Rattle.theory.specs.Bridge.{entries, rowsOf, entries-expand, expand-curve}
-use Rattle.theory.specs.Closing.{EqualLengths, expand-close}
+use Rattle.theory.specs.Closing.{EqualLengths, accepted-lengths, expand-close}
 use Rattle.theory.specs.Curves.{curves-equal-residues}
 use Rattle.theory.specs.Level.{span, levelFor, level-covers}
 use Rattle.theory.specs.ListSeries.{series, series-one-zero, series-plusProducts, co-plusProduct}
 use Rattle.theory.specs.Recurrence.{term, co-poly, poly-one}
-use Rattle.theory.specs.Tree.{padded, F₁, withTree-cases, Matrix, Pair, node, raise, up, expandAt, treeExpand}
+use Rattle.theory.specs.Tree.{padded, F₁, Matrix, Pair, node, raise, up, expandAt, treeExpand}
 use Rattle.theory.specs.TreeBelow.{expandAt-below}
+use Rattle.theory.specs.TreeClauses.{withTree-cases}
 use Rattle.theory.specs.TreeLengths.{MatrixLength, PairLength, node-length, up-length, expandAt-length}
 use Rattle.theory.specs.TreeNodes.{P, Transition, node-transition, second-series}
 
@@ -114,3 +115,6 @@ pub tree-expand : (f : Family) → 0 < f .m → EqualLengths f → (u : List ℕ
 unfolding treeExpand
 tree-expand f pos equal u long = withTree-cases (λ x. x ≡ expand f u) f u _ (λ e. sym (expand-alone f u e))
     (λ _. expandAt-expand (padded f) pos u (levelFor (size f)) long (level-covers (size f)) ∙ expand-close f pos equal _ u)
+
+pub tree-expand-accepted : (f : Family) → Accepted f → (u : List ℕ) → Curve f u → treeExpand f u ≡ expand f u
+tree-expand-accepted f acc u curve = tree-expand f (omega (arith, acc .modulus .least)) (accepted-lengths f acc) u (curve .long)

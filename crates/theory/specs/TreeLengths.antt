@@ -11,7 +11,8 @@ use lib.Seq.{length-take-le}
 use Rattle.definitions.specs.Family.{Family, Row, size, rowAt}
 use Rattle.theory.specs.Level.{span, levelFor, level-covers}
 use Rattle.theory.specs.Products.{plusProduct-length, plusProducts-length, transposed-length, transposedSum-length}
-use Rattle.theory.specs.Tree.{padded, Matrix, Pair, F₀, F₁, withTree-cases, leaf, join, node, raise, up, expandAt, treeExpand, firstTerms, lower, down, rootPair, adjointAt, treeAdjoint}
+use Rattle.theory.specs.Tree.{padded, Matrix, Pair, F₀, F₁, leaf, join, node, raise, up, expandAt, treeExpand, firstTerms, lower, down, rootPair, adjointAt, treeAdjoint}
+use Rattle.theory.specs.TreeClauses.{withTree-cases}
 
 pub record MatrixLength (n : ℕ) (x : Matrix) : Type 0 where
   pub l00 : length (x .e00) ≡ n
