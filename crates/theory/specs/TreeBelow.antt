@@ -65,7 +65,7 @@ take-below m (suc n) (x ∷ xs) h zero = h 0
 take-below m (suc n) (x ∷ xs) h (suc i) = take-below m n xs (λ j. h (suc j)) i
 
 -- an entry is below m if it is so inside the list, by whichever default it is read
-inside-below : (m d i : ℕ) (xs : List ℕ) → 0 < m → (i < length xs → getD xs i d < m) → getD xs i 0 < m
+pub inside-below : (m d i : ℕ) (xs : List ℕ) → 0 < m → (i < length xs → getD xs i d < m) → getD xs i 0 < m
 inside-below m d i xs pos h = at (decLt i (length xs))
   where
     at : Dec (i < length xs) → getD xs i 0 < m
