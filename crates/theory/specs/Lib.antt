@@ -15,11 +15,13 @@ pub mod TransposedIdentity
 pub mod Operator
 pub mod PlainModels
 pub mod Entries
+pub mod PlainSteps
 pub mod PlainExpand
 pub mod PlainAdjoint
 pub mod Closing
 pub mod Horner
 pub mod PlainDecompose
+pub mod PlainAnswers
 pub mod Reversal
 pub mod Determinant
 pub mod Favard
