@@ -1,8 +1,8 @@
 -- What loops over the plain models cite.
 --   Agree k xs ys   the entries of xs and ys below place k are the same
--- Proves that an entry of a step depends only on the entries beside it, so that arrays longer than n may stand for the models' lists;
--- that a list of n entries in a longer one is filled as if it stood alone; and the states of a loop that counts down, after its first
--- step and from one to the next. Assumes nothing.
+-- Proves that an entry of a step depends only on the entries beside it; that a step in place, on arrays that hold the models' lists and
+-- zeros after them, is the models' step; and the states of a loop, where it begins, after its first step, from one to the next and where
+-- it ends. A loop that counts down is at place k where k rows are still to come. Assumes nothing.
 use mathlib.Core.Path.{_≡_, refl, sym, _∙_, ap, ap₂}
 use mathlib.Core.List.{List, [], _∷_, _++_}
 use Prim.Native.Nat.{ℕ, zero, suc, _*_, _-_, _%_, _<_}
@@ -13,7 +13,7 @@ use lib.Seq.{drop-at}
 use Rattle.definitions.specs.Family.{Family, rows, size, rowAt, timesX}
 use Rattle.definitions.specs.Number.{table}
 use Rattle.theory.specs.Lists.{filled, table-equal, table-unique}
-use Rattle.theory.specs.PlainModels.{State, zeros, constant, expandEntry, expandStep, expandState, adjointEntry, adjointStep, divide, raiseEntry, raise, decomposeState, plainExpand, plainDecompose, zeros-entry}
+use Rattle.theory.specs.PlainModels.{State, zeros, constant, expandEntry, expandStep, expandState, adjointEntry, adjointStep, adjointState, divide, raiseEntry, raise, decomposeState, plainExpand, plainDecompose, zeros-entry}
 
 -- ---- longer lists
 abbrev pub Agree : ℕ → List ℕ → List ℕ → Type 0
@@ -108,7 +108,16 @@ divide-zeros : (f : Family) (d : List ℕ) → divide f d (zeros (size f)) ≡ z
 unfolding divide
 divide-zeros f d = table-zeros (size f) _ (λ i. rw (zeros-entry (size f) i, zero-mul (getD d i 0)) (zero-mod (f .m)))
 
--- ---- a loop that counts down, at the place where k rows are still to come
+-- ---- a loop that counts up
+pub adjointState-start : (f : Family) (u : List ℕ) → adjointState f u 0 ≡ record { current = u; previous = zeros (size f) }
+unfolding adjointState
+adjointState-start f u = refl
+
+pub adjointState-next : (f : Family) (u : List ℕ) (j : ℕ) → adjointState f u (suc j) ≡ adjointStep f j (adjointState f u j)
+unfolding adjointState
+adjointState-next f u j = refl
+
+-- ---- a loop that counts down
 module _ (f : Family) where
   steps-done : (k : ℕ) → k < size f → size f - k ≡ suc (size f - suc k)
   steps-done k h = omega arith
