@@ -2,7 +2,8 @@
 --   Decomposable f   2 ≤ m, and the a of rows 1 to r have inverses: all that Decompose divides by
 -- Proves that the coefficient of x^k in F_k is a_1 .. a_k and has an inverse for k ≤ r, that Decompose's answer is a curve, both
 -- round trips, that Expand is injective on curves, and that Decompose's answer is the only curve that Expand takes to its
--- input. No c and no closing row is in any hypothesis, c_1 included. The scope paper, demand 1. Assumes nothing.
+-- input. No c and no closing row is in any hypothesis, c_1 included. The scope paper, 'The definitions': 'There is exactly one.'
+-- Assumes nothing.
 use mathlib.Core.Path.{_≡_, refl, sym, _∙_, ap, ap₂}
 use mathlib.Core.List.{List, [], _∷_, _++_}
 use mathlib.Core.Logic.{_⊎_, inl, inr}
@@ -11,7 +12,7 @@ use native.Mathlib.Nat.{mod-lt, le-of-suc-le-suc, eq-or-lt-of-le}
 use native.Mathlib.Omega.{arith}
 use lib.ListN.{length, getD}
 use Rattle.algebra.specs.Product.{product, product-unit}
-use Rattle.algebra.specs.Residues.{Zmod, res, res-add, res-mul, res-mod, res-neg, res-one, res-unit, inverse-of-unit}
+use Rattle.algebra.specs.Residues.{Zmod, res, res-add, res-mul, res-mod}
 use Rattle.algebra.specs.Ring.{CommRing}
 use Rattle.algebra.specs.Solver.{ring, linear, scaled, reify}
 use Rattle.algebra.specs.Unit.{IsUnit}
@@ -20,9 +21,9 @@ use Rattle.definitions.specs.Family.{Family, Convertible, Curve, rows, size, ro
 use Rattle.definitions.specs.Number.{negative, HasInverse, inverse}
 use Rattle.theory.specs.Bridge.{entries, rowsOf, res-F, entries-expand, expand-curve, curve-equal}
 use Rattle.theory.specs.Combination.{combination, combination-last, combination-cong, combination-top, combination-injective}
-use Rattle.theory.specs.Inverse.{inverse-right}
 use Rattle.theory.specs.Lists.{snoc-length, snoc-entry, snoc-last, table-entry}
 use Rattle.theory.specs.Recurrence.{Rows, term, leading}
+use Rattle.theory.specs.Residue.{residue-negative, residue-inverse, residue-unit}
 
 pub record Decomposable (f : Family) : Type 0 where
   pub modulus : 2 ≤ f .m
@@ -89,19 +90,15 @@ module _ (f : Family) (d : Decomposable f) where
   ρ = rowsOf f pos
 
   a-unit : (i : ℕ) → i < rows f → IsUnit Q (ρ .a i)
-  unfolding HasInverse
-  a-unit i h = let y = d .aInverse i h in res-unit m pos (rowAt f i .a) (y .0) (y .1)
+  a-unit i h = residue-unit m pos (rowAt f i .a) (d .modulus) .0 (d .aInverse i h)
 
   pub leading-has-inverse : (k : ℕ) → k ≤ rows f → HasInverse m (F f k k)
-  unfolding HasInverse
-  leading-has-inverse k h = inverse-of-unit m pos (F f k k) (d .modulus)
+  leading-has-inverse k h = residue-unit m pos (F f k k) (d .modulus) .1
       (rw (leading-product f pos k) (product-unit Q k (ρ .a) (λ i l. a-unit i (omega arith))))
 
   -- ---- back substitution gives the powers back, from the top one down
   leading-inverse : (k : ℕ) → k ≤ rows f → product Q k (ρ .a) ⊗ res m pos (inverse m (F f k k)) ≡ 𝟙
-  leading-inverse k h = ap (λ t. t ⊗ res m pos (inverse m (F f k k))) (sym (leading-product f pos k))
-      ∙ sym (res-mul m pos (F f k k) (inverse m (F f k k))) ∙ sym (res-mod m pos (F f k k * inverse m (F f k k)))
-      ∙ ap (res m pos) (inverse-right m (F f k k) pos (leading-has-inverse k h)) ∙ res-one m pos
+  leading-inverse k h = ap (λ t. t ⊗ res m pos (inverse m (F f k k))) (sym (leading-product f pos k)) ∙ residue-inverse m pos (F f k k) (leading-has-inverse k h)
 
   top-back : (k : ℕ) (p : List ℕ) → k ≤ rows f → product Q k (ρ .a) ⊗ res m pos (top f k p) ≡ entries m pos p k
   unfolding top
@@ -109,9 +106,9 @@ module _ (f : Family) (d : Decomposable f) where
       (scaled Q (entries m pos p k) (leading-inverse k h)) (search reify depth 20) tt)
 
   lessTop-entry : (k y : ℕ) (p : List ℕ) (i : ℕ) → i < k → entries m pos (lessTop f k y p) i ≡ entries m pos p i ⊕ ⊖ (res m pos y ⊗ term Q ρ (suc k) i)
-  unfolding lessTop negative
+  unfolding lessTop
   lessTop-entry k y p i h = ap (res m pos) (table-entry k (λ i. (getD p i 0 + negative m (y * F f k i)) % m) i 0 h)
-      ∙ simp (res-mod m pos, res-add m pos, res-neg m pos, res-mul m pos, res-F f pos)
+      ∙ simp (res-mod m pos, res-add m pos, residue-negative m pos, res-mul m pos, res-F f pos)
 
   expand-below : (k : ℕ) → k ≤ size f → (p : List ℕ) (i : ℕ) → i < k → combination Q ρ k (entries m pos (decomposeBelow f k p)) i ≡ entries m pos p i
   expand-below zero b p i h = absurd (omega arith)

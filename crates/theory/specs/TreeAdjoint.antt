@@ -139,7 +139,7 @@ module _ (f : Family) (pos : 0 < f .m) (u : List ℕ) (long : length u ≡ size 
 pub tree-adjoint : (f : Family) → 0 < f .m → EqualLengths f → (u : List ℕ) → length u ≡ size f → treeAdjoint f u ≡ adjoint f u
 unfolding treeAdjoint
 tree-adjoint f pos equal u long = withTree-cases (λ x. x ≡ adjoint f u) f u _ (λ e. sym (adjoint-alone f u e))
-    (λ _. adjointAt-adjoint (padded f) pos u long (levelFor (size f)) (level-covers (size f)) ∙ adjoint-close f pos equal _ u)
+    (λ _. adjointAt-adjoint (padded f) pos u long (levelFor (size f)) (level-covers (size f)) ∙ adjoint-close f equal _ u)
 
 pub tree-adjoint-accepted : (f : Family) → Accepted f → (u : List ℕ) → Curve f u → treeAdjoint f u ≡ adjoint f u
 tree-adjoint-accepted f acc u curve = tree-adjoint f (omega (arith, acc .modulus .least)) (accepted-lengths f acc) u (curve .long)

@@ -114,7 +114,7 @@ module _ (f : Family) (pos : 0 < f .m) (u : List ℕ) where
 pub tree-expand : (f : Family) → 0 < f .m → EqualLengths f → (u : List ℕ) → length u ≡ size f → treeExpand f u ≡ expand f u
 unfolding treeExpand
 tree-expand f pos equal u long = withTree-cases (λ x. x ≡ expand f u) f u _ (λ e. sym (expand-alone f u e))
-    (λ _. expandAt-expand (padded f) pos u (levelFor (size f)) long (level-covers (size f)) ∙ expand-close f pos equal _ u)
+    (λ _. expandAt-expand (padded f) pos u (levelFor (size f)) long (level-covers (size f)) ∙ expand-close f equal _ u)
 
 pub tree-expand-accepted : (f : Family) → Accepted f → (u : List ℕ) → Curve f u → treeExpand f u ≡ expand f u
 tree-expand-accepted f acc u curve = tree-expand f (omega (arith, acc .modulus .least)) (accepted-lengths f acc) u (curve .long)
