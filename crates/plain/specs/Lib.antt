@@ -4,3 +4,4 @@ pub mod FirstRows
 pub mod Agreement
 pub mod Expanding
 pub mod Adjoining
+pub mod Decomposing

@@ -20,6 +20,7 @@ pub mod PlainAdjoint
 pub mod Closing
 pub mod Horner
 pub mod PlainDecompose
+pub mod PlainBasis
 pub mod Reversal
 pub mod Determinant
 pub mod Favard
