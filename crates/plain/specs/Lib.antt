@@ -5,3 +5,5 @@ pub mod Agreement
 pub mod Expanding
 pub mod Adjoining
 pub mod Decomposing
+pub mod Norming
+pub mod Inverting
