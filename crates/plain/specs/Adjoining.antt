@@ -4,7 +4,7 @@
 --                                                    the answer's first j entries are written
 -- Proved: how the loop starts, what its step is lent, how it goes on, and that it ends with Adjoint.
 -- Assumes nothing.
-use mathlib.Core.Path.{_≡_, sym, _∙_, ap, ap₂}
+use mathlib.Core.Path.{_≡_, sym, _∙_, ap}
 use mathlib.Core.List.{List, _++_}
 use mathlib.Core.Logic.{by-cases}
 use Prim.Native.Nat.{ℕ, suc, _+_, _-_, _≤_, _<_}
@@ -22,7 +22,7 @@ use Rattle.theory.specs.PlainAdjoint.{plainAdjoint-adjoint}
 use Rattle.theory.specs.PlainModels.{zeros, zeros-entry, adjointEntry, adjointStep, adjointState, plainAdjoint}
 use Rattle.polynomial.specs.Row.{Below, RowInput}
 use Rattle.plain.specs.FirstRows.{Shaped, RowsBelow, firstRows-shaped, firstRows-below}
-use Rattle.plain.specs.Input.{firstRows, Holds, ConvertInput}
+use Rattle.plain.specs.Input.{firstRows, ConvertInput}
 
 filled-residues : (m count : ℕ) (g : ℕ → ℕ) (old : List ℕ) → ((t : ℕ) → t < count → g t < m) → Below m old → Below m (filled g count old)
 filled-residues m count g old p q t = by-cases (decLt t count)

@@ -8,9 +8,11 @@ use mathlib.Core.Logic.{by-cases}
 use Prim.Native.Nat.{ℕ, _≤_, _<_}
 use native.Mathlib.Decide.{decLt}
 use native.Mathlib.Omega.{arith}
-use lib.ListN.{length, getD}
+use lib.ListN.{length, getD, List·getD-eq-default}
+use Rattle.definitions.specs.Family.{Family, Curve, size}
 use Rattle.definitions.specs.Number.{table}
 use Rattle.theory.specs.Lists.{table-entry, table-past, table-unique, filled, filled-below, filled-from}
+use Rattle.polynomial.specs.Row.{Below}
 
 abbrev pub Agree : List ℕ → List ℕ → Type 0
 Agree xs ys = (t : ℕ) → getD xs t 0 ≡ getD ys t 0
@@ -37,3 +39,9 @@ module _ (count : ℕ) (old : List ℕ) (past : ZeroFrom count old) where
 -- the first n entries of a list that agrees with one of n entries
 pub table-agrees : (xs ys : List ℕ) (n : ℕ) → length ys ≡ n → Agree xs ys → table n (λ t. getD xs t 0) ≡ ys
 table-agrees xs ys n l e = sym (table-unique ys n (λ t. getD xs t 0) l (λ t h. sym (e t)))
+
+-- a curve's entries are below m at every place
+pub curve-below : (f : Family) (s : List ℕ) → 0 < f .m → Curve f s → Below (f .m) s
+curve-below f s pos cs i =
+    let long : length s ≡ size f = cs .long in
+    by-cases (decLt i (size f)) (cs .below i) (λ h. rw (List·getD-eq-default s 0 {n = i} (omega arith)) pos)

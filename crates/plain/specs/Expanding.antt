@@ -1,32 +1,24 @@
 -- Expand downwards in local arrays, against the plain model. After i steps the lists have i coefficients that may not be zero, so
 -- that each step touches one more.
 --   Expanding f u n current older i   the arrays agree with the model's state after i steps
--- Proved: the model's lists are zero from i on; how the loop starts, what its step is lent, how it goes on, and that it ends
--- with Expand.
+-- Proved: how the loop starts, what its step is lent, how it goes on, and that it ends with Expand.
 -- Assumes nothing.
 use mathlib.Core.Path.{_≡_, sym, _∙_, ap, ap₂, fun-ext}
 use mathlib.Core.List.{List, _++_}
-use mathlib.Core.Logic.{by-cases}
 use Prim.Native.Nat.{ℕ, zero, suc, _+_, _*_, _-_, _%_, _≤_, _<_}
-use native.Mathlib.Decide.{decLt}
-use native.Mathlib.Nat.{add-zero, mul-zero, zero-mod}
 use native.Mathlib.Numerals.{add-one}
 use native.Mathlib.Omega.{arith}
-use lib.ListN.{length, getD, take, drop, List·getD-eq-default}
+use lib.ListN.{length, getD, take, drop}
 use lib.Seq.{getD-take}
 use Rattle.definitions.specs.Conversion.{expand}
-use Rattle.definitions.specs.Family.{Family, Curve, greatestModulus, rows, size, rowAt, timesX}
-use Rattle.theory.specs.Lists.{table-entry, table-past, filled, filled-length}
-use Rattle.theory.specs.PlainExpand.{plainExpand-expand}
+use Rattle.definitions.specs.Family.{Family, rows, size, rowAt, timesX}
+use Rattle.theory.specs.Lists.{table-entry, filled, filled-length}
+use Rattle.theory.specs.PlainExpand.{expandState-ends, plainExpand-expand}
 use Rattle.theory.specs.PlainModels.{zeros, zeros-entry, constant, expandEntry, expandStep, expandState, expandState-curves, plainExpand}
-use Rattle.polynomial.specs.Row.{Below, RowInput}
-use Rattle.plain.specs.Agreement.{Agree, ZeroFrom, filled-agrees, filled-copies, table-agrees}
+use Rattle.polynomial.specs.Row.{RowInput}
+use Rattle.plain.specs.Agreement.{Agree, ZeroFrom, curve-below, filled-agrees, filled-copies, table-agrees}
 use Rattle.plain.specs.FirstRows.{Shaped, RowsBelow, firstRows-shaped, firstRows-below}
 use Rattle.plain.specs.Input.{firstRows, ConvertInput}
-
-pub expandEntry-zero : (m y a b c : ℕ) (current older : List ℕ) (t : ℕ) → ZeroFrom t current → ZeroFrom (suc t) older → expandEntry m y a b c current older (suc t) ≡ 0
-unfolding expandEntry constant timesX
-expandEntry-zero m y a b c current older t p q = simp (p t (omega arith), p (suc t) (omega arith), q (suc t) (omega arith), mul-zero, add-zero, zero-mod)
 
 expandEntry-agrees : (m y a b c : ℕ) (current current′ older older′ : List ℕ) (t : ℕ) → Agree current current′ → Agree older older′
     → expandEntry m y a b c current older t ≡ expandEntry m y a b c current′ older′ t
@@ -34,32 +26,12 @@ unfolding expandEntry
 expandEntry-agrees m y a b c current current′ older older′ t p q =
     ap₂ (λ (s r : ℕ → ℕ). (constant y t + a * timesX s t + b * s t + c * r t) % m) (fun-ext p) (fun-ext q)
 
--- ---- the model's lists
-module _ (f : Family) (u : List ℕ) where
-  pub record ZeroState (i : ℕ) : Type 0 where
-    pub currentZero : ZeroFrom i (expandState f u i .current)
-    pub previousZero : ZeroFrom i (expandState f u i .previous)
-
-  expandStep-zero : (i k : ℕ) → ZeroState i → ZeroFrom (suc i) (expandStep f u k (expandState f u i) .current)
-  unfolding expandStep
-  expandStep-zero i k z zero h = absurd (omega arith)
-  expandStep-zero i k z (suc t) h = by-cases (decLt (suc t) (size f))
-      (λ l. table-entry (size f) _ (suc t) 0 l ∙ expandEntry-zero _ _ _ _ _ (expandState f u i .current) (expandState f u i .previous) t
-      (λ s g. z .currentZero s (omega arith)) (λ s g. z .previousZero s (omega arith)))
-      (λ l. table-past (size f) _ (suc t) 0 (omega arith))
-
-  pub expandState-zero : (i : ℕ) → ZeroState i
-  unfolding expandState expandStep
-  expandState-zero zero = record { currentZero = λ t h. zeros-entry (size f) t; previousZero = λ t h. zeros-entry (size f) t }
-  expandState-zero (suc i) =
-      let z : ZeroState i = expandState-zero i in
-      record { currentZero = expandStep-zero i (rows f - i) z; previousZero = λ t h. z .currentZero t (omega arith) }
-
 -- ---- the loop
-curve-below : (f : Family) (s : List ℕ) → 0 < f .m → Curve f s → Below (f .m) s
-curve-below f s pos cs i =
-    let long : length s ≡ size f = cs .long in
-    by-cases (decLt i (size f)) (cs .below i) (λ h. rw (List·getD-eq-default s 0 {n = i} (omega arith)) pos)
+module _ (f : Family) (pos : 0 < f .m) (u : List ℕ) where
+  previous-ends : (i t : ℕ) → i ≤ size f → i ≤ t → getD (expandState f u i .previous) t 0 ≡ 0
+  unfolding expandState expandStep
+  previous-ends zero t b h = zeros-entry (size f) t
+  previous-ends (suc i) t b h = expandState-ends f pos u i t (omega arith) (omega arith)
 
 -- what a step reads: entry k of the curve, the a and b of row k + 1, the c of row k + 2
 pub record ExpandRow (f : Family) (u : List ℕ) (k x a b c : ℕ) : Type 0 where
@@ -107,20 +79,27 @@ module _ (f : Family) (u : List ℕ) (n : ℕ) where
           }
 
       zero-current : ZeroFrom (i + 1) current
-      zero-current t g = h .currentIs t ∙ expandState-zero f u i .currentZero t (omega arith)
+      zero-current t g =
+          let two : 2 ≤ f .m = shaped .modulus .least in
+          let sized : size f ≡ n = shaped .sized in
+          h .currentIs t ∙ expandState-ends f (omega arith) u i t (omega arith) (omega arith)
 
       zero-older : ZeroFrom (i + 1) older
-      zero-older t g = h .olderIs t ∙ expandState-zero f u i .previousZero t (omega arith)
+      zero-older t g =
+          let two : 2 ≤ f .m = shaped .modulus .least in
+          let sized : size f ≡ n = shaped .sized in
+          h .olderIs t ∙ previous-ends f (omega arith) u i t (omega arith) (omega arith)
 
       current-next : Agree (filled (expandEntry (f .m) x a b c current older) (i + 1) current) (expandState f u (suc i) .current)
       unfolding expandState expandStep
       current-next =
+          let two : 2 ≤ f .m = shaped .modulus .least in
           let sized : size f ≡ n = shaped .sized in
           let k : rows f - i ≡ n - 1 - i = omega arith in
           filled-agrees (i + 1) current zero-current (expandEntry (f .m) x a b c current older) _ (size f) (omega arith)
           (λ t g. expandEntry-agrees (f .m) x a b c current (expandState f u i .current) older (expandState f u i .previous) t (h .currentIs) (h .olderIs)
           ∙ rw (k, row .xIs, row .aIs, row .bIs, row .cIs))
-          (λ t g d. sym (table-entry (size f) _ t 0 d) ∙ expandState-zero f u (suc i) .currentZero t (omega arith))
+          (λ t g d. sym (table-entry (size f) _ t 0 d) ∙ expandState-ends f (omega arith) u (suc i) t (omega arith) (omega arith))
 
       older-next : Agree (filled (λ t. getD current t 0) (i + 1) older) (expandState f u (suc i) .previous)
       unfolding expandState expandStep

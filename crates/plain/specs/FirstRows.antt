@@ -4,7 +4,7 @@
 -- Proved: the lists that a conversion is lent stand for such a family and curve; lists that are just as long as they need be stand
 -- for themselves.
 -- Assumes nothing.
-use mathlib.Core.Path.{_≡_, refl, sym, _∙_, ap}
+use mathlib.Core.Path.{_≡_, sym, _∙_, ap}
 use mathlib.Core.List.{List}
 use mathlib.Core.Logic.{by-cases}
 use Prim.Native.Nat.{ℕ, suc, _-_, _≤_, _<_}
@@ -14,7 +14,7 @@ use lib.ListN.{length, getD, take, List·getD-eq-default}
 use lib.Seq.{length-take-le, getD-take, take-all}
 use Rattle.definitions.specs.Family.{Family, Modulus, Curve, family, size, rowAt}
 use Rattle.theory.specs.Lists.{getD-default}
-use Rattle.plain.specs.Input.{firstRows, Holds, Sizes, ConvertInput}
+use Rattle.plain.specs.Input.{firstRows, Holds, Sizes}
 
 pub record Shaped (f : Family) (u : List ℕ) (n : ℕ) : Type 0 where
   pub modulus : Modulus (f .m)

@@ -6,6 +6,8 @@
 --   Sizes m n                    the modulus and the number of coefficients are in range
 --   ConvertInput                 what a conversion assumes; Decompose is lent the inverses of the a in their place
 --   InversesOf m count v a       the first count entries of v are inverses of those of a
+--   NormsInput                   what the norms assume
+--   Closes m inverse close row   row has this inverse of its a and this c
 -- Assumes nothing.
 use mathlib.Core.Path.{_≡_}
 use mathlib.Core.List.{List}
@@ -39,3 +41,14 @@ pub record ConvertInput (m : ℕ) (a b c curve : List ℕ) (n : ℕ) (output : L
 pub record InversesOf (m count : ℕ) (inverses list : List ℕ) : Type 0 where
   pub long : count ≤ length list
   pub product : (i : ℕ) → i < count → getD list i 0 * getD inverses i 0 % m ≡ 1
+
+pub record NormsInput (m : ℕ) (inverses c : List ℕ) (inverse n : ℕ) (output : List ℕ) : Type 0 where
+  pub sizes : Sizes m n
+  pub inversesHold : Holds m (n - 1) inverses
+  pub cLong : n - 1 ≤ length c
+  pub inverseBelow : inverse < m
+  pub outputLong : n ≤ length output
+
+pub record Closes (m inverse close : ℕ) (row : Row) : Type 0 where
+  pub product : row .a * inverse % m ≡ 1
+  pub cIs : row .c ≡ close

@@ -4,3 +4,6 @@ pub mod FirstRows
 pub mod Agreement
 pub mod Expanding
 pub mod Adjoining
+pub mod Decomposing
+pub mod Norming
+pub mod Inverting

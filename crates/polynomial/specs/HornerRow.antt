@@ -1,7 +1,6 @@
 -- A step of Decompose: x times a list in the basis F, and a constant more. Multiplication by x in the basis is three lists,
 -- x F_i = rise_i F_{i+1} + stay_i F_i + fall_i F_{i-1}.
 --   HornerInput   the three lists and the one that the step moves on hold residues and have room for count entries
---   multiplied    the entries of p + x current
 --   Multiplying   the step in progress: the first i entries are done
 -- Proved: how the step starts, what it sums, how it goes on and how it ends.
 -- Assumes nothing.
@@ -13,6 +12,7 @@ use native.Mathlib.Omega.{arith}
 use lib.ListN.{length, getD, set}
 use Rattle.definitions.specs.Family.{greatestModulus, timesX}
 use Rattle.theory.specs.Lists.{filled, Filling, filling-start, filling-next, filling-stop, filling-from}
+use Rattle.theory.specs.PlainBasis.{basisEntry}
 use Rattle.theory.specs.PlainModels.{constant}
 use Rattle.polynomial.specs.Row.{Below, Summands, constant-below}
 
@@ -27,14 +27,10 @@ pub record HornerInput (m p : ℕ) (rise stay fall current : List ℕ) (count : 
   pub stayLong : count ≤ length stay
   pub currentLong : count ≤ length current
 
-unfoldable pub multiplied : ℕ → ℕ → List ℕ → List ℕ → List ℕ → List ℕ → ℕ → ℕ
-multiplied m p rise stay fall current i =
-    (constant p i + timesX (λ j. getD rise j 0 * getD current j 0) i + getD stay i 0 * getD current i 0 + getD fall (suc i) 0 * getD current (suc i) 0) % m
-
 module _ (m p : ℕ) (rise stay fall current₀ : List ℕ) (count : ℕ) where
   pub record Multiplying (current : List ℕ) (carried lead previous i : ℕ) : Type 0 where
     pub reached : i ≤ count
-    pub filling : Filling (multiplied m p rise stay fall current₀) i current₀ current
+    pub filling : Filling (basisEntry m p rise stay fall current₀) i current₀ current
     pub carriedIs : carried ≡ constant p i
     pub behindIs : lead * previous ≡ timesX (λ j. getD rise j 0 * getD current₀ j 0) i
     pub leadBelow : lead < m
@@ -76,7 +72,7 @@ module _ (m p : ℕ) (rise stay fall current₀ : List ℕ) (count : ℕ) where
 
         pub multiplying-next : (v : ℕ) → v ≡ (carried + lead * previous + getD stay i 0 * getD current i 0 + f * n) % m
             → Multiplying (set current i v) 0 (getD rise i 0) (getD current i 0) (i + 1)
-        unfolding multiplied constant timesX
+        unfolding basisEntry constant timesX
         multiplying-next v e = record {
           reached = omega arith;
           filling = filling-next (h .filling) (omega (arith, input .currentLong)) (e ∙ rw (h .carriedIs, h .behindIs, ef, en, next-is, here-is, add-one));
@@ -87,5 +83,5 @@ module _ (m p : ℕ) (rise stay fall current₀ : List ℕ) (count : ℕ) where
         }
 
   pub multiplying-ends : (current : List ℕ) (carried lead previous i : ℕ) → count ≤ i → Multiplying current carried lead previous i
-      → current ≡ filled (multiplied m p rise stay fall current₀) count current₀
+      → current ≡ filled (basisEntry m p rise stay fall current₀) count current₀
   multiplying-ends current carried lead previous i l h = filling-stop (h .filling) count (omega arith)

@@ -4,8 +4,9 @@ ghost use mathlib.Core.Path.{_≡_};
 ghost use Prim.Native.Nat.{_+_, _*_, _%_, _≤_, _<_};
 ghost use lib.ListN.{length, getD, replicate};
 ghost use Rattle.theory.specs.Lists.{filled};
+ghost use Rattle.theory.specs.PlainBasis.{basisEntry};
 ghost use Rattle.theory.specs.PlainModels.{expandEntry, adjointEntry};
-ghost use Rattle.polynomial.specs.HornerRow.{HornerInput, multiplied};
+ghost use Rattle.polynomial.specs.HornerRow.{HornerInput};
 ghost use Rattle.polynomial.specs.Row.{Summands, RowInput};
 
 // A local list, all zeros.
@@ -111,7 +112,7 @@ pub fn horner_row(
     count: usize,
 )
     requires { ⌜ HornerInput m p (now rise) (now stay) (now fall) (now current) count ⌝ }
-    ensures { λ _. ⌜ now (current .exit) ≡ filled (multiplied m p (now (rise .entry)) (now (stay .entry)) (now (fall .entry)) (now (current .entry))) count (now (current .entry)) ⌝ }
+    ensures { λ _. ⌜ now (current .exit) ≡ filled (basisEntry m p (now (rise .entry)) (now (stay .entry)) (now (fall .entry)) (now (current .entry))) count (now (current .entry)) ⌝ }
 {
     let mut constant = p;
     let mut lead: u32 = 0;
