@@ -4,7 +4,7 @@
 --   the recurrence over any ring, and the definitions read in the ring of residues: Recurrence, Operator, Combination, Bridge, Entries, Closing, Alone
 --   round trips, linearity, the transposed identity: RoundTrip, Linear, TransposedIdentity
 --   moments, norms and the product law (demand 3): Reversal, Determinant, Favard, Form, Orthogonal, Quotient, Moments, ProductLaw, Gram
---   the plain ways, as models on lists: PlainModels, PlainSteps, PlainExpand, PlainAdjoint, Horner, PlainDecompose, PlainAnswers
+--   the plain ways, as models on lists: PlainModels, PlainSteps, PlainExpand, PlainAdjoint, Horner, PlainDecompose, PlainBasis, PlainAnswers
 --   the tree way, as a model on lists: Level, Products, ProductTerms, Tree, TreeClauses, TreeLengths, TreeBelow, ListSeries, TreeNodes, TreeExpand, Pairing, ListPairing, TreeAdjoint, Extended, TreeExamples
 -- docs/THEOREMS.md leads from the demands to the statements. Assumes nothing.
 pub mod Lists
@@ -40,6 +40,7 @@ pub mod PlainExpand
 pub mod PlainAdjoint
 pub mod Horner
 pub mod PlainDecompose
+pub mod PlainBasis
 pub mod PlainAnswers
 pub mod Level
 pub mod Products
