@@ -2,3 +2,4 @@
 pub mod Inverting
 pub mod PlainCall
 pub mod PlainCore
+pub mod InversesCore

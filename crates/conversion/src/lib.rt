@@ -5,10 +5,11 @@ ghost use mathlib.Core.List.{List, [], _∷_};
 ghost use Prim.Native.Nat.{ℕ};
 ghost use lib.ListN.{length};
 ghost use Rattle.definitions.specs.Answers.{valued, Converted};
-ghost use Rattle.definitions.specs.Conversion.{expand, adjoint};
+ghost use Rattle.definitions.specs.Conversion.{expand, adjoint, decompose};
+ghost use Rattle.definitions.specs.Orthogonality.{norms};
 ghost use Rattle.definitions.specs.Family.{family};
 ghost use Rattle.definitions.specs.Number.{inverse};
-ghost use Rattle.definitions.specs.Refusals.{verdict, plainTests, inverseTests};
+ghost use Rattle.definitions.specs.Refusals.{verdict, plainTests, normsTests, inverseTests};
 use definitions::Answer;
 use definitions::Valued;
 use residue::Inversion;
@@ -68,5 +69,42 @@ pub fn plain_adjoint(
         return tested;
     };
     plain::adjoint(m, a, b, c, curve, a.len() + 1, output);
+    Answer::Finished
+}
+
+// Decompose, from the top power: from n coefficients in powers of x the one curve that Expand turns into them.
+// Refused as plain_expand is, with the coefficients in the curve's place.
+pub fn plain_decompose(
+    m: u32,
+    a: &[u32],
+    b: &[u32],
+    c: &[u32],
+    coefficients: &[u32],
+    output: &mut [u32],
+) -> Answer
+    ensures { λ r. ⌜ Converted (plainTests (family m (now (a .entry)) (now (b .entry)) (now (c .entry))) (now (coefficients .entry)) (length (now (output .entry)))) (decompose (family m (now (a .entry)) (now (b .entry)) (now (c .entry))) (now (coefficients .entry))) r (now (output .entry)) (now (output .exit)) ⌝ }
+{
+    let tested = verdicts::plain(m, a, b, c, coefficients, output.len());
+    let Answer::Finished = tested else {
+        return tested;
+    };
+    let mut inverses = polynomial::zeros();
+    plain::inverses(m, a, a.len(), &mut inverses);
+    plain::decompose(m, &inverses, b, c, coefficients, a.len() + 1, output);
+    Answer::Finished
+}
+
+// Norms: d_i = (-1)^i c_2 .. c_{i+1} / a_{i+1} for i from 0 to n - 1, with the closing row 1 1 1 as row n.
+// Refused with 3, 4, 5 and 7 (the station's program), and with 9 to 11 (the maker of the element).
+pub fn norms(m: u32, a: &[u32], b: &[u32], c: &[u32], output: &mut [u32]) -> Answer
+    ensures { λ r. ⌜ Converted (normsTests (family m (now (a .entry)) (now (b .entry)) (now (c .entry))) (length (now (output .entry)))) (norms (family m (now (a .entry)) (now (b .entry)) (now (c .entry)))) r (now (output .entry)) (now (output .exit)) ⌝ }
+{
+    let tested = verdicts::norms(m, a, b, c, output.len());
+    let Answer::Finished = tested else {
+        return tested;
+    };
+    let mut inverses = polynomial::zeros();
+    plain::inverses(m, a, a.len(), &mut inverses);
+    plain::norms(m, &inverses, c, 1, 1, a.len() + 1, output);
     Answer::Finished
 }
