@@ -7,3 +7,4 @@ pub mod Adjoining
 pub mod Decomposing
 pub mod Norming
 pub mod Inverting
+pub mod Calls
