@@ -7,4 +7,3 @@ pub mod Adjoining
 pub mod Decomposing
 pub mod Norming
 pub mod Inverting
-pub mod Calls
