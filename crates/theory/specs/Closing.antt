@@ -1,6 +1,6 @@
 -- The closing row shows in no conversion.
 --   closedBy row f   the family f with another closing row
---   Aligned f        b and c are as long as a
+--   EqualLengths f   b and c are as long as a
 -- Proves that F_0 to F_r, and so Expand, Adjoint and Decompose, are the same for every closing row: code that has no closing row at
 -- hand may read any numbers in its place, such as the zeros that its lists are read with past their ends. Assumes nothing.
 use mathlib.Core.Path.{_≡_, refl, sym, _∙_, ap, ap₂, fun-ext}
@@ -16,12 +16,12 @@ use Rattle.theory.specs.Lists.{getD-default, table-equal}
 abbrev pub closedBy : Row → Family → Family
 closedBy row f = record { m = f .m; a = f .a; b = f .b; c = f .c; close = row }
 
-pub record Aligned (f : Family) : Type 0 where
+pub record EqualLengths (f : Family) : Type 0 where
   pub bLength : length (f .b) ≡ rows f
   pub cLength : length (f .c) ≡ rows f
 
-pub accepted-aligned : (f : Family) → Accepted f → Aligned f
-accepted-aligned f acc = record { bLength = acc .bLength; cLength = acc .cLength }
+pub accepted-lengths : (f : Family) → Accepted f → EqualLengths f
+accepted-lengths f acc = record { bLength = acc .bLength; cLength = acc .cLength }
 
 sum-equal : (n : ℕ) (g h : ℕ → ℕ) → ((i : ℕ) → i < n → g i ≡ h i) → sum n g ≡ sum n h
 unfolding sum
@@ -50,43 +50,43 @@ module _ (m r : ℕ) (row row′ : ℕ → Row) (same : (i : ℕ) → i < r → 
       let here : term m row (suc k) ≡ term m row′ (suc k) = fun-ext (λ t. term-equal (suc k) t (omega arith)) in
       step row k i ∙ rw (same k (omega arith), here, term-equal k i (omega arith)) (sym (step row′ k i))
 
-module _ (f : Family) (al : Aligned f) (row : Row) where
+module _ (f : Family) (equal : EqualLengths f) (row : Row) where
   abbrev g : Family
   g = closedBy row f
 
-  rowAt-closing : (i : ℕ) → i < rows f → rowAt f i ≡ rowAt g i
+  rowAt-close : (i : ℕ) → i < rows f → rowAt g i ≡ rowAt f i
   unfolding rowAt
-  rowAt-closing i h =
-      let lb : length (f .b) ≡ rows f = al .bLength in
-      let lc : length (f .c) ≡ rows f = al .cLength in
-      rw (getD-default (f .a) i (f .close .a) (row .a) h, getD-default (f .b) i (f .close .b) (row .b) (omega arith), getD-default (f .c) i (f .close .c) (row .c) (omega arith))
+  rowAt-close i h =
+      let lb : length (f .b) ≡ rows f = equal .bLength in
+      let lc : length (f .c) ≡ rows f = equal .cLength in
+      rw (getD-default (f .a) i (row .a) (f .close .a) h, getD-default (f .b) i (row .b) (f .close .b) (omega arith), getD-default (f .c) i (row .c) (f .close .c) (omega arith))
 
-  pub F-closing : (j i : ℕ) → j ≤ rows f → F f j i ≡ F g j i
+  pub F-close : (j i : ℕ) → j ≤ rows f → F g j i ≡ F f j i
   unfolding F
-  F-closing j i h = term-equal (f .m) (rows f) (rowAt f) (rowAt g) rowAt-closing (suc j) i (omega arith)
+  F-close j i h = term-equal (f .m) (rows f) (rowAt g) (rowAt f) rowAt-close (suc j) i (omega arith)
 
-  pub expand-closing : (u : List ℕ) → expand f u ≡ expand g u
+  pub expand-close : (u : List ℕ) → expand g u ≡ expand f u
   unfolding expand
-  expand-closing u = table-equal (size f) _ _ (λ i h. ap (λ s. s % f .m) (sum-equal (size f) _ _ (λ j l. ap (λ t. getD u j 0 * t) (F-closing j i (omega arith)))))
+  expand-close u = table-equal (size f) _ _ (λ i h. ap (λ s. s % f .m) (sum-equal (size f) _ _ (λ j l. ap (λ t. getD u j 0 * t) (F-close j i (omega arith)))))
 
-  pub adjoint-closing : (u : List ℕ) → adjoint f u ≡ adjoint g u
+  pub adjoint-close : (u : List ℕ) → adjoint g u ≡ adjoint f u
   unfolding adjoint
-  adjoint-closing u = table-equal (size f) _ _ (λ j h. ap (λ s. s % f .m) (sum-equal (size f) _ _ (λ i l. ap (λ t. getD u i 0 * t) (F-closing j i (omega arith)))))
+  adjoint-close u = table-equal (size f) _ _ (λ j h. ap (λ s. s % f .m) (sum-equal (size f) _ _ (λ i l. ap (λ t. getD u i 0 * t) (F-close j i (omega arith)))))
 
-  top-closing : (k : ℕ) (p : List ℕ) → k ≤ rows f → top f k p ≡ top g k p
+  top-close : (k : ℕ) (p : List ℕ) → k ≤ rows f → top g k p ≡ top f k p
   unfolding top
-  top-closing k p h = ap (λ x. getD p k 0 * inverse (f .m) x % f .m) (F-closing k k h)
+  top-close k p h = ap (λ x. getD p k 0 * inverse (f .m) x % f .m) (F-close k k h)
 
-  lessTop-closing : (k y : ℕ) (p : List ℕ) → k ≤ rows f → lessTop f k y p ≡ lessTop g k y p
+  lessTop-close : (k y : ℕ) (p : List ℕ) → k ≤ rows f → lessTop g k y p ≡ lessTop f k y p
   unfolding lessTop
-  lessTop-closing k y p h = table-equal k _ _ (λ i l. ap (λ x. (getD p i 0 + negative (f .m) (y * x)) % f .m) (F-closing k i h))
+  lessTop-close k y p h = table-equal k _ _ (λ i l. ap (λ x. (getD p i 0 + negative (f .m) (y * x)) % f .m) (F-close k i h))
 
-  decomposeBelow-closing : (k : ℕ) (p : List ℕ) → k ≤ size f → decomposeBelow f k p ≡ decomposeBelow g k p
+  decomposeBelow-close : (k : ℕ) (p : List ℕ) → k ≤ size f → decomposeBelow g k p ≡ decomposeBelow f k p
   unfolding decomposeBelow
-  decomposeBelow-closing zero p h = refl
-  decomposeBelow-closing (suc k) p h = ap₂ (λ s y. s ++ y ∷ []) (decomposeBelow-closing k (lessTop f k (top f k p) p) (omega arith)
-      ∙ ap (decomposeBelow g k) (lessTop-closing k (top f k p) p (omega arith) ∙ ap (λ y. lessTop g k y p) (top-closing k p (omega arith)))) (top-closing k p (omega arith))
+  decomposeBelow-close zero p h = refl
+  decomposeBelow-close (suc k) p h = ap₂ (λ s y. s ++ y ∷ []) (decomposeBelow-close k (lessTop g k (top g k p) p) (omega arith)
+      ∙ ap (decomposeBelow f k) (lessTop-close k (top g k p) p (omega arith) ∙ ap (λ y. lessTop f k y p) (top-close k p (omega arith)))) (top-close k p (omega arith))
 
-  pub decompose-closing : (p : List ℕ) → decompose f p ≡ decompose g p
+  pub decompose-close : (p : List ℕ) → decompose g p ≡ decompose f p
   unfolding decompose
-  decompose-closing p = decomposeBelow-closing (size f) p (omega arith)
+  decompose-close p = decomposeBelow-close (size f) p (omega arith)

@@ -15,10 +15,11 @@ use Rattle.algebra.specs.Sum.{sum, sum-cong, sum-add, sum-mul-left}
 use Rattle.definitions.specs.Conversion.{expand, adjoint, decompose}
 use Rattle.definitions.specs.Family.{Family, Curve, size}
 use Rattle.definitions.specs.Number.{table}
-use Rattle.theory.specs.Bridge.{entries, rowsOf, entries-expand, entries-adjoint, table-curve, expand-curve, adjoint-curve, curve-equal}
+use Rattle.theory.specs.Bridge.{entries, rowsOf, entries-expand, entries-adjoint, expand-curve, adjoint-curve}
 use Rattle.theory.specs.Lists.{table-entry}
 use Rattle.theory.specs.Recurrence.{term}
 use Rattle.theory.specs.RoundTrip.{Decomposable, expand-decompose, decompose-unique}
+use Rattle.theory.specs.Curves.{table-curve, curves-equal-residues}
 
 unfoldable pub combine : ℕ → ℕ → ℕ → List ℕ → ℕ → List ℕ → List ℕ
 combine m n x u y v = table n (λ i. (x * getD u i 0 + y * getD v i 0) % m)
@@ -51,7 +52,7 @@ module _ (f : Family) (pos : 0 < f .m) where
   infixl 70 _⊗_
   pub combine-curve : (x : ℕ) (u : List ℕ) (y : ℕ) (v : List ℕ) → Curve f (combine m n x u y v)
   unfolding combine
-  combine-curve x u y v = table-curve f pos _ (λ i h. mod-lt _ pos)
+  combine-curve x u y v = table-curve f _ (λ i h. mod-lt _ pos)
 
   pub entries-combine : (x : ℕ) (u : List ℕ) (y : ℕ) (v : List ℕ) (i : ℕ) → i < n
       → entries m pos (combine m n x u y v) i ≡ res m pos x ⊗ entries m pos u i ⊕ res m pos y ⊗ entries m pos v i
@@ -62,7 +63,7 @@ module _ (f : Family) (pos : 0 < f .m) where
   module _ (φ : ℕ → ℕ → Car) (convert : List ℕ → List ℕ) (curve : (u : List ℕ) → Curve f (convert u))
       (multiplies : (u : List ℕ) (i : ℕ) → i < n → entries m pos (convert u) i ≡ sum Q n (λ j. entries m pos u j ⊗ φ j i)) where
     matrix-linear : (x : ℕ) (u : List ℕ) (y : ℕ) (v : List ℕ) → convert (combine m n x u y v) ≡ combine m n x (convert u) y (convert v)
-    matrix-linear x u y v = curve-equal f pos _ _ (curve (combine m n x u y v)) (combine-curve x (convert u) y (convert v))
+    matrix-linear x u y v = curves-equal-residues f _ _ (curve (combine m n x u y v)) (combine-curve x (convert u) y (convert v)) pos
         (λ i h. multiplies (combine m n x u y v) i h ∙ sum-cong Q n (λ j l. ap (λ t. t ⊗ φ j i) (entries-combine x u y v j l))
         ∙ sum-combine Q n (res m pos x) (res m pos y) (entries m pos u) (entries m pos v) (λ j. φ j i)
         ∙ sym (entries-combine x (convert u) y (convert v) i h ∙ simp (multiplies u i h, multiplies v i h)))

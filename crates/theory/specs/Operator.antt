@@ -2,9 +2,9 @@
 --   Operator R        a linear map of sequences
 --   Follows R X ρ y   y_{k+2} = a_{k+1} X(y_{k+1}) + b_{k+1} y_{k+1} + c_{k+1} y_k for every k, where each y_k is a sequence
 --   forward, backward, readings z   the operators x·, the shift that drops the first entry, and times z_t at place t
---   against n κ       w to the sums over i < n of κ_t(i) w_i;  pairing n u  the same with u_{t+i}: the sums of u_i times the
---                     coefficient of x^i in x^t w, if u is zero from n on
---   value ρ k x       the value of P_{k-1} at x
+--   against n κ       w to the sums over i < n of κ_t(i) w_i
+--   pairing n u       the same with u_{t+i}: if u is zero from n on, the sums of u_i times the coefficient of x^i in x^t w
+--   value ρ k x       the value of P_{k-1} at x;  shifted t w  the coefficients of x^t w
 -- Proves that two terms settle what follows given rows, that combinations and images follow too, and the instances: the terms
 -- P_{k-1} follow with forward, their values with readings, their pairings with backward. The last are the lists that Adjoint is
 -- worked with. Assumes nothing.
@@ -75,6 +75,10 @@ module _ (R : CommRing) where
       scales : (x : Car) (w : ℕ → Car) (t : ℕ) → shift R (λ s. x ⊗ w s) t ≡ x ⊗ shift R w t
       scales x w zero = sym (Ring.mul-zero R x)
       scales x w (suc t) = refl
+
+  unfoldable pub shifted : ℕ → (ℕ → Car) → ℕ → Car
+  shifted zero w = w
+  shifted (suc t) w = shifted t (shift R w)
 
   abbrev pub readings : (ℕ → Car) → Operator
   readings z = record { to = λ w t. z t ⊗ w t; to-add = λ v w t. R .mul-add (z t) (v t) (w t); to-mul = λ x w t. Ring.mul-left-comm R (z t) x (w t) }
@@ -150,6 +154,11 @@ module _ (R : CommRing) where
 
       pub pairing-forward : (p : ℕ → Car) (t : ℕ) → pairing .to (shift R p) t ≡ pairing .to p (suc t)
       pairing-forward p t = pairing-first (shift R p) t ∙ ap (λ x. x ⊕ pairing .to p (suc t)) (Ring.mul-zero R (u t)) ∙ Ring.zero-add R (pairing .to p (suc t))
+
+      pub pairing-shifted : (p : ℕ → Car) (t : ℕ) → sum R n (λ i. u i ⊗ shifted t p i) ≡ pairing .to p t
+      unfolding shifted
+      pairing-shifted p zero = sym (pairing-start p)
+      pairing-shifted p (suc t) = pairing-shifted (shift R p) t ∙ pairing-forward p t
 
       pub pairing-follows : (ρ : Rows R) → Follows backward ρ (λ k. pairing .to (term R ρ k))
       pairing-follows ρ = follows-map forward backward pairing ρ (term R ρ) pairing-forward (term-follows ρ)

@@ -11,12 +11,13 @@ use Rattle.algebra.specs.Residues.{Zmod, res, res-add, res-mul, res-mod}
 use Rattle.algebra.specs.Ring.{CommRing}
 use Rattle.definitions.specs.Conversion.{adjoint}
 use Rattle.definitions.specs.Family.{Family, Curve, size}
-use Rattle.theory.specs.Bridge.{entries, rowsOf, entries-adjoint, table-curve, adjoint-curve, curve-equal}
+use Rattle.theory.specs.Bridge.{entries, rowsOf, entries-adjoint, adjoint-curve}
 use Rattle.theory.specs.Entries.{entries-past, entries-zeros, entries-table}
 use Rattle.theory.specs.Lists.{table-entry}
 use Rattle.theory.specs.Operator.{pairing, pairing-start, pairing-none, pairing-past, pairing-follows, pairing-one}
 use Rattle.theory.specs.PlainModels.{State, adjointEntry, adjointStep, adjointState, plainAdjoint, adjointState-curves}
 use Rattle.theory.specs.Recurrence.{Rows, term}
+use Rattle.theory.specs.Curves.{table-curve, curves-equal-residues}
 
 module _ (f : Family) (pos : 0 < f .m) (u : List ℕ) (cu : Curve f u) where
   abbrev m : ℕ
@@ -57,10 +58,10 @@ module _ (f : Family) (pos : 0 < f .m) (u : List ℕ) (cu : Curve f u) where
 
   pub plainAdjoint-curve : Curve f (plainAdjoint f u)
   unfolding plainAdjoint
-  plainAdjoint-curve = table-curve f pos _ (λ j h. adjointState-curves f pos u cu j .currentCurve .below 0 (omega arith))
+  plainAdjoint-curve = table-curve f _ (λ j h. adjointState-curves f pos u cu j .currentCurve .below 0 (omega arith))
 
   pub plainAdjoint-adjoint : plainAdjoint f u ≡ adjoint f u
   unfolding plainAdjoint
-  plainAdjoint-adjoint = curve-equal f pos (plainAdjoint f u) (adjoint f u) plainAdjoint-curve (adjoint-curve f pos u)
+  plainAdjoint-adjoint = curves-equal-residues f (plainAdjoint f u) (adjoint f u) plainAdjoint-curve (adjoint-curve f pos u) pos
       (λ j h. ap (res m pos) (table-entry (size f) _ j 0 h) ∙ adjointState-pairing j .currentHolds 0
       ∙ pairing-start Q (size f) (entries m pos u) (term Q ρ (suc j)) ∙ sym (entries-adjoint f pos u j h))

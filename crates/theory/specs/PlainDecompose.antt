@@ -18,7 +18,7 @@ use Rattle.algebra.specs.Variable.{shift}
 use Rattle.definitions.specs.Conversion.{expand, decompose}
 use Rattle.definitions.specs.Family.{Family, Curve, rows, size, rowAt, timesX}
 use Rattle.definitions.specs.Number.{HasInverse, inverse}
-use Rattle.theory.specs.Bridge.{entries, rowsOf, entries-expand, expand-curve, curve-equal}
+use Rattle.theory.specs.Bridge.{entries, rowsOf, entries-expand, expand-curve}
 use Rattle.theory.specs.Combination.{combination, combination-last, combination-cong}
 use Rattle.theory.specs.Entries.{entries-past, entries-zeros, entries-table, entry-zero}
 use Rattle.theory.specs.Horner.{raised, raised-ends, horner-combination}
@@ -27,6 +27,7 @@ use Rattle.theory.specs.PlainModels.{constant, divide, raiseEntry, raise
 use Rattle.theory.specs.Recurrence.{Rows, term, degree}
 use Rattle.theory.specs.Residue.{residue-negative, residue-product-one}
 use Rattle.theory.specs.RoundTrip.{Decomposable, decompose-unique}
+use Rattle.theory.specs.Curves.{curves-equal-residues}
 
 pub record Inverts (f : Family) (d : List ℕ) : Type 0 where
   pub modulus : 2 ≤ f .m
@@ -141,7 +142,7 @@ module _ (f : Family) (pos : 0 < f .m) (d : List ℕ) where
 
       plainDecompose-back : Curve f p → expand f (plainDecompose f d p) ≡ p
       unfolding plainDecompose
-      plainDecompose-back cp = curve-equal f pos (expand f (plainDecompose f d p)) p (expand-curve f pos (plainDecompose f d p)) cp
+      plainDecompose-back cp = curves-equal-residues f (expand f (plainDecompose f d p)) p (expand-curve f pos (plainDecompose f d p)) cp pos
           (λ i h. entries-expand f pos (plainDecompose f d p) i h ∙ state-powers (size f) 0 (zero-add (size f)) i ∙ ap (E p) (zero-add i))
 
 pub plainDecompose-decompose : (f : Family) (d p : List ℕ) → Inverts f d → Curve f p → plainDecompose f d p ≡ decompose f p

@@ -19,11 +19,12 @@ use Rattle.algebra.specs.Sum.{sum, sum-empty, sum-first, sum-cong}
 use Rattle.algebra.specs.Variable.{C, X, co-C-mul, coefficients}
 use Rattle.definitions.specs.Conversion.{expand}
 use Rattle.definitions.specs.Family.{Family, rows, size, rowAt, timesX}
-use Rattle.theory.specs.Bridge.{entries, rowsOf, entries-expand, expand-curve, curve-equal}
+use Rattle.theory.specs.Bridge.{entries, rowsOf, entries-expand, expand-curve}
 use Rattle.theory.specs.Combination.{combination}
 use Rattle.theory.specs.Entries.{entries-zeros, entries-table, entry-zero}
 use Rattle.theory.specs.PlainModels.{State, zeros, constant, expandEntry, expandStep, expandState, plainExpand, expandState-curves}
 use Rattle.theory.specs.Recurrence.{Rows, poly, poly-zero, poly-one, poly-step, co-poly}
+use Rattle.theory.specs.Curves.{curves-equal-residues}
 
 module _ (R : CommRing) (ρ : Rows R) (u : ℕ → R .Car) where
   open CommRing R using (Car, zero as 𝟘)
@@ -135,5 +136,5 @@ module _ (f : Family) (pos : 0 < f .m) where
 
     pub plainExpand-expand : plainExpand f u ≡ expand f u
     unfolding plainExpand
-    plainExpand-expand = curve-equal f pos (plainExpand f u) (expand f u) (expandState-curves f pos u (size f) .currentCurve) (expand-curve f pos u)
+    plainExpand-expand = curves-equal-residues f (plainExpand f u) (expand f u) (expandState-curves f pos u (size f) .currentCurve) (expand-curve f pos u) pos
         (λ i h. expandState-partial (size f) 0 (zero-add (size f)) .currentHolds i ∙ partial-combination Q ρ (entries m pos u) (size f) i ∙ sym (entries-expand f pos u i h))

@@ -15,7 +15,7 @@ use native.Mathlib.Nat.{mod-lt}
 use lib.ListN.{getD, replicate, length-replicate}
 use Rattle.definitions.specs.Family.{Family, Curve, rows, size, rowAt, timesX}
 use Rattle.definitions.specs.Number.{table, negative}
-use Rattle.theory.specs.Bridge.{table-curve}
+use Rattle.theory.specs.Curves.{table-curve}
 
 pub record State : Type 0 where
   pub current : List ℕ
@@ -96,20 +96,20 @@ module _ (f : Family) (pos : 0 < f .m) where
   pub expandState-curves : (u : List ℕ) (i : ℕ) → CurveState f (expandState f u i)
   unfolding expandState expandStep expandEntry
   expandState-curves u zero = record { currentCurve = zeros-curve; previousCurve = zeros-curve }
-  expandState-curves u (suc i) = record { currentCurve = table-curve f pos _ (λ i h. mod-lt _ pos); previousCurve = expandState-curves u i .currentCurve }
+  expandState-curves u (suc i) = record { currentCurve = table-curve f _ (λ i h. mod-lt _ pos); previousCurve = expandState-curves u i .currentCurve }
 
   pub adjointState-curves : (u : List ℕ) → Curve f u → (j : ℕ) → CurveState f (adjointState f u j)
   unfolding adjointState adjointStep adjointEntry
   adjointState-curves u cu zero = record { currentCurve = cu; previousCurve = zeros-curve }
-  adjointState-curves u cu (suc j) = record { currentCurve = table-curve f pos _ (λ i h. mod-lt _ pos); previousCurve = adjointState-curves u cu j .currentCurve }
+  adjointState-curves u cu (suc j) = record { currentCurve = table-curve f _ (λ i h. mod-lt _ pos); previousCurve = adjointState-curves u cu j .currentCurve }
 
   pub divide-curve : (d w : List ℕ) → Curve f (divide f d w)
   unfolding divide
-  divide-curve d w = table-curve f pos _ (λ i h. mod-lt _ pos)
+  divide-curve d w = table-curve f _ (λ i h. mod-lt _ pos)
 
   pub raise-curve : (y : ℕ) (q : List ℕ) → Curve f (raise f y q)
   unfolding raise raiseEntry
-  raise-curve y q = table-curve f pos _ (λ i h. mod-lt _ pos)
+  raise-curve y q = table-curve f _ (λ i h. mod-lt _ pos)
 
   pub decomposeState-curve : (d p : List ℕ) (i : ℕ) → Curve f (decomposeState f d p i)
   unfolding decomposeState

@@ -19,11 +19,12 @@ use Rattle.algebra.specs.Unit.{IsUnit}
 use Rattle.definitions.specs.Conversion.{expand, top, lessTop, decomposeBelow, decompose}
 use Rattle.definitions.specs.Family.{Family, Convertible, Curve, rows, size, rowAt, F}
 use Rattle.definitions.specs.Number.{negative, HasInverse, inverse}
-use Rattle.theory.specs.Bridge.{entries, rowsOf, res-F, entries-expand, expand-curve, curve-equal}
+use Rattle.theory.specs.Bridge.{entries, rowsOf, res-F, entries-expand, expand-curve}
 use Rattle.theory.specs.Combination.{combination, combination-last, combination-cong, combination-top, combination-injective}
 use Rattle.theory.specs.Lists.{snoc-length, snoc-entry, snoc-last, table-entry}
 use Rattle.theory.specs.Recurrence.{Rows, term, leading}
 use Rattle.theory.specs.Residue.{residue-negative, residue-inverse, residue-unit}
+use Rattle.theory.specs.Curves.{curves-equal-residues}
 
 pub record Decomposable (f : Family) : Type 0 where
   pub modulus : 2 ≤ f .m
@@ -130,11 +131,11 @@ module _ (f : Family) (d : Decomposable f) where
   -- ---- the round trips
   pub expand-decompose : (p : List ℕ) → Curve f p → expand f (decompose f p) ≡ p
   unfolding decompose
-  expand-decompose p cp = curve-equal f pos (expand f (decompose f p)) p (expand-curve f pos (decompose f p)) cp
+  expand-decompose p cp = curves-equal-residues f (expand f (decompose f p)) p (expand-curve f pos (decompose f p)) cp pos
       (λ i h. entries-expand f pos (decompose f p) i h ∙ expand-below (size f) (omega arith) p i h)
 
   pub expand-injective : (u v : List ℕ) → Curve f u → Curve f v → expand f u ≡ expand f v → u ≡ v
-  expand-injective u v cu cv e = curve-equal f pos u v cu cv (combination-injective Q ρ (size f) (λ i h. a-unit i (le-of-suc-le-suc h)) (entries m pos u) (entries m pos v)
+  expand-injective u v cu cv e = curves-equal-residues f u v cu cv pos (combination-injective Q ρ (size f) (λ i h. a-unit i (le-of-suc-le-suc h)) (entries m pos u) (entries m pos v)
       (λ i h. sym (entries-expand f pos u i h) ∙ ap (λ t. entries m pos t i) e ∙ entries-expand f pos v i h))
 
   pub decompose-unique : (p u : List ℕ) → Curve f p → Curve f u → expand f u ≡ p → u ≡ decompose f p

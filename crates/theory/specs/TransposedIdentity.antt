@@ -14,8 +14,9 @@ use Rattle.algebra.specs.Sum.{sum-cong, sum-exchange, sum-mul-left, sum-mul-rig
 use Rattle.definitions.specs.Conversion.{expand, adjoint}
 use Rattle.definitions.specs.Family.{Family, size}
 use Rattle.definitions.specs.Number.{sum}
-use Rattle.theory.specs.Bridge.{entries, rowsOf, res-sum, entries-expand, entries-adjoint}
+use Rattle.theory.specs.Bridge.{entries, rowsOf, entries-expand, entries-adjoint}
 use Rattle.theory.specs.Recurrence.{term}
+use Rattle.theory.specs.Residue.{residue-sum}
 
 -- φ j i is the coefficient of x^i in the j-th polynomial of a basis
 module _ (R : CommRing) (φ : ℕ → ℕ → R .Car) where
@@ -29,7 +30,7 @@ module _ (R : CommRing) (φ : ℕ → ℕ → R .Car) where
 
 pub transposed-identity : (f : Family) → 0 < f .m → (u v : List ℕ)
     → sum (size f) (λ i. getD u i 0 * getD (expand f v) i 0) % f .m ≡ sum (size f) (λ j. getD (adjoint f u) j 0 * getD v j 0) % f .m
-transposed-identity f pos u v = mod-of-res m pos _ _ (simp (res-sum m pos, res-mul m pos)
+transposed-identity f pos u v = mod-of-res m pos _ _ (simp (residue-sum m pos, res-mul m pos)
     (sum-cong Q n (λ i h. ap (λ t. Q .mul (entries m pos u i) t) (entries-expand f pos v i h))
     ∙ transposed-sums Q (λ j i. term Q (rowsOf f pos) (suc j) i) n n (entries m pos u) (entries m pos v)
     ∙ sum-cong Q n (λ j h. ap (λ t. Q .mul t (entries m pos v j)) (sym (entries-adjoint f pos u j h)))))
