@@ -20,6 +20,7 @@ use Rattle.definitions.specs.Number.{table}
 use Rattle.theory.specs.Lists.{Filling, table-entry, filled, filled-below, filled-from, filled-length, filling-start, filling-next, filling-stop}
 use Rattle.theory.specs.PlainAdjoint.{plainAdjoint-adjoint}
 use Rattle.theory.specs.PlainModels.{zeros, zeros-entry, adjointEntry, adjointStep, adjointState, plainAdjoint}
+use Rattle.theory.specs.PlainSteps.{Agree, adjointEntry-agree}
 use Rattle.polynomial.specs.Row.{Below, RowInput}
 use Rattle.plain.specs.FirstRows.{Shaped, RowsBelow, firstRows-shaped, firstRows-below}
 use Rattle.plain.specs.Input.{firstRows, ConvertInput}
@@ -33,15 +34,6 @@ adjointEntry-below : (m a b c : ℕ) (current older : List ℕ) (t : ℕ) → 0 
 unfolding adjointEntry
 adjointEntry-below m a b c current older t pos = mod-lt _ pos
 
--- the first count entries agree
-abbrev AgreeBelow : ℕ → List ℕ → List ℕ → Type 0
-AgreeBelow count xs ys = (t : ℕ) → t < count → getD xs t 0 ≡ getD ys t 0
-
-adjointEntry-agrees : (m a b c count : ℕ) (current current′ older older′ : List ℕ) → AgreeBelow (count + 1) current current′ → AgreeBelow (count + 1) older older′
-    → (t : ℕ) → t < count → adjointEntry m a b c current older t ≡ adjointEntry m a b c current′ older′ t
-unfolding adjointEntry
-adjointEntry-agrees m a b c count current current′ older older′ p q t h = rw (p t (omega arith), p (suc t) (omega arith), q t (omega arith))
-
 module _ (f : Family) (u : List ℕ) (n : ℕ) where
   -- entry j of the answer
   abbrev answer : ℕ → ℕ
@@ -53,8 +45,8 @@ module _ (f : Family) (u : List ℕ) (n : ℕ) where
     pub olderLong : length older ≡ 128
     pub currentBelow : Below (f .m) current
     pub olderBelow : Below (f .m) older
-    pub currentIs : AgreeBelow (n - j) current (adjointState f u j .current)
-    pub olderIs : AgreeBelow (n - j) older (adjointState f u j .previous)
+    pub currentIs : Agree (n - j) current (adjointState f u j .current)
+    pub olderIs : Agree (n - j) older (adjointState f u j .previous)
     pub written : Filling answer j output₀ output
 
   module _ (shaped : Shaped f u n) where
@@ -96,16 +88,16 @@ module _ (f : Family) (u : List ℕ) (n : ℕ) where
           )
 
       -- a row's entries, as far as they count
-      current-next : AgreeBelow (n - (j + 1)) (filled (adjointEntry (f .m) (rowAt f j .a) (rowAt f j .b) (rowAt f j .c) current older) (n - 1 - j) current) (adjointState f u (suc j) .current)
+      current-next : Agree (n - (j + 1)) (filled (adjointEntry (f .m) (rowAt f j .a) (rowAt f j .b) (rowAt f j .c) current older) (n - 1 - j) current) (adjointState f u (suc j) .current)
       unfolding adjointState adjointStep
       current-next t g =
           let sized : size f ≡ n = shaped .sized in
           filled-below _ current (n - 1 - j) t 0 (omega arith)
-          ∙ adjointEntry-agrees (f .m) (rowAt f j .a) (rowAt f j .b) (rowAt f j .c) (n - 1 - j) current (adjointState f u j .current) older (adjointState f u j .previous)
+          ∙ adjointEntry-agree (n - 1 - j) current (adjointState f u j .current) older (adjointState f u j .previous) (f .m) (rowAt f j .a) (rowAt f j .b) (rowAt f j .c)
           (λ s k. h .currentIs s (omega arith)) (λ s k. h .olderIs s (omega arith)) t (omega arith)
           ∙ sym (table-entry (size f) _ t 0 (omega arith))
 
-      older-next : AgreeBelow (n - (j + 1)) (filled (λ t. getD current t 0) (n - 1 - j) older) (adjointState f u (suc j) .previous)
+      older-next : Agree (n - (j + 1)) (filled (λ t. getD current t 0) (n - 1 - j) older) (adjointState f u (suc j) .previous)
       unfolding adjointState adjointStep
       older-next t g = filled-below (λ t. getD current t 0) older (n - 1 - j) t 0 (omega arith) ∙ h .currentIs t (omega arith)
 

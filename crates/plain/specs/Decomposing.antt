@@ -2,7 +2,7 @@
 -- touches one more. No row's a is read, only its inverse: all that is said here holds of every list a that has these inverses.
 --   oppositeProduct m xs ys i                - xs_i ys_i, modulo m
 --   Tables m n v b c rise stay fall          the arrays of multiplication by x in the basis; v holds the inverses of the a
---   Decomposing m n v b c p current i        the array agrees with the model's state after i steps
+--   Decomposing m n v b c p current i        the array matches the model's state after i steps
 -- Proved: the arrays are what the model needs; how the loop starts, what its step is lent, how it goes on, and that it ends with
 -- Decompose.
 -- Assumes nothing.
@@ -25,7 +25,7 @@ use Rattle.theory.specs.PlainDecompose.{Inverts, decomposeState-ends, plainDeco
 use Rattle.theory.specs.PlainModels.{zeros, zeros-entry, raise, decomposeState, decomposeState-curve, plainDecompose}
 use Rattle.polynomial.specs.HornerRow.{HornerInput}
 use Rattle.polynomial.specs.Row.{Below}
-use Rattle.plain.specs.Agreement.{Agree, curve-below, filled-agrees, table-agrees}
+use Rattle.plain.specs.Matching.{Match, curve-below, filled-matches, table-matches}
 use Rattle.plain.specs.FirstRows.{Shaped, entry-inside, firstRows-shaped}
 use Rattle.plain.specs.Input.{firstRows, ConvertInput, InversesOf}
 
@@ -48,18 +48,18 @@ filled-at g h count list e same past i = ap (λ s. getD s i 0) e ∙ by-cases (d
     (λ l. filled-from g (zeros 128) count i 0 (omega arith) ∙ zeros-entry 128 i ∙ sym (past i (omega arith)))
 
 -- a step of the array is a step of the model
-step-agrees : (f : Family) (pos : 0 < f .m) (d u rise stay fall : List ℕ) → Basis f d rise stay fall → (y i : ℕ) (current : List ℕ) → suc i ≤ size f → y ≡ getD u (rows f - i) 0
-    → Agree current (decomposeState f d u i) → Agree (filled (basisEntry (f .m) y rise stay fall current) (i + 1) current) (decomposeState f d u (suc i))
+step-matches : (f : Family) (pos : 0 < f .m) (d u rise stay fall : List ℕ) → Basis f d rise stay fall → (y i : ℕ) (current : List ℕ) → suc i ≤ size f → y ≡ getD u (rows f - i) 0
+    → Match current (decomposeState f d u i) → Match (filled (basisEntry (f .m) y rise stay fall current) (i + 1) current) (decomposeState f d u (suc i))
 unfolding decomposeState raise
-step-agrees f pos d u rise stay fall basis y i current l e h =
-    filled-agrees (i + 1) current (λ t g. h t ∙ decomposeState-ends f pos d u i t (omega arith) (omega arith)) _ _ (size f) (omega arith)
+step-matches f pos d u rise stay fall basis y i current l e h =
+    filled-matches (i + 1) current (λ t g. h t ∙ decomposeState-ends f pos d u i t (omega arith) (omega arith)) _ _ (size f) (omega arith)
     (λ t g. basisEntry-raises f pos d rise stay fall basis y current (decomposeState f d u i) h (decomposeState-curve f pos d u i) t ∙ rw e)
     (λ t g k. sym (table-entry (size f) _ t 0 k) ∙ decomposeState-ends f pos d u (suc i) t l (omega arith))
 
 pub record Decomposing (m n : ℕ) (v b c p : List ℕ) (current : List ℕ) (i : ℕ) : Type 0 where
   pub reached : i ≤ n
   pub long : length current ≡ 128
-  pub is : (a : List ℕ) → n - 1 ≤ length a → Agree current (decomposeState (firstRows m n a b c) (take (n - 1) v) (take n p) i)
+  pub is : (a : List ℕ) → n - 1 ≤ length a → Match current (decomposeState (firstRows m n a b c) (take (n - 1) v) (take n p) i)
 
 pub decomposing-starts : {m n : ℕ} {v b c p current : List ℕ} → current ≡ zeros 128 → Decomposing m n v b c p current 0
 unfolding decomposeState
@@ -124,13 +124,13 @@ module _ {m n : ℕ} {v b c p output : List ℕ} (input : ConvertInput m v b c p
           }
 
       step-is : (a : List ℕ) → n - 1 ≤ length a
-          → Agree (filled (basisEntry m (getD p (n - 1 - i) 0) rise stay fall current) (i + 1) current) (decomposeState (firstRows m n a b c) d (take n p) (suc i))
+          → Match (filled (basisEntry m (getD p (n - 1 - i) 0) rise stay fall current) (i + 1) current) (decomposeState (firstRows m n a b c) d (take n p) (suc i))
       unfolding firstRows
       step-is a r =
           let two : 2 ≤ m = input .sizes .modulus .least in
           let sized : size (firstRows m n a b c) ≡ n = shaped a r .sized in
           let k : rows (firstRows m n a b c) - i ≡ n - 1 - i = omega arith in
-          step-agrees (firstRows m n a b c) (omega arith) d (take n p) rise stay fall (basis a) (getD p (n - 1 - i) 0) i current (omega arith)
+          step-matches (firstRows m n a b c) (omega arith) d (take n p) rise stay fall (basis a) (getD p (n - 1 - i) 0) i current (omega arith)
           (rw k (sym (getD-take n p (n - 1 - i) 0 (omega arith)))) (h .is a r)
 
       pub decompose-step : {current′ : List ℕ} → current′ ≡ filled (basisEntry m (getD p (n - 1 - i) 0) rise stay fall current) (i + 1) current → Decomposing m n v b c p current′ (i + 1)
@@ -158,5 +158,5 @@ module _ {m n : ℕ} {v b c p output : List ℕ} (input : ConvertInput m v b c p
       let sized : size f ≡ n = whole .sized in
       let two : 2 ≤ f .m = whole .modulus .least in
       let done : i ≡ size f = omega arith in
-      e ∙ ap (λ s. s ++ drop n output) (table-agrees current (plainDecompose f d (take n p)) n (decomposeState-curve f (omega arith) d (take n p) (size f) .long ∙ sized)
+      e ∙ ap (λ s. s ++ drop n output) (table-matches current (plainDecompose f d (take n p)) n (decomposeState-curve f (omega arith) d (take n p) (size f) .long ∙ sized)
       (λ t. h .is a (inverses .long) t ∙ ap (λ j. getD (decomposeState f d (take n p) j) t 0) done) ∙ plainDecompose-decompose f d (take n p) (inverts a inverses) (whole .curve))

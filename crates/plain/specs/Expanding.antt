@@ -1,30 +1,25 @@
 -- Expand downwards in local arrays, against the plain model. After i steps the lists have i coefficients that may not be zero, so
 -- that each step touches one more.
---   Expanding f u n current older i   the arrays agree with the model's state after i steps
+--   Expanding f u n current older i   the arrays match the model's state after i steps
 -- Proved: how the loop starts, what its step is lent, how it goes on, and that it ends with Expand.
 -- Assumes nothing.
-use mathlib.Core.Path.{_≡_, sym, _∙_, ap, ap₂, fun-ext}
+use mathlib.Core.Path.{_≡_, sym, _∙_, ap}
 use mathlib.Core.List.{List, _++_}
-use Prim.Native.Nat.{ℕ, zero, suc, _+_, _*_, _-_, _%_, _≤_, _<_}
+use Prim.Native.Nat.{ℕ, zero, suc, _+_, _-_, _≤_, _<_}
 use native.Mathlib.Numerals.{add-one}
 use native.Mathlib.Omega.{arith}
 use lib.ListN.{length, getD, take, drop}
 use lib.Seq.{getD-take}
 use Rattle.definitions.specs.Conversion.{expand}
-use Rattle.definitions.specs.Family.{Family, rows, size, rowAt, timesX}
+use Rattle.definitions.specs.Family.{Family, rows, size, rowAt}
 use Rattle.theory.specs.Lists.{table-entry, filled, filled-length}
 use Rattle.theory.specs.PlainExpand.{expandState-ends, plainExpand-expand}
-use Rattle.theory.specs.PlainModels.{zeros, zeros-entry, constant, expandEntry, expandStep, expandState, expandState-curves, plainExpand}
+use Rattle.theory.specs.PlainModels.{zeros, zeros-entry, expandEntry, expandStep, expandState, expandState-curves, plainExpand}
+use Rattle.theory.specs.PlainSteps.{expandEntry-agree}
 use Rattle.polynomial.specs.Row.{RowInput}
-use Rattle.plain.specs.Agreement.{Agree, ZeroFrom, curve-below, filled-agrees, filled-copies, table-agrees}
+use Rattle.plain.specs.Matching.{Match, ZeroFrom, curve-below, filled-matches, filled-copies, table-matches}
 use Rattle.plain.specs.FirstRows.{Shaped, RowsBelow, firstRows-shaped, firstRows-below}
 use Rattle.plain.specs.Input.{firstRows, ConvertInput}
-
-expandEntry-agrees : (m y a b c : ℕ) (current current′ older older′ : List ℕ) (t : ℕ) → Agree current current′ → Agree older older′
-    → expandEntry m y a b c current older t ≡ expandEntry m y a b c current′ older′ t
-unfolding expandEntry
-expandEntry-agrees m y a b c current current′ older older′ t p q =
-    ap₂ (λ (s r : ℕ → ℕ). (constant y t + a * timesX s t + b * s t + c * r t) % m) (fun-ext p) (fun-ext q)
 
 -- ---- the loop
 module _ (f : Family) (pos : 0 < f .m) (u : List ℕ) where
@@ -45,8 +40,8 @@ module _ (f : Family) (u : List ℕ) (n : ℕ) where
     pub reached : i ≤ n
     pub currentLong : length current ≡ 128
     pub olderLong : length older ≡ 128
-    pub currentIs : Agree current (expandState f u i .current)
-    pub olderIs : Agree older (expandState f u i .previous)
+    pub currentIs : Match current (expandState f u i .current)
+    pub olderIs : Match older (expandState f u i .previous)
 
   pub expanding-starts : (current older : List ℕ) → current ≡ zeros 128 → older ≡ zeros 128 → Expanding current older 0
   unfolding expandState
@@ -90,18 +85,18 @@ module _ (f : Family) (u : List ℕ) (n : ℕ) where
           let sized : size f ≡ n = shaped .sized in
           h .olderIs t ∙ previous-ends f (omega arith) u i t (omega arith) (omega arith)
 
-      current-next : Agree (filled (expandEntry (f .m) x a b c current older) (i + 1) current) (expandState f u (suc i) .current)
+      current-next : Match (filled (expandEntry (f .m) x a b c current older) (i + 1) current) (expandState f u (suc i) .current)
       unfolding expandState expandStep
       current-next =
           let two : 2 ≤ f .m = shaped .modulus .least in
           let sized : size f ≡ n = shaped .sized in
           let k : rows f - i ≡ n - 1 - i = omega arith in
-          filled-agrees (i + 1) current zero-current (expandEntry (f .m) x a b c current older) _ (size f) (omega arith)
-          (λ t g. expandEntry-agrees (f .m) x a b c current (expandState f u i .current) older (expandState f u i .previous) t (h .currentIs) (h .olderIs)
+          filled-matches (i + 1) current zero-current (expandEntry (f .m) x a b c current older) _ (size f) (omega arith)
+          (λ t g. expandEntry-agree (i + 1) current (expandState f u i .current) older (expandState f u i .previous) (f .m) x a b c (λ s k. h .currentIs s) (λ s k. h .olderIs s) t g
           ∙ rw (k, row .xIs, row .aIs, row .bIs, row .cIs))
           (λ t g d. sym (table-entry (size f) _ t 0 d) ∙ expandState-ends f (omega arith) u (suc i) t (omega arith) (omega arith))
 
-      older-next : Agree (filled (λ t. getD current t 0) (i + 1) older) (expandState f u (suc i) .previous)
+      older-next : Match (filled (λ t. getD current t 0) (i + 1) older) (expandState f u (suc i) .previous)
       unfolding expandState expandStep
       older-next t = filled-copies (i + 1) older zero-older current zero-current t ∙ h .currentIs t
 
@@ -123,7 +118,7 @@ module _ (f : Family) (u : List ℕ) (n : ℕ) where
         let two : 2 ≤ f .m = shaped .modulus .least in
         let pos : 0 < f .m = omega arith in
         let done : i ≡ size f = omega arith in
-        e ∙ ap (λ s. s ++ drop n output) (table-agrees current (plainExpand f u) n (expandState-curves f pos u (size f) .currentCurve .long ∙ sized)
+        e ∙ ap (λ s. s ++ drop n output) (table-matches current (plainExpand f u) n (expandState-curves f pos u (size f) .currentCurve .long ∙ sized)
         (λ t. h .currentIs t ∙ ap (λ j. getD (expandState f u j .current) t 0) done) ∙ plainExpand-expand f pos u)
 
 -- ---- over the lists that are lent

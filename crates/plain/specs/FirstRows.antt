@@ -1,8 +1,7 @@
 -- The family of the first rows, as the loops know it.
 --   Shaped f u n   the family has n - 1 rows, the list is a curve of it, and both fit the local arrays
 --   RowsBelow f    every row's entries are below m, those of the closing row too
--- Proved: the lists that a conversion is lent stand for such a family and curve; lists that are just as long as they need be stand
--- for themselves.
+-- Proved: the lists that a conversion is lent stand for such a family and curve.
 -- Assumes nothing.
 use mathlib.Core.Path.{_≡_, sym, _∙_, ap}
 use mathlib.Core.List.{List}
@@ -11,8 +10,8 @@ use Prim.Native.Nat.{ℕ, suc, _-_, _≤_, _<_}
 use native.Mathlib.Decide.{decLt}
 use native.Mathlib.Omega.{arith}
 use lib.ListN.{length, getD, take, List·getD-eq-default}
-use lib.Seq.{length-take-le, getD-take, take-all}
-use Rattle.definitions.specs.Family.{Family, Modulus, Curve, family, size, rowAt}
+use lib.Seq.{length-take-le, getD-take}
+use Rattle.definitions.specs.Family.{Family, Modulus, Curve, size, rowAt}
 use Rattle.theory.specs.Lists.{getD-default}
 use Rattle.plain.specs.Input.{firstRows, Holds, Sizes}
 
@@ -64,8 +63,3 @@ pub firstRows-below : (m n : ℕ) (a b c : List ℕ) → 1 < m → Holds m (n - 
 unfolding firstRows rowAt
 firstRows-below m n a b c one ha hb hc =
     record { aBelow = entry-below m (n - 1) a one ha; bBelow = entry-below m (n - 1) b one hb; cBelow = entry-below m (n - 1) c one hc }
-
--- where the lists are n - 1 long they are the family's own
-pub firstRows-whole : (m n : ℕ) (a b c : List ℕ) → length a ≤ n - 1 → length b ≤ n - 1 → length c ≤ n - 1 → firstRows m n a b c ≡ family m a b c
-unfolding firstRows
-firstRows-whole m n a b c la lb lc = rw (take-all (n - 1) a la, take-all (n - 1) b lb, take-all (n - 1) c lc)

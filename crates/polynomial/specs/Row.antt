@@ -2,7 +2,7 @@
 --   Below m xs   every entry of xs is below m, and so is the zero that is read past its end
 --   Summands     the numbers of one sum of products are residues modulo a modulus of at most 31 bits
 --   RowInput     the same of a row and of the two lists that it moves on, which have room for count entries
--- Proved: three products of residues, summed, are far below 64 bits.
+-- Proved: a product of two residues is at most the square of the greatest, so that three of them and a residue fit 64 bits.
 -- Assumes nothing.
 use mathlib.Core.List.{List}
 use Prim.Native.Nat.{ℕ, zero, suc, _*_, _≤_, _<_}

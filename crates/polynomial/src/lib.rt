@@ -35,7 +35,7 @@ pub fn copy(from: &[u32], count: usize, to: &mut [u32])
     }
 }
 
-// s + a p + b q + c r modulo m. Four products of residues and one more fit 64 bits.
+// s + a p + b q + c r modulo m: three products of residues and one more fit 64 bits.
 pub fn combine(m: u32, s: u32, a: u32, p: u32, b: u32, q: u32, c: u32, r: u32) -> u32
     requires { ⌜ Summands m s a p b q c r ⌝ }
     ensures { λ v. ⌜ v ≡ (s + a * p + b * q + c * r) % m ⌝ }
