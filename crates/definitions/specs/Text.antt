@@ -45,14 +45,14 @@ decimal x = decimalWithin x x
 -- a space before each number
 unfoldable pub spaced : List ℕ → List ℕ
 spaced [] = []
-spaced (x ∷ xs) = space ∷ decimal x ++ spaced xs
+spaced (x ∷ xs) = space ∷ (decimal x ++ spaced xs)
 
 unfoldable pub numbers : List ℕ → List ℕ
 numbers [] = []
 numbers (x ∷ xs) = decimal x ++ spaced xs
 
 unfoldable pub line : List ℕ → List ℕ → List ℕ → List ℕ
-line key content rest = key ++ content ++ newline ∷ rest
+line key content rest = key ++ (content ++ newline ∷ rest)
 
 abbrev pub modulusKey : List ℕ
 modulusKey = bytes "mod="

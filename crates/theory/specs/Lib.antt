@@ -22,3 +22,10 @@ pub mod Quotient
 pub mod Moments
 pub mod ProductLaw
 pub mod Gram
+pub mod Decimal
+pub mod DecimalReading
+pub mod NumbersReading
+pub mod LinesReading
+pub mod Texts
+pub mod AnswerTexts
+pub mod Overwriting
