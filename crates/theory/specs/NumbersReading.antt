@@ -48,36 +48,38 @@ readNumbers-some x (b ∷ t) rest e = split (isDigit b) refl e
     split false d e = absurd (got-not-bad e)
 
 -- ---- numbers are read back
+pub read-first : (x : ℕ) (xs t : List ℕ) → x ≤ greatestNumber → readNumber (decimal x ++ (spaced xs ++ newline ∷ t)) ≡ got x (spaced xs ++ newline ∷ t)
+unfolding spaced
+read-first x [] t h = read-decimal x newline t h newline-no-digit
+read-first x (y ∷ ys) t h = read-decimal x space ((decimal y ++ spaced ys) ++ newline ∷ t) h space-no-digit
+
 readSome-spaced : (k x : ℕ) (xs t : List ℕ) → length xs < k → AllWritable (x ∷ xs)
     → readSome k (decimal x ++ (spaced xs ++ newline ∷ t)) ≡ got (x ∷ xs) (newline ∷ t)
 unfolding spaced
 readSome-spaced zero x xs t l h = absurd (omega arith)
-readSome-spaced (suc k) x [] t l h = readSome-step k x _ _ (read-decimal x newline t (h .0) newline-no-digit) ∙ readOn-newline (readSome k) x t
-readSome-spaced (suc k) x (y ∷ ys) t l h =
-    readSome-step k x _ _ (read-decimal x space ((decimal y ++ spaced ys) ++ newline ∷ t) (h .0) space-no-digit)
-    ∙ readOn-space (readSome k) x ((decimal y ++ spaced ys) ++ newline ∷ t)
-    ∙ ap (λ q. put x (readSome k q)) (append-assoc (decimal y) (spaced ys) (newline ∷ t)) ∙ ap (put x) (readSome-spaced k y ys t (omega arith) (h .1))
+readSome-spaced (suc k) x xs t l h = readSome-step k x _ _ (read-first x xs t (h .0)) ∙ on xs l (h .1) (readSome-spaced k)
+  where
+    on : (xs : List ℕ) → length xs < suc k → AllWritable xs
+        → ((y : ℕ) (ys t : List ℕ) → length ys < k → AllWritable (y ∷ ys) → readSome k (decimal y ++ (spaced ys ++ newline ∷ t)) ≡ got (y ∷ ys) (newline ∷ t))
+        → readOn (readSome k) x (spaced xs ++ newline ∷ t) ≡ got (x ∷ xs) (newline ∷ t)
+    on [] l h next = readOn-newline (readSome k) x t
+    on (y ∷ ys) l h next =
+        readOn-space (readSome k) x ((decimal y ++ spaced ys) ++ newline ∷ t)
+        ∙ ap (λ q. put x (readSome k q)) (append-assoc (decimal y) (spaced ys) (newline ∷ t)) ∙ ap (put x) (next y ys t (omega arith) h)
 
 length-spaced : (xs : List ℕ) → length xs ≤ length (spaced xs)
 unfolding spaced
 length-spaced [] = omega arith
 length-spaced (x ∷ xs) = omega (arith, length-append (decimal x) (spaced xs), length-spaced xs)
 
-first-read : (x : ℕ) (xs t : List ℕ) → x ≤ greatestNumber → (rest : List ℕ) × (readNumber (decimal x ++ (spaced xs ++ newline ∷ t)) ≡ got x rest)
-unfolding spaced
-first-read x [] t h = (newline ∷ t, read-decimal x newline t h newline-no-digit)
-first-read x (y ∷ ys) t h =
-    (space ∷ ((decimal y ++ spaced ys) ++ newline ∷ t), read-decimal x space ((decimal y ++ spaced ys) ++ newline ∷ t) h space-no-digit)
-
 pub read-numbers : (xs t : List ℕ) → AllWritable xs → readNumbers (numbers xs ++ newline ∷ t) ≡ got xs (newline ∷ t)
 unfolding numbers readNumbers isDigit
 read-numbers [] t h = refl
 read-numbers (x ∷ xs) t h =
     let s = decimal x ++ (spaced xs ++ newline ∷ t) in
-    let first = first-read x xs t (h .0) in
     let l : length xs < length s =
     omega (arith, length-append (decimal x) (spaced xs ++ newline ∷ t), length-append (spaced xs) (newline ∷ t), length-spaced xs) in
-    ap readNumbers (append-assoc (decimal x) (spaced xs) (newline ∷ t)) ∙ readNumbers-some x s (first .0) (first .1) ∙ readSome-spaced (length s) x xs t l h
+    ap readNumbers (append-assoc (decimal x) (spaced xs) (newline ∷ t)) ∙ readNumbers-some x s _ (read-first x xs t (h .0)) ∙ readSome-spaced (length s) x xs t l h
 
 -- ---- what is read stood there
 pub record NumbersFront (t xs rest : List ℕ) : Type 0 where
@@ -93,7 +95,7 @@ pub put-got : (x : ℕ) (r : Front (List ℕ)) (xs rest : List ℕ) → put x r 
 put-got x (got ys q) xs rest e = let a : q ≡ rest = cc in (ys, cc, cc)
 put-got x bad xs rest e = absurd (got-not-bad e)
 
-spaced-numbers : (xs : List ℕ) → 0 < length xs → spaced xs ≡ space ∷ numbers xs
+pub spaced-numbers : (xs : List ℕ) → 0 < length xs → spaced xs ≡ space ∷ numbers xs
 unfolding spaced numbers
 spaced-numbers [] h = absurd (omega arith)
 spaced-numbers (x ∷ xs) h = refl
