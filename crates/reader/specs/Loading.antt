@@ -2,15 +2,15 @@
 --   readList t                the numbers that are read off the front of t
 --   Loadable t at n out       a list of n numbers stands in t at place at, and out has room for it
 --   Loading t at n old out i k   the first k of them are in out, and the next one begins at place i
--- Proved: how loading begins, goes on and ends; no number is missing on the way; and what is read at a place where a list
--- stands is that list (list-at). Assumes nothing.
+-- Proved: how loading begins, goes on and ends; no number is missing on the way; what is read at a place where a list stands is
+-- that list (list-at), and the front of what was loaded is it (loaded-front). Assumes nothing.
 use mathlib.Core.Path.{_≡_, refl, sym, _∙_, ap}
 use mathlib.Core.List.{List, [], _∷_, _++_, append-assoc, append-nil}
 use Prim.Native.Nat.{ℕ, suc, _+_, _<_, _≤_}
 use native.Mathlib.Numerals.{add-one}
 use native.Mathlib.Omega.{arith}
-use lib.ListN.{length, getD, drop, set, length-append, length-set}
-use lib.Seq.{drop-cons, drop-drop, set-at}
+use lib.ListN.{length, getD, take, drop, set, length-append, length-set}
+use lib.Seq.{drop-cons, drop-drop, set-at, take-at}
 use Rattle.definitions.specs.Text.{newline, decimal, spaced, numbers}
 use Rattle.definitions.specs.Reading.{Front, got, bad, readNumber, readNumbers}
 use Rattle.theory.specs.DecimalReading.{got-not-bad}
@@ -33,6 +33,11 @@ pub record Loadable (t : List ℕ) (at n : ℕ) (out : List ℕ) : Type 0 where
 pub list-at : (t : List ℕ) (at n : ℕ) (xs : List ℕ) → NumbersAt t at n xs → readList (drop at t) ≡ xs
 unfolding readList
 list-at t at n xs h = ap (λ q. listOf (readNumbers q)) (h .text) ∙ ap listOf (read-numbers xs (h .rest) (h .writable))
+
+-- for a caller: the front of the list after loading
+pub loaded-front : (t : List ℕ) (at n : ℕ) (xs old new : List ℕ) → NumbersAt t at n xs → new ≡ readList (drop at t) ++ drop n old → take n new ≡ xs
+loaded-front t at n xs old new h e =
+    ap (take n) (e ∙ ap (λ ys. ys ++ drop n old) (list-at t at n xs h)) ∙ take-at xs (drop n old) n (h .count)
 
 -- ---- the first number of a list, and the rest of it
 first-at : (t : List ℕ) (i n x : ℕ) (xs : List ℕ) (h : NumbersAt t i n (x ∷ xs)) → readNumber (drop i t) ≡ got x (spaced xs ++ newline ∷ h .rest)
