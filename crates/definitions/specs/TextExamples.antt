@@ -1,12 +1,14 @@
 -- The paper's job and its answer byte for byte, and texts at the edges of the form, by computation.
---   handed s    what the text call hands out: its verdict, with the bytes of the answer text as the values
+--   verdictOn   what the text call hands out on a text and two lengths: its verdict, with the answer text's bytes as the values
 --   samples     each text, with the lengths of output and working list, beside what it must hand out
--- samples-hold: every row of the table is right. job-written and job-read: the paper's job is written and read so.
+-- samples-hold: every row of the table is right. job-written and job-read: the paper's job is written and read so. bytes-counted and
+-- rows-counted: where 1 and 5 begin.
 -- Assumes nothing.
 use mathlib.Core.Path.{_≡_, refl}
 use mathlib.Core.List.{List, [], _∷_, map}
 use Prim.Native.Nat.{ℕ}
 use Prim.Native.String.{String}
+use lib.ListN.{replicate}
 use Rattle.definitions.specs.Number.{sum, table, negative, inverseBelow, inverse}
 use Rattle.definitions.specs.Family.{rowAt, timesX, term, F, G}
 use Rattle.definitions.specs.Conversion.{expand, adjoint, top, lessTop, decomposeBelow, decompose}
@@ -42,9 +44,12 @@ abbrev _gives_ : String → Verdict → Sample
 text gives hands = record { text = text; output = textOutputLength; work = workLength; hands = hands }
 
 -- whoever unfolds it unfolds the definitions that it leads to
-unfoldable pub handed : Sample → Verdict
+unfoldable pub verdictOn : List ℕ → ℕ → ℕ → Verdict
 unfolding sum table negative inverseBelow inverse rowAt timesX term F G expand adjoint top lessTop decomposeBelow decompose reversal nextQuotient quotient moments signedProduct norm norms verdict some differ notBelow noInverse modulusTest lengthsTest rowCountTest curveLengthTest workTest entriesTest aInverseTest cInverseTest curveEntriesTest decimalWithin decimal spaced numbers line name answerText readKey isDigit readDigits readNumber readOn readSome readNumbers readName ended readLine readLines readJob textLengthTest emptyCurveTest curveTest textOutputTest jobTests formTests textTests converted result replyTo reply
-handed s = verdict (textTests (bytes (s .text)) (s .output) (s .work)) (reply (bytes (s .text)))
+verdictOn t output work = verdict (textTests t output work) (reply t)
+
+abbrev pub handed : Sample → Verdict
+handed s = verdictOn (bytes (s .text)) (s .output) (s .work)
 
 abbrev pub samples : List Sample
 samples =
@@ -68,10 +73,24 @@ samples =
     ∷ "mod=7\na=1 2\nb=0 9\nc=1 5\nop=norms\nv=9\n" gives refused 6
     ∷ "mod=7\na=1 2\nb=0 9\nc=1 5\nop=expand\nv=9\n" gives refused 6
     ∷ "mod=7\na=1 0\nb=0 9\nc=1 5\nop=norms\nv=\n" gives refused 9
+    ∷ "mod=7\na=1 0\nb=0 0\nc=1 0\nop=norms\nv=\n" gives refused 10
+    ∷ "mod=15\na=1 1\nb=0 0\nc=1 6\nop=expand\nv=15 0 0\n" gives refused 11
     ∷ record { text = paperText; output = 4095; work = 16383; hands = refused 7 }
     ∷ record { text = paperText; output = 4096; work = 16383; hands = refused 8 }
     ∷ []
 
 pub samples-hold : map handed samples ≡ map (λ s. s .hands) samples
-unfolding handed
+unfolding verdictOn
 samples-hold = refl
+
+-- 8,192 bytes are looked at and 8,193 are not; 127 rows pass test 5, so that the missing curve gives 6, and 128 do not
+abbrev pub rowsOf : ℕ → WrittenJob
+rowsOf r = record { modulus = 7; a = replicate r 1; b = replicate r 0; c = replicate r 1; operation = Operation.Expand; curve = [] }
+
+pub bytes-counted : (verdictOn (replicate 8192 48) textOutputLength workLength ≡ refused 2) × (verdictOn (replicate 8193 48) textOutputLength workLength ≡ refused 1)
+unfolding verdictOn
+bytes-counted = (refl, refl)
+
+pub rows-counted : (verdictOn (jobText (rowsOf 127)) textOutputLength workLength ≡ refused 6) × (verdictOn (jobText (rowsOf 128)) textOutputLength workLength ≡ refused 5)
+unfolding verdictOn jobText
+rows-counted = (refl, refl)
