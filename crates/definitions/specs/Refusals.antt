@@ -44,7 +44,7 @@ noInverse m x = not (eqb (x * inverse m x % m) 1)
 abbrev pub workLength : ℕ
 workLength = 16384
 
-abbrev test : ℕ → Bool → Test
+abbrev pub test : ℕ → Bool → Test
 test number holds = record { number = number; holds = holds }
 
 -- the writer of the station's program

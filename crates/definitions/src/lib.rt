@@ -1,4 +1,4 @@
-// How the calls answer. An answer is the finished kind or a refusal number (the scope paper, 'Who causes which refusal');
+// How the calls answer, and what a job may ask for. An answer is the finished kind or a refusal number (the scope paper, 'Who causes which refusal');
 // specs/Answers.antt gives the paper's number and values for each case, and every promise goes through that definition.
 
 // The answer of a call whose result stands in a lent output.
@@ -11,4 +11,13 @@ pub enum Answer {
 pub enum Valued {
     Value(u32),
     Refused(u32),
+}
+
+// The operations of a job.
+pub enum Operation {
+    Expand,
+    Adjoint,
+    Decompose,
+    Moments,
+    Norms,
 }

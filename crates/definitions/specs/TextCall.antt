@@ -1,0 +1,82 @@
+-- The text call: its tests in their order, what it hands out, and what it promises on every input.
+--   textTests t output work   the tests over the bytes t and the lengths of the output and of the working list
+--   result j                  the list that a job asks for
+--   reply t                   the answer text of the job that stands in t
+--   TextConverted             the promise: its answer is the length of the text written, or a refusal
+-- A text that is not of the form has no job, so no test follows 2 there. The tests from 3 on are those of the other calls but for
+-- the curve, which is empty for moments and norms, and the output, which may be longer.
+-- The scope paper, 'The job text' and 'Who causes which refusal'. Assumes nothing.
+use mathlib.Core.Path.{_≡_}
+use mathlib.Core.Bool.{true, false}
+use mathlib.Core.List.{List, [], _∷_, _++_}
+use Prim.Native.Nat.{ℕ}
+use lib.Dec.{ltb}
+use lib.ListN.{length, drop}
+use Rattle.definitions.specs.Family.{Family}
+use Rattle.definitions.specs.Conversion.{expand, adjoint, decompose}
+use Rattle.definitions.specs.Orthogonality.{moments, norms}
+use Rattle.definitions.specs.Refusals.{Test, test, verdict, differ, modulusTest, lengthsTest, rowCountTest, curveLengthTest, workTest, entriesTest, aInverseTest, cInverseTest, curveEntriesTest}
+use Rattle.definitions.specs.Answers.{valued, after, cleared}
+use Rattle.definitions.specs.Text.{Job, meant, answerText}
+use Rattle.definitions.specs.Reading.{Read, found, malformed, readJob}
+use Rattle.definitions.specs.declared.Operation.{Operation}
+use Rattle.definitions.specs.declared.Valued.{Valued}
+
+abbrev pub mostBytes : ℕ
+mostBytes = 8192
+
+abbrev pub textOutputLength : ℕ
+textOutputLength = 4096
+
+-- the sender of the job text
+unfoldable pub textLengthTest : List ℕ → Test
+textLengthTest t = test 1 (ltb mostBytes (length t))
+
+-- the writer of the station's program, or the sender of the job text
+unfoldable pub emptyCurveTest : List ℕ → Test
+emptyCurveTest u = test 6 (differ (length u) 0)
+
+unfoldable pub curveTest : Operation → Family → List ℕ → Test
+curveTest Operation.Expand f u = curveLengthTest f u
+curveTest Operation.Adjoint f u = curveLengthTest f u
+curveTest Operation.Decompose f u = curveLengthTest f u
+curveTest Operation.Moments f u = emptyCurveTest u
+curveTest Operation.Norms f u = emptyCurveTest u
+
+unfoldable pub textOutputTest : ℕ → Test
+textOutputTest output = test 7 (ltb output textOutputLength)
+
+unfoldable pub jobTests : Job → ℕ → ℕ → List Test
+jobTests j output work = modulusTest (j .family .m) ∷ lengthsTest (j .family) ∷ rowCountTest (j .family)
+    ∷ curveTest (j .operation) (j .family) (j .curve) ∷ textOutputTest output ∷ workTest work
+    ∷ entriesTest (j .family) ∷ aInverseTest (j .family) ∷ cInverseTest (j .family) ∷ curveEntriesTest (j .family) (j .curve) ∷ []
+
+unfoldable pub formTests : Read → ℕ → ℕ → List Test
+formTests malformed output work = test 2 true ∷ []
+formTests (found w) output work = test 2 false ∷ jobTests (meant w) output work
+
+unfoldable pub textTests : List ℕ → ℕ → ℕ → List Test
+textTests t output work = textLengthTest t ∷ formTests (readJob t) output work
+
+unfoldable pub converted : Operation → Family → List ℕ → List ℕ
+converted Operation.Expand f u = expand f u
+converted Operation.Adjoint f u = adjoint f u
+converted Operation.Decompose f u = decompose f u
+converted Operation.Moments f u = moments f
+converted Operation.Norms f u = norms f
+
+unfoldable pub result : Job → List ℕ
+result j = converted (j .operation) (j .family) (j .curve)
+
+unfoldable pub replyTo : Read → List ℕ
+replyTo malformed = []
+replyTo (found w) = answerText (w .operation) (result (meant w))
+
+unfoldable pub reply : List ℕ → List ℕ
+reply t = replyTo (readJob t)
+
+-- t: the job text; r: the answer; output and output′, work and work′: the lists before and after
+pub record TextConverted (t : List ℕ) (r : Valued) (output output′ work work′ : List ℕ) : Type 0 where
+  pub answer : valued r ≡ verdict (textTests t (length output) (length work)) (length (reply t) ∷ [])
+  pub written : output′ ≡ after (valued r) (reply t ++ drop (length (reply t)) output) output
+  pub wiped : work′ ≡ after (valued r) (cleared work) work

@@ -1,0 +1,96 @@
+-- The paper's job and its answer byte for byte, and texts at the edges of the form, by computation.
+--   verdictOn   what the text call hands out on a text and two lengths: its verdict, with the answer text's bytes as the values
+--   samples     each text, with the lengths of output and working list, beside what it must hand out
+-- samples-hold: every row of the table is right. job-written and job-read: the paper's job is written and read so. bytes-counted and
+-- rows-counted: where 1 and 5 begin.
+-- Assumes nothing.
+use mathlib.Core.Path.{_≡_, refl}
+use mathlib.Core.List.{List, [], _∷_, map}
+use Prim.Native.Nat.{ℕ}
+use Prim.Native.String.{String}
+use lib.ListN.{replicate}
+use Rattle.definitions.specs.Number.{sum, table, negative, inverseBelow, inverse}
+use Rattle.definitions.specs.Family.{rowAt, timesX, term, F, G}
+use Rattle.definitions.specs.Conversion.{expand, adjoint, top, lessTop, decomposeBelow, decompose}
+use Rattle.definitions.specs.Orthogonality.{reversal, nextQuotient, quotient, moments, signedProduct, norm, norms}
+use Rattle.definitions.specs.Refusals.{Verdict, finished, refused, verdict, some, differ, notBelow, noInverse, workLength, modulusTest, lengthsTest, rowCountTest, curveLengthTest, workTest, entriesTest, aInverseTest, cInverseTest, curveEntriesTest}
+use Rattle.definitions.specs.Text.{bytes, decimalWithin, decimal, spaced, numbers, line, name, WrittenJob, jobText, answerText}
+use Rattle.definitions.specs.Reading.{found, readKey, isDigit, readDigits, readNumber, readOn, readSome, readNumbers, readName, ended, readLine, readLines, readJob}
+use Rattle.definitions.specs.TextCall.{textOutputLength, textLengthTest, emptyCurveTest, curveTest, textOutputTest, jobTests, formTests, textTests, converted, result, replyTo, reply}
+use Rattle.definitions.specs.declared.Operation.{Operation}
+
+abbrev pub paperJob : WrittenJob
+paperJob = record { modulus = 7; a = 1 ∷ 2 ∷ []; b = 0 ∷ 3 ∷ []; c = 1 ∷ 5 ∷ []; operation = Operation.Expand; curve = 3 ∷ 0 ∷ 1 ∷ [] }
+
+abbrev pub paperText : String
+paperText = "mod=7\na=1 2\nb=0 3\nc=1 5\nop=expand\nv=3 0 1\n"
+
+pub job-written : jobText paperJob ≡ bytes paperText
+unfolding decimalWithin decimal spaced numbers line name jobText
+job-written = refl
+
+pub job-read : readJob (bytes paperText) ≡ found paperJob
+unfolding name readKey isDigit readDigits readNumber readOn readSome readNumbers readName ended readLine readLines readJob
+job-read = refl
+
+pub record Sample : Type 0 where
+  pub text : String
+  pub output : ℕ
+  pub work : ℕ
+  pub hands : Verdict
+
+infix 80 _gives_
+abbrev _gives_ : String → Verdict → Sample
+text gives hands = record { text = text; output = textOutputLength; work = workLength; hands = hands }
+
+-- whoever unfolds it unfolds the definitions that it leads to
+unfoldable pub verdictOn : List ℕ → ℕ → ℕ → Verdict
+unfolding sum table negative inverseBelow inverse rowAt timesX term F G expand adjoint top lessTop decomposeBelow decompose reversal nextQuotient quotient moments signedProduct norm norms verdict some differ notBelow noInverse modulusTest lengthsTest rowCountTest curveLengthTest workTest entriesTest aInverseTest cInverseTest curveEntriesTest decimalWithin decimal spaced numbers line name answerText readKey isDigit readDigits readNumber readOn readSome readNumbers readName ended readLine readLines readJob textLengthTest emptyCurveTest curveTest textOutputTest jobTests formTests textTests converted result replyTo reply
+verdictOn t output work = verdict (textTests t output work) (reply t)
+
+abbrev pub handed : Sample → Verdict
+handed s = verdictOn (bytes (s .text)) (s .output) (s .work)
+
+abbrev pub samples : List Sample
+samples =
+    paperText gives finished (bytes "op=expand\nout=1 3 2\n")
+    ∷ "mod=7\na=1 2\nb=0 3\nc=1 5\nop=adjoint\nv=1 3 2\n" gives finished (bytes "op=adjoint\nout=1 3 4\n")
+    ∷ "mod=7\na=1 2\nb=0 3\nc=1 5\nop=decompose\nv=1 3 2\n" gives finished (bytes "op=decompose\nout=3 0 1\n")
+    ∷ "mod=7\na=1 2\nb=0 3\nc=1 5\nop=moments\nv=\n" gives finished (bytes "op=moments\nout=1 0 1 2 1\n")
+    ∷ "mod=15\na=2\nb=1\nc=4\nop=norms\nv=\n" gives finished (bytes "op=norms\nout=8 14\n")
+    ∷ "mod=7\na=\nb=\nc=\nop=expand\nv=4294967295\n" gives refused 12
+    ∷ "mod=7\na=\nb=\nc=\nop=expand\nv=4294967296\n" gives refused 2
+    ∷ "mod=7\na=\nb=\nc=\nop=expand\nv=01\n" gives refused 2
+    ∷ "mod=7\na=1  2\nb=0 3\nc=1 5\nop=expand\nv=3 0 1\n" gives refused 2
+    ∷ "mod=7\na=1 2 \nb=0 3\nc=1 5\nop=expand\nv=3 0 1\n" gives refused 2
+    ∷ "mod=7\na=1 2\nb=0 3\nc=1 5\nop=expand\nv=3 0 1" gives refused 2
+    ∷ "mod=7\na=1 2\nb=0 3\nc=1 5\nop=expand\nv=3 0 1\n\n" gives refused 2
+    ∷ "mod=7\nb=0 3\na=1 2\nc=1 5\nop=expand\nv=3 0 1\n" gives refused 2
+    ∷ "mod=7\na=1 2\nb=0 3\nc=1 5\nop=norm\nv=\n" gives refused 2
+    ∷ "mod=\na=\nb=\nc=\nop=norms\nv=\n" gives refused 2
+    ∷ "mod=1\na=1 2\nb=0\nc=1 5\nop=norms\nv=9\n" gives refused 3
+    ∷ "mod=7\na=1 2\nb=0\nc=1 5\nop=norms\nv=9\n" gives refused 4
+    ∷ "mod=7\na=1 2\nb=0 9\nc=1 5\nop=norms\nv=9\n" gives refused 6
+    ∷ "mod=7\na=1 2\nb=0 9\nc=1 5\nop=expand\nv=9\n" gives refused 6
+    ∷ "mod=7\na=1 0\nb=0 9\nc=1 5\nop=norms\nv=\n" gives refused 9
+    ∷ "mod=7\na=1 0\nb=0 0\nc=1 0\nop=norms\nv=\n" gives refused 10
+    ∷ "mod=15\na=1 1\nb=0 0\nc=1 6\nop=expand\nv=15 0 0\n" gives refused 11
+    ∷ record { text = paperText; output = 4095; work = 16383; hands = refused 7 }
+    ∷ record { text = paperText; output = 4096; work = 16383; hands = refused 8 }
+    ∷ []
+
+pub samples-hold : map handed samples ≡ map (λ s. s .hands) samples
+unfolding verdictOn
+samples-hold = refl
+
+-- 8,192 bytes are looked at and 8,193 are not; 127 rows pass test 5, so that the missing curve gives 6, and 128 do not
+abbrev pub rowsOf : ℕ → WrittenJob
+rowsOf r = record { modulus = 7; a = replicate r 1; b = replicate r 0; c = replicate r 1; operation = Operation.Expand; curve = [] }
+
+pub bytes-counted : (verdictOn (replicate 8192 48) textOutputLength workLength ≡ refused 2) × (verdictOn (replicate 8193 48) textOutputLength workLength ≡ refused 1)
+unfolding verdictOn
+bytes-counted = (refl, refl)
+
+pub rows-counted : (verdictOn (jobText (rowsOf 127)) textOutputLength workLength ≡ refused 6) × (verdictOn (jobText (rowsOf 128)) textOutputLength workLength ≡ refused 5)
+unfolding verdictOn jobText
+rows-counted = (refl, refl)

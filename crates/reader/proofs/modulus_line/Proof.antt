@@ -1,0 +1,60 @@
+-- `modulus_line` reads the line of the modulus: its key, one number, byte 10. Assumes nothing.
+use native.Mathlib.Omega.{arith}
+use borrow.Author.Tests.{not-true, not-false}
+use borrow.Author.Needs.{needs}
+use Rattle.reader.specs.Keys.{modulus-none, modulus-wrong, modulus-inside, modulus-open, modulus-end, modulus-found}
+use Rattle.reader.proofs.modulus_line.Statement.{statement}
+use Rattle.reader.proofs.modulus_line.Tie as tie
+
+slice-aggregate-has-key : tie.Need-slice-aggregate-has-key
+slice-aggregate-has-key c = search needs
+
+has-key-requires : tie.Need-has-key-requires
+has-key-requires c κs = search needs
+
+returns : tie.Need-returns
+returns c = modulus-none _ _ (c .before .has-key .ensures) (not-true _ (c .if1 .taken))
+
+read-number-requires : tie.Need-read-number-requires
+read-number-requires c κs = search needs
+
+enum-known-modulus : tie.Need-enum-known-modulus
+enum-known-modulus c = search needs
+
+enum-told : tie.Need-enum-told
+enum-told c = search needs
+
+returns-2 : tie.Need-returns-2
+returns-2 c = modulus-wrong _ _ (c .before .before .before .before .has-key .ensures) (not-false _ (c .before .before .before .if1 .left)) _ (c .before .before .read-number .ensures) (c .enum-told .given .1)
+
+slice-aggregate-has-key-2 : tie.Need-slice-aggregate-has-key-2
+slice-aggregate-has-key-2 c = search needs
+
+has-key-requires-2 : tie.Need-has-key-requires-2
+has-key-requires-2 c κs = modulus-inside _ _ (c .before .before .before .before .before .before .has-key .ensures) (not-false _ (c .before .before .before .before .before .if1 .left)) _ (c .before .before .before .before .read-number .ensures) _ _ (c .before .before .modulus .given .1)
+
+returns-3 : tie.Need-returns-3
+returns-3 c = modulus-open _ _ (c .before .before .before .before .before .before .before .before .has-key .ensures) (not-false _ (c .before .before .before .before .before .before .before .if1 .left)) _ (c .before .before .before .before .before .before .read-number .ensures) _ _ (c .before .before .before .before .modulus .given .1) _ (c .before .has-key2 .ensures) (not-true _ (c .if2 .taken))
+
+add-t13 : tie.Need-add-t13
+add-t13 c = omega (arith, modulus-end _ _ (c .before .before .before .before .before .before .before .before .has-key .ensures) (not-false _ (c .before .before .before .before .before .before .before .if1 .left)) _ (c .before .before .before .before .before .before .read-number .ensures) _ _ (c .before .before .before .before .modulus .given .1) _ (c .before .has-key2 .ensures) (not-false _ (c .if2 .left)))
+
+returns-4 : tie.Need-returns-4
+returns-4 c = modulus-found _ _ (c .before .before .before .before .before .before .before .before .has-key .ensures) (not-false _ (c .before .before .before .before .before .before .before .if1 .left)) _ (c .before .before .before .before .before .before .read-number .ensures) _ _ (c .before .before .before .before .modulus .given .1) _ (c .before .has-key2 .ensures) (not-false _ (c .if2 .left))
+
+pub modulus-line-spec : {M : Type 1} → statement M
+modulus-line-spec =
+    tie.close
+    (tie.spec
+    slice-aggregate-has-key
+    has-key-requires
+    returns
+    read-number-requires
+    enum-known-modulus
+    enum-told
+    returns-2
+    slice-aggregate-has-key-2
+    has-key-requires-2
+    returns-3
+    add-t13
+    returns-4)

@@ -1,0 +1,45 @@
+-- `put_entry` puts a number, after a space if it is not the first of its list. Assumes nothing.
+use native.Mathlib.Omega.{arith}
+use lib.ListN.{length-set}
+use borrow.Author.Needs.{needs}
+use Rattle.definitions.specs.Text.{space}
+use Rattle.writer.specs.Entries.{put-first, put-later}
+use Rattle.writer.proofs.put_entry.Statement.{statement}
+use Rattle.writer.proofs.put_entry.Tie as tie
+
+put-number-requires : tie.Need-put-number-requires
+put-number-requires c κs = search needs
+
+same-length : tie.Need-same-length
+same-length c = search needs
+
+returns : tie.Need-returns
+returns c = put-first _ _ _ _ _ _ (c .before .before .before .before .if1 .taken) (c .before .before .put-number .ensures)
+
+slice-write-out : tie.Need-slice-write-out
+slice-write-out c = search needs
+
+add-put-number : tie.Need-add-put-number
+add-put-number c = search needs
+
+put-number-requires-2 : tie.Need-put-number-requires-2
+put-number-requires-2 c κs = simp length-set (omega arith)
+
+same-length-2 : tie.Need-same-length-2
+same-length-2 c = omega (arith, length-set (c .before .before .before .before .before .before .args .out .now) (c .before .before .before .before .before .before .args .at) space)
+
+returns-2 : tie.Need-returns-2
+returns-2 c = put-later _ _ _ _ _ _ (c .before .before .before .before .if1 .left) (omega arith) (c .before .before .put-number2 .ensures)
+
+pub put-entry-spec : {M : Type 1} → statement M
+put-entry-spec =
+    tie.close
+    (tie.spec
+    put-number-requires
+    same-length
+    returns
+    slice-write-out
+    add-put-number
+    put-number-requires-2
+    same-length-2
+    returns-2)

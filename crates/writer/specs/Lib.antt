@@ -1,0 +1,8 @@
+-- What the writer puts into an output.
+--   Putting   bytes put over a part of a list, and parts one after the other
+--   Entries   numbers and lists of numbers
+--   Answer    the answer text
+-- Assumes nothing.
+pub mod Putting
+pub mod Entries
+pub mod Answer
