@@ -1,5 +1,6 @@
 -- What is true of the definitions, for every modulus from 2 on and every convertible family. Assumes nothing.
 pub mod Lists
+pub mod Regions
 pub mod Inverse
 pub mod Recurrence
 pub mod Level
