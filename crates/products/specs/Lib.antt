@@ -1,0 +1,2 @@
+-- What the contracts of this crate cite, and the mathematics of its loops. Assumes nothing.
+pub mod Sums
