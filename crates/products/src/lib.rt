@@ -6,6 +6,7 @@ ghost use lib.ListN.{length, getD};
 ghost use Rattle.theory.specs.Regions.{part, written};
 ghost use Rattle.theory.specs.Products.{productAt, plusProducts, transposedAt, transposed, transposedSum};
 ghost use Rattle.products.specs.Sums.{Summand, Congruent, Lesser, ProductInput, TransposedInput};
+ghost use Rattle.products.specs.Places.{Source, CoefficientInput, ProductPlaces, productEntry};
 
 // s + x y, less m m if that has been reached.
 fn accumulate(m: u32, s: u64, x: u32, y: u32) -> u64
@@ -74,4 +75,67 @@ pub fn transposed_at(m: u32, start: u64, p: &[u32], w: &[u32], i: usize) -> u64
         j += 1;
     }
     sum
+}
+
+// Entry i of the n numbers of w from place at on, and 0 past them.
+fn entry(w: &[u32], at: usize, n: usize, i: usize) -> u32
+    requires { ⌜ at + n ≤ length (now w) ⌝ }
+    ensures { λ v. ⌜ v ≡ getD (part (now (w .entry)) at n) i 0 ⌝ }
+{
+    if i < n {
+        let place = at + i;
+        w[place]
+    } else {
+        0
+    }
+}
+
+// The coefficient of x^k in start + p q + r s, where p and r are parts of pn numbers, q and s of qn.
+fn coefficient(
+    m: u32,
+    w: &[u32],
+    start: u32,
+    p: usize,
+    r: usize,
+    pn: usize,
+    q: usize,
+    s: usize,
+    qn: usize,
+    k: usize,
+) -> u32
+    requires { ⌜ CoefficientInput m (now w) start p r pn q s qn k ⌝ }
+    ensures { λ v. ⌜ v ≡ (start + productAt (part (now (w .entry)) p pn) (part (now (w .entry)) q qn) k + productAt (part (now (w .entry)) r pn) (part (now (w .entry)) s qn) k) % m ⌝ }
+{
+    let one = product_at(m, start as u64, &w[p..p + pn], &w[q..q + qn], k);
+    let both = product_at(m, one, &w[r..r + pn], &w[s..s + qn], k);
+    (both % (m as u64)) as u32
+}
+
+// Writes the n first coefficients of t + p q + r s from place target on. All of them are parts of w: t has tn numbers, p and r have
+// pn, q and s have qn.
+pub fn add_products(
+    m: u32,
+    w: &mut [u32],
+    target: usize,
+    n: usize,
+    t: usize,
+    tn: usize,
+    p: usize,
+    r: usize,
+    pn: usize,
+    q: usize,
+    s: usize,
+    qn: usize,
+)
+    requires { ⌜ ProductPlaces m (now w) target n t tn p r pn q s qn ⌝ }
+    ensures { λ _. ⌜ now (w .exit) ≡ written (now (w .entry)) target (plusProducts m n (part (now (w .entry)) t tn) (part (now (w .entry)) p pn) (part (now (w .entry)) q qn) (part (now (w .entry)) r pn) (part (now (w .entry)) s qn)) ⌝ }
+{
+    let mut k: usize = 0;
+    while k < n {
+        let start = entry(w, t, tn, k);
+        let v = coefficient(m, w, start, p, r, pn, q, s, qn, k);
+        let place = target + k;
+        w[place] = v;
+        k += 1;
+    }
 }

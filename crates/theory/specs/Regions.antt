@@ -1,13 +1,14 @@
 -- Parts of a working list, which holds a tree, vectors and scratch side by side.
 --   part w at n       the n numbers of w from place at on, zeros past its end
 --   written w at xs   w with the numbers of xs in place of what stood from place at on
---   Apart at n p k    the k places from p on lie before the n places from at on, or behind them
+--   Apart lo hi p k   the k places from p on lie before the places lo to hi - 1, or behind them
 --   ResiduesIn m w lo hi    the entries of w at the places lo to hi - 1 are below m
 --   KeptOutside lo hi w w′   w′ is as long as w, and has its entries but for those at the places lo to hi - 1
+--   Writing           a loop in progress that writes a table
 -- Proved: length and entries of both; a part of a written list, at the same place and apart from it; two lists written side by
 -- side, one entry more, a table written entry by entry; what lies outside is kept, also by several steps one after the other.
 -- Assumes nothing.
-use mathlib.Core.Path.{_≡_, refl, sym, _∙_, ap}
+use mathlib.Core.Path.{_≡_, refl, sym, _∙_, ap, ap₂}
 use mathlib.Core.List.{List, [], _∷_, _++_, append-assoc}
 use mathlib.Core.Logic.{_⊎_, inl, inr}
 use Prim.Native.Nat.{ℕ, suc, _+_, _-_, _<_, _≤_}
@@ -15,7 +16,7 @@ use native.Mathlib.Decide.{decLt}
 use native.Mathlib.Nat.{add-zero, zero-add, add-assoc}
 use native.Mathlib.Numerals.{add-one}
 use native.Mathlib.Omega.{arith}
-use lib.ListN.{length, getD, take, drop, set, length-append, length-drop, take-append-drop, List·getD-append}
+use lib.ListN.{length, getD, take, drop, set, length-append, length-drop, length-set, take-append-drop, List·getD-append}
 use lib.Seq.{length-take-le, getD-append-add, getD-take, getD-drop, set-split, ext-getD}
 use Rattle.definitions.specs.Number.{table}
 use Rattle.theory.specs.Lists.{table-length, table-entry, table-past, table-equal, table-unique, table-snoc}
@@ -27,7 +28,7 @@ unfoldable pub written : List ℕ → ℕ → List ℕ → List ℕ
 written w at xs = take at w ++ (xs ++ drop (at + length xs) w)
 
 abbrev pub Apart : ℕ → ℕ → ℕ → ℕ → Type 0
-Apart at n p k = (p + k ≤ at) ⊎ (at + n ≤ p)
+Apart lo hi p k = (p + k ≤ lo) ⊎ (hi ≤ p)
 
 abbrev pub ResiduesIn : ℕ → List ℕ → ℕ → ℕ → Type 0
 ResiduesIn m w lo hi = (i : ℕ) → lo ≤ i → i < hi → getD w i 0 < m
@@ -183,14 +184,14 @@ kept-then lo hi w w′ w″ k j = record {
 }
 
 module _ (lo hi : ℕ) (w w′ : List ℕ) (kept : KeptOutside lo hi w w′) where
-  kept-entry : (p k i : ℕ) → Apart lo (hi - lo) p k → p ≤ i → i < p + k → getD w′ i 0 ≡ getD w i 0
+  pub kept-entry : (p k i : ℕ) → Apart lo hi p k → p ≤ i → i < p + k → getD w′ i 0 ≡ getD w i 0
   kept-entry p k i (inl h) a b = kept .before i (omega arith)
   kept-entry p k i (inr h) a b = kept .behind i (omega arith)
 
-  pub kept-part : (p k : ℕ) → Apart lo (hi - lo) p k → part w′ p k ≡ part w p k
+  pub kept-part : (p k : ℕ) → Apart lo hi p k → part w′ p k ≡ part w p k
   kept-part p k apart = part-equal w′ w p k (λ i a b. kept-entry p k i apart a b)
 
-  pub kept-residues : (m p k : ℕ) → Apart lo (hi - lo) p k → ResiduesIn m w p (p + k) → ResiduesIn m w′ p (p + k)
+  pub kept-residues : (m p k : ℕ) → Apart lo hi p k → ResiduesIn m w p (p + k) → ResiduesIn m w′ p (p + k)
   kept-residues m p k apart below i a b = rw (kept-entry p k i apart a b) (below i a b)
 
   pub kept-drop : (k : ℕ) → hi ≤ k → drop k w′ ≡ drop k w
@@ -244,3 +245,35 @@ written-table w at f k h =
 pub written-front : (w : List ℕ) (xs : List ℕ) → written w 0 xs ≡ xs ++ drop (length xs) w
 unfolding written
 written-front w xs = rw zero-add
+
+-- ---- a loop that writes the n numbers f 0, .., f (n - 1) from place at on; k of them stand
+pub record Writing (w₀ : List ℕ) (at n : ℕ) (f : ℕ → ℕ) (w : List ℕ) (k : ℕ) : Type 0 where
+  pub room : at + n ≤ length w₀
+  pub reached : k ≤ n
+  pub long : length w ≡ length w₀
+  pub is : w ≡ written w₀ at (table k f)
+
+module _ (w₀ : List ℕ) (at n : ℕ) (f : ℕ → ℕ) where
+  pub writing-starts : at + n ≤ length w₀ → Writing w₀ at n f w₀ 0
+  unfolding table
+  writing-starts h = record { room = h; reached = omega arith; long = refl; is = sym (written-none w₀ at) }
+
+  module _ (w : List ℕ) (k : ℕ) (h : Writing w₀ at n f w k) where
+    pub writing-kept : KeptOutside at (at + n) w₀ w
+    writing-kept =
+        let e : length (table k f) ≡ k = table-length k f in
+        rw (h .is) (kept-wider at (at + length (table k f)) at (at + n) w₀ (written w₀ at (table k f)) (omega arith) (omega (arith, h .reached))
+          (written-kept w₀ at (table k f) (omega (arith, h .room, h .reached))))
+
+    pub writing-next : (v : ℕ) → k < n → v ≡ f k → Writing w₀ at n f (set w (at + k) v) (k + 1)
+    writing-next v l e = record {
+      room = h .room;
+      reached = omega arith;
+      long = length-set w (at + k) v ∙ h .long;
+      is = ap₂ (λ x y. set x (at + k) y) (h .is) e ∙ written-table w₀ at f k (omega (arith, h .room));
+    }
+
+    pub writing-ends : n ≤ k → w ≡ written w₀ at (table n f)
+    writing-ends l =
+        let e : k ≡ n = omega (arith, h .reached) in
+        h .is ∙ ap (λ j. written w₀ at (table j f)) e
