@@ -6,7 +6,7 @@ ghost use lib.ListN.{length, getD};
 ghost use Rattle.theory.specs.Regions.{part, written};
 ghost use Rattle.theory.specs.Products.{productAt, plusProducts, transposedAt, transposed, transposedSum};
 ghost use Rattle.products.specs.Sums.{Summand, Congruent, Lesser, ProductInput, TransposedInput};
-ghost use Rattle.products.specs.Places.{Source, CoefficientInput, ProductPlaces, productEntry};
+ghost use Rattle.products.specs.Places.{Source, CoefficientInput, ProductPlaces, TermInput, TransposedPlaces, transposedEntry, ListInput};
 
 // s + x y, less m m if that has been reached.
 fn accumulate(m: u32, s: u64, x: u32, y: u32) -> u64
@@ -15,32 +15,20 @@ fn accumulate(m: u32, s: u64, x: u32, y: u32) -> u64
 {
     let square = (m as u64) * (m as u64);
     let sum = s + (x as u64) * (y as u64);
-    if sum < square {
-        sum
-    } else {
-        sum - square
-    }
+    if sum < square { sum } else { sum - square }
 }
 
 fn lesser(x: usize, y: usize) -> usize
     ensures { λ r. ⌜ Lesser x y r ⌝ }
 {
-    if x < y {
-        x
-    } else {
-        y
-    }
+    if x < y { x } else { y }
 }
 
 // x - y, and 0 if y is greater.
 fn excess(x: usize, y: usize) -> usize
     ensures { λ r. ⌜ r ≡ x - y ⌝ }
 {
-    if x < y {
-        0
-    } else {
-        x - y
-    }
+    if x < y { 0 } else { x - y }
 }
 
 // start and the coefficient of x^k in p q, up to multiples of m.
@@ -137,5 +125,66 @@ pub fn add_products(
         let place = target + k;
         w[place] = v;
         k += 1;
+    }
+}
+
+// Term i of the sum of two transposed products, of v with p and of u with q, where p and q are parts of pn numbers, v and u of vn.
+fn term(
+    m: u32,
+    w: &[u32],
+    p: usize,
+    q: usize,
+    pn: usize,
+    v: usize,
+    u: usize,
+    vn: usize,
+    i: usize,
+) -> u32
+    requires { ⌜ TermInput m (now w) p q pn v u vn ⌝ }
+    ensures { λ x. ⌜ x ≡ transposedEntry m (now (w .entry)) p q pn v u vn i ⌝ }
+{
+    let one = transposed_at(m, 0, &w[p..p + pn], &w[v..v + vn], i);
+    let both = transposed_at(m, one, &w[q..q + pn], &w[u..u + vn], i);
+    (both % (m as u64)) as u32
+}
+
+// Writes the n first terms of the transposed product of v with p and of u with q, added up, from place target on. All of them are
+// parts of w: p and q have pn numbers, v and u have vn and read as zero past them.
+pub fn transposed_sum(
+    m: u32,
+    w: &mut [u32],
+    target: usize,
+    n: usize,
+    p: usize,
+    q: usize,
+    pn: usize,
+    v: usize,
+    u: usize,
+    vn: usize,
+)
+    requires { ⌜ TransposedPlaces m (now w) target n p q pn v u vn ⌝ }
+    ensures { λ _. ⌜ now (w .exit) ≡ written (now (w .entry)) target (transposedSum m n (part (now (w .entry)) p pn) (part (now (w .entry)) v vn) (part (now (w .entry)) q pn) (part (now (w .entry)) u vn)) ⌝ }
+{
+    let mut i: usize = 0;
+    while i < n {
+        let x = term(m, w, p, q, pn, v, u, vn, i);
+        let place = target + i;
+        w[place] = x;
+        i += 1;
+    }
+}
+
+// Writes the n first terms of the transposed product of u with p from place target of w on: the sums over j of p_j u_{i+j}, where u
+// ends in zeros.
+pub fn transposed(m: u32, p: &[u32], u: &[u32], w: &mut [u32], target: usize, n: usize)
+    requires { ⌜ ListInput m (now p) (now u) (now w) target n ⌝ }
+    ensures { λ _. ⌜ now (w .exit) ≡ written (now (w .entry)) target (transposed m n (now (p .entry)) (now (u .entry))) ⌝ }
+{
+    let mut i: usize = 0;
+    while i < n {
+        let sum = transposed_at(m, 0, p, u, i);
+        let place = target + i;
+        w[place] = (sum % (m as u64)) as u32;
+        i += 1;
     }
 }

@@ -263,7 +263,7 @@ module _ (w₀ : List ℕ) (at n : ℕ) (f : ℕ → ℕ) where
     writing-kept =
         let e : length (table k f) ≡ k = table-length k f in
         rw (h .is) (kept-wider at (at + length (table k f)) at (at + n) w₀ (written w₀ at (table k f)) (omega arith) (omega (arith, h .reached))
-          (written-kept w₀ at (table k f) (omega (arith, h .room, h .reached))))
+        (written-kept w₀ at (table k f) (omega (arith, h .room, h .reached))))
 
     pub writing-next : (v : ℕ) → k < n → v ≡ f k → Writing w₀ at n f (set w (at + k) v) (k + 1)
     writing-next v l e = record {
