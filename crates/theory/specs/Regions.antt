@@ -88,18 +88,26 @@ part-below m w at n pos h i = reads (decLt i n)
     reads (no l) = rw (part-past w at n i (omega arith)) pos
 
 -- ---- a part that holds two lists side by side
-module _ (w : List ℕ) (at : ℕ) (xs ys : List ℕ) (holds : part w at (length xs + length ys) ≡ xs ++ ys) where
-  pub part-left : part w at (length xs) ≡ xs
-  part-left = part-unique w at xs (λ i h.
-      sym (part-entry w at (length xs + length ys) i (omega arith)) ∙ ap (λ t. getD t i 0) holds ∙ List·getD-append xs ys 0 i h)
+module _ (w : List ℕ) (at n k : ℕ) (xs ys : List ℕ) (first : length xs ≡ n) (second : length ys ≡ k) (holds : part w at (n + k) ≡ xs ++ ys) where
+  pub part-left : part w at n ≡ xs
+  part-left = ap (part w at) (sym first) ∙ part-unique w at xs (λ i h.
+      sym (part-entry w at (n + k) i (omega arith)) ∙ ap (λ t. getD t i 0) holds ∙ List·getD-append xs ys 0 i h)
 
-  pub part-right : part w (at + length xs) (length ys) ≡ ys
-  part-right = part-unique w (at + length xs) ys (λ i h.
-      let e : at + length xs + i ≡ at + (length xs + i) = omega arith in
-      ap (λ n. getD w n 0) e ∙ sym (part-entry w at (length xs + length ys) (length xs + i) (omega arith)) ∙ ap (λ t. getD t (length xs + i) 0) holds
+  pub part-right : part w (at + n) k ≡ ys
+  part-right = ap (part w (at + n)) (sym second) ∙ part-unique w (at + n) ys (λ i h.
+      let e : at + n + i ≡ at + (n + i) = omega arith in
+      let g : n + i ≡ length xs + i = omega arith in
+      ap (λ j. getD w j 0) e ∙ sym (part-entry w at (n + k) (n + i) (omega arith)) ∙ ap₂ (λ t j. getD t j 0) holds g
       ∙ getD-append-add xs ys i 0)
 
--- two lists side by side
+-- entries below m
+pub part-residues : (m : ℕ) (w : List ℕ) (at n : ℕ) (xs : List ℕ) → part w at n ≡ xs → ((i : ℕ) → getD xs i 0 < m) → ResiduesIn m w at (at + n)
+part-residues m w at n xs holds below i p q =
+    let e : at + (i - at) ≡ i = omega arith in
+    let l : i - at < n = omega arith in
+    let g : getD w i 0 ≡ getD xs (i - at) 0 = ap (λ j. getD w j 0) (sym e) ∙ sym (part-entry w at n (i - at) l) ∙ ap (λ t. getD t (i - at) 0) holds in
+    rw g (below (i - at))
+
 pub part-both : (w : List ℕ) (at : ℕ) (xs ys : List ℕ) → part w at (length xs) ≡ xs → part w (at + length xs) (length ys) ≡ ys → part w at (length (xs ++ ys)) ≡ xs ++ ys
 part-both w at xs ys left right = part-unique w at (xs ++ ys) (λ i h. reads i h (decLt i (length xs)))
   where

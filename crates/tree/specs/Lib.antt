@@ -1,0 +1,2 @@
+-- What the contracts of this crate cite, and the mathematics of its recursions. Assumes nothing.
+pub mod Layout
