@@ -234,6 +234,10 @@ module _ (w : List ℕ) (at : ℕ) (xs ys : List ℕ) (room : at + (length xs + 
       holds : part (written (written w at xs) (at + length xs) ys) at (length (xs ++ ys)) ≡ xs ++ ys
       holds = part-both (written (written w at xs) (at + length xs) ys) at xs ys left (part-written (written w at xs) (at + length xs) ys two)
 
+pub written-then : (w : List ℕ) (at : ℕ) (xs : List ℕ) (p : ℕ) (ys w₁ w₂ : List ℕ) → at + (length xs + length ys) ≤ length w → p ≡ at + length xs
+    → w₁ ≡ written w at xs → w₂ ≡ written w₁ p ys → w₂ ≡ written w at (xs ++ ys)
+written-then w at xs p ys w₁ w₂ room e one two = two ∙ ap₂ (λ v q. written v q ys) one e ∙ written-next w at xs ys room
+
 -- one entry, one entry more, and a table entry by entry
 pub written-one : (w : List ℕ) (at x : ℕ) → at < length w → set w at x ≡ written w at (x ∷ [])
 unfolding written

@@ -1,2 +1,3 @@
 -- What the contracts of this crate cite, and the mathematics of its recursions. Assumes nothing.
 pub mod Layout
+pub mod Build
