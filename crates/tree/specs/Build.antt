@@ -4,19 +4,23 @@
 --   Residues, LeafInput, RaisePlaces, JoinPlaces, BuildInput    what each function is handed
 -- Assumes nothing.
 use mathlib.Core.Path.{_≡_, refl, sym, _∙_, ap, ap₂}
-use mathlib.Core.List.{List, [], _∷_, _++_, append-assoc}
+use mathlib.Core.List.{List, [], _∷_, _++_}
+use mathlib.Core.Logic.{inl, inr}
 use Prim.Native.Nat.{ℕ, zero, suc, _+_, _*_, _-_, _/_, _%_, _≤_, _<_}
 use native.Mathlib.Nat.{add-zero, zero-add, mul-le-mul, mod-lt}
 use native.Mathlib.Omega.{arith}
 use lib.ListN.{length, getD, take, set, length-set, length-append, List·getD-eq-default}
 use lib.Seq.{getD-take, length-take-le}
+use Rattle.definitions.specs.Number.{table}
 use Rattle.definitions.specs.Family.{Family, Row, family, greatestModulus, rowAt}
 use Rattle.theory.specs.Level.{span, span-zero, span-suc, span-two}
-use Rattle.theory.specs.Regions.{part, written, Apart, ResiduesIn, KeptOutside, written-one, written-more, written-then, written-length, written-kept}
-use Rattle.theory.specs.Products.{Below}
+use Rattle.theory.specs.Regions.{part, written, Apart, ResiduesIn, KeptOutside, written-one, written-more, written-then, written-kept, kept-wider, kept-part, kept-residues}
+use Rattle.theory.specs.Products.{plusProducts, plusProducts-length}
 use Rattle.theory.specs.Tree.{Matrix, Pair, padded, leaf, join, node, raise}
+use Rattle.theory.specs.TreeLengths.{raise-length}
+use Rattle.theory.specs.TreeBelow.{RowBelow}
 use Rattle.products.specs.Places.{Source, Aside, ProductPlaces}
-use Rattle.tree.specs.Layout.{Level, treeSize, treeSize-value, treeSize-most, treeList, matrixList, pairList, matrixAt, pairAt}
+use Rattle.tree.specs.Layout.{Level, treeSize, treeSize-value, treeList, matrixList, pairList, matrixAt, pairAt, pairList-length, pairAt-kept, matrixAt-kept}
 
 abbrev pub familyOf : ℕ → ℕ → List ℕ → List ℕ → List ℕ → Family
 familyOf m r a b c = family m (take r a) (take r b) (take r c)
@@ -41,6 +45,38 @@ pub record LeafInput (m : ℕ) (w : List ℕ) (at pa pb pc qa qb qc : ℕ) : Typ
   pub qaBelow : qa < m
   pub qbBelow : qb < m
   pub qcBelow : qc < m
+
+pub record RaisePlaces (m : ℕ) (w : List ℕ) (target n t tn row pn matrix qn : ℕ) : Type 0 where
+  pub least : 0 < m
+  pub most : m ≤ greatestModulus
+  pub room : target + (n + n) ≤ length w
+  pub reached : n ≤ pn + qn
+  pub tAside : Aside m w target (target + (n + n)) t (tn + tn)
+  pub rowAside : Aside m w target (target + (n + n)) row (pn + pn)
+  pub matrixAside : Aside m w target (target + (n + n)) matrix (4 * qn)
+
+pub record JoinPlaces (m : ℕ) (w : List ℕ) (target n right left k : ℕ) : Type 0 where
+  pub least : 0 < m
+  pub most : m ≤ greatestModulus
+  pub room : target + 4 * n ≤ length w
+  pub reached : n ≤ k + k
+  pub rightAside : Aside m w target (target + 4 * n) right (4 * k)
+  pub leftAside : Aside m w target (target + 4 * n) left (4 * k)
+
+-- the columns a, b and c are long enough for r rows, and the rows are below m
+pub record RowsInput (m : ℕ) (a b c : List ℕ) (r : ℕ) : Type 0 where
+  pub least : 0 < m
+  pub most : m ≤ greatestModulus
+  pub aLong : r ≤ length a
+  pub bLong : r ≤ length b
+  pub cLong : r ≤ length c
+  pub rows : (i : ℕ) → RowBelow m (rowAt (padded (familyOf m r a b c)) i)
+
+pub record BuildInput (m : ℕ) (a b c : List ℕ) (r : ℕ) (w : List ℕ) (at level pairs t : ℕ) : Type 0 where
+  pub input : RowsInput m a b c r
+  pub depth : Level level pairs
+  pub room : at + treeSize level ≤ length w
+  pub last : t + span level ≤ 256
 
 -- ---- sizes
 pub size-value : (level pairs : ℕ) → Level level pairs → 8 * pairs * (level + 2) ≡ treeSize level + 4
@@ -101,17 +137,174 @@ module _ (m : ℕ) (w : List ℕ) (at pa pb pc qa qb qc : ℕ) (input : LeafInpu
       alone : (x : ℕ) → 0 + x + 0 * 0 ≡ x
       alone x = omega arith
 
-pub record RaisePlaces (m : ℕ) (w : List ℕ) (target n t tn row pn matrix qn : ℕ) : Type 0 where
-  pub least : 0 < m
-  pub most : m ≤ greatestModulus
-  pub room : target + (n + n) ≤ length w
-  pub reached : n ≤ pn + qn
-  pub tAside : Aside m w target (target + (n + n)) t (tn + tn)
-  pub rowAside : Aside m w target (target + (n + n)) row (pn + pn)
-  pub matrixAside : Aside m w target (target + (n + n)) matrix (4 * qn)
+-- ---- parts that lie apart from what is written
+pub aside-within : (m : ℕ) (w : List ℕ) (lo hi at n lo′ hi′ at′ n′ : ℕ) → Aside m w lo hi at n → lo ≤ lo′ → hi′ ≤ hi → at ≤ at′ → at′ + n′ ≤ at + n → Aside m w lo′ hi′ at′ n′
+aside-within m w lo hi at n lo′ hi′ at′ n′ h a b c d = record {
+  source = record { inside = omega (arith, h .source .inside); below = λ i p q. h .source .below i (omega arith) (omega arith) };
+  apart = narrower (h .apart);
+}
+  where
+    narrower : Apart lo hi at n → Apart lo′ hi′ at′ n′
+    narrower (inl p) = inl (omega arith)
+    narrower (inr p) = inr (omega arith)
 
-pub record JoinPlaces (m : ℕ) (w : List ℕ) : Type 0 where
-  pub least : 0 < m
+pub aside-kept : (m lo hi : ℕ) (w w′ : List ℕ) (at n : ℕ) → KeptOutside lo hi w w′ → Aside m w lo hi at n → Aside m w′ lo hi at n
+aside-kept m lo hi w w′ at n k h = record {
+  source = record { inside = omega (arith, h .source .inside, k .long); below = kept-residues lo hi w w′ k m at n (h .apart) (h .source .below) };
+  apart = h .apart;
+}
 
-pub record BuildInput (m : ℕ) (w : List ℕ) : Type 0 where
-  pub least : 0 < m
+-- ---- a row of two polynomials times a matrix, and two polynomials more
+module _ (m : ℕ) (w : List ℕ) (target n t tn row pn matrix qn : ℕ) (places : RaisePlaces m w target n t tn row pn matrix qn) where
+  abbrev raisedFirst : List ℕ
+  raisedFirst = plusProducts m n (part w t tn) (part w row pn) (part w matrix qn) (part w (row + pn) pn) (part w (matrix + (qn + qn)) qn)
+
+  pub raise-first : ProductPlaces m w target n t tn row (row + pn) pn matrix (matrix + (qn + qn)) qn
+  raise-first =
+      let room : target + (n + n) ≤ length w = places .room in
+      record {
+        least = places .least;
+        most = places .most;
+        room = omega arith;
+        reached = places .reached;
+        tAside = aside-within m w target (target + (n + n)) t (tn + tn) target (target + n) t tn (places .tAside) (omega arith) (omega arith) (omega arith) (omega arith);
+        pAside = aside-within m w target (target + (n + n)) row (pn + pn) target (target + n) row pn (places .rowAside) (omega arith) (omega arith) (omega arith) (omega arith);
+        rAside = aside-within m w target (target + (n + n)) row (pn + pn) target (target + n) (row + pn) pn (places .rowAside) (omega arith) (omega arith) (omega arith) (omega arith);
+        qAside = aside-within m w target (target + (n + n)) matrix (4 * qn) target (target + n) matrix qn (places .matrixAside) (omega arith) (omega arith) (omega arith) (omega arith);
+        sAside = aside-within m w target (target + (n + n)) matrix (4 * qn) target (target + n) (matrix + (qn + qn)) qn (places .matrixAside) (omega arith) (omega arith) (omega arith) (omega arith);
+      }
+
+  module _ (w₁ : List ℕ) (e₁ : w₁ ≡ written w target raisedFirst) where
+    first-length : length raisedFirst ≡ n
+    first-length = plusProducts-length m n (part w t tn) (part w row pn) (part w matrix qn) (part w (row + pn) pn) (part w (matrix + (qn + qn)) qn)
+
+    kept : KeptOutside target (target + (n + n)) w w₁
+    kept =
+        let room : target + (n + n) ≤ length w = places .room in
+        rw e₁ (kept-wider target (target + length raisedFirst) target (target + (n + n)) w (written w target raisedFirst) (omega arith) (omega (arith, first-length))
+          (written-kept w target raisedFirst (omega (arith, first-length))))
+
+    tStill : Aside m w₁ target (target + (n + n)) t (tn + tn)
+    tStill = aside-kept m target (target + (n + n)) w w₁ t (tn + tn) kept (places .tAside)
+
+    rowStill : Aside m w₁ target (target + (n + n)) row (pn + pn)
+    rowStill = aside-kept m target (target + (n + n)) w w₁ row (pn + pn) kept (places .rowAside)
+
+    matrixStill : Aside m w₁ target (target + (n + n)) matrix (4 * qn)
+    matrixStill = aside-kept m target (target + (n + n)) w w₁ matrix (4 * qn) kept (places .matrixAside)
+
+    pub raise-second : ProductPlaces m w₁ (target + n) n (t + tn) tn row (row + pn) pn (matrix + qn) (matrix + (qn + qn) + qn) qn
+    raise-second =
+        let room : target + (n + n) ≤ length w = places .room in
+        record {
+          least = places .least;
+          most = places .most;
+          room = omega (arith, kept .long);
+          reached = places .reached;
+          tAside = aside-within m w₁ target (target + (n + n)) t (tn + tn) (target + n) (target + n + n) (t + tn) tn tStill (omega arith) (omega arith) (omega arith) (omega arith);
+          pAside = aside-within m w₁ target (target + (n + n)) row (pn + pn) (target + n) (target + n + n) row pn rowStill (omega arith) (omega arith) (omega arith) (omega arith);
+          rAside = aside-within m w₁ target (target + (n + n)) row (pn + pn) (target + n) (target + n + n) (row + pn) pn rowStill (omega arith) (omega arith) (omega arith) (omega arith);
+          qAside = aside-within m w₁ target (target + (n + n)) matrix (4 * qn) (target + n) (target + n + n) (matrix + qn) qn matrixStill (omega arith) (omega arith) (omega arith) (omega arith);
+          sAside = aside-within m w₁ target (target + (n + n)) matrix (4 * qn) (target + n) (target + n + n) (matrix + (qn + qn) + qn) qn matrixStill (omega arith) (omega arith) (omega arith) (omega arith);
+        }
+
+    -- a part of what lies apart is there still
+    still : (at c p k : ℕ) → Aside m w target (target + (n + n)) at c → at ≤ p → p + k ≤ at + c → part w₁ p k ≡ part w p k
+    still at c p k h a b = kept-part target (target + (n + n)) w w₁ kept p k (aside-within m w target (target + (n + n)) at c target (target + (n + n)) p k h (omega arith) (omega arith) a b .apart)
+
+    pub raise-written : (w₂ : List ℕ) → w₂ ≡ written w₁ (target + n) (plusProducts m n (part w₁ (t + tn) tn) (part w₁ row pn) (part w₁ (matrix + qn) qn) (part w₁ (row + pn) pn) (part w₁ (matrix + (qn + qn) + qn) qn))
+        → w₂ ≡ written w target (pairList (raise m n (pairAt w t tn) (pairAt w row pn) (matrixAt w matrix qn)))
+    unfolding raise pairAt matrixAt pairList
+    raise-written w₂ e₂ =
+        let e : plusProducts m n (part w₁ (t + tn) tn) (part w₁ row pn) (part w₁ (matrix + qn) qn) (part w₁ (row + pn) pn) (part w₁ (matrix + (qn + qn) + qn) qn)
+            ≡ plusProducts m n (part w (t + tn) tn) (part w row pn) (part w (matrix + qn) qn) (part w (row + pn) pn) (part w (matrix + (qn + qn) + qn) qn)
+            = rw (
+              still t (tn + tn) (t + tn) tn (places .tAside) (omega arith) (omega arith),
+              still row (pn + pn) row pn (places .rowAside) (omega arith) (omega arith),
+              still row (pn + pn) (row + pn) pn (places .rowAside) (omega arith) (omega arith),
+              still matrix (4 * qn) (matrix + qn) qn (places .matrixAside) (omega arith) (omega arith),
+              still matrix (4 * qn) (matrix + (qn + qn) + qn) qn (places .matrixAside) (omega arith) (omega arith),
+            )
+        in
+        let long : length (plusProducts m n (part w (t + tn) tn) (part w row pn) (part w (matrix + qn) qn) (part w (row + pn) pn) (part w (matrix + (qn + qn) + qn) qn)) ≡ n = plusProducts-length m n _ _ _ _ _ in
+        written-then w target raisedFirst (target + n) _ w₁ w₂ (omega (arith, places .room, first-length)) (ap (λ x. target + x) (sym first-length)) e₁ (e₂ ∙ ap (written w₁ (target + n)) e)
+
+-- ---- two halves joined: each row of the right half's matrix times the left half's
+module _ (m : ℕ) (w : List ℕ) (target n right left k : ℕ) (places : JoinPlaces m w target n right left k) where
+  abbrev joinedFirst : List ℕ
+  joinedFirst = pairList (raise m n (pairAt w left 0) (pairAt w right k) (matrixAt w left k))
+
+  pub join-first : RaisePlaces m w target n left 0 right k left k
+  join-first =
+      let room : target + 4 * n ≤ length w = places .room in
+      record {
+        least = places .least;
+        most = places .most;
+        room = omega arith;
+        reached = places .reached;
+        tAside = aside-within m w target (target + 4 * n) left (4 * k) target (target + (n + n)) left 0 (places .leftAside) (omega arith) (omega arith) (omega arith) (omega arith);
+        rowAside = aside-within m w target (target + 4 * n) right (4 * k) target (target + (n + n)) right (k + k) (places .rightAside) (omega arith) (omega arith) (omega arith) (omega arith);
+        matrixAside = aside-within m w target (target + 4 * n) left (4 * k) target (target + (n + n)) left (4 * k) (places .leftAside) (omega arith) (omega arith) (omega arith) (omega arith);
+      }
+
+  module _ (w₁ : List ℕ) (e₁ : w₁ ≡ written w target joinedFirst) where
+    joined-length : length joinedFirst ≡ n + n
+    joined-length = pairList-length n _ (raise-length m n (pairAt w left 0) (pairAt w right k) (matrixAt w left k))
+
+    join-kept : KeptOutside target (target + 4 * n) w w₁
+    join-kept =
+        let room : target + 4 * n ≤ length w = places .room in
+        rw e₁ (kept-wider target (target + length joinedFirst) target (target + 4 * n) w (written w target joinedFirst) (omega arith) (omega (arith, joined-length))
+          (written-kept w target joinedFirst (omega (arith, joined-length))))
+
+    pub join-second : RaisePlaces m w₁ (target + (n + n)) n left 0 (right + (k + k)) k left k
+    join-second =
+        let room : target + 4 * n ≤ length w = places .room in
+        let leftStill : Aside m w₁ target (target + 4 * n) left (4 * k) = aside-kept m target (target + 4 * n) w w₁ left (4 * k) join-kept (places .leftAside) in
+        let rightStill : Aside m w₁ target (target + 4 * n) right (4 * k) = aside-kept m target (target + 4 * n) w w₁ right (4 * k) join-kept (places .rightAside) in
+        record {
+          least = places .least;
+          most = places .most;
+          room = omega (arith, join-kept .long);
+          reached = places .reached;
+          tAside = aside-within m w₁ target (target + 4 * n) left (4 * k) (target + (n + n)) (target + (n + n) + (n + n)) left 0 leftStill (omega arith) (omega arith) (omega arith) (omega arith);
+          rowAside = aside-within m w₁ target (target + 4 * n) right (4 * k) (target + (n + n)) (target + (n + n) + (n + n)) (right + (k + k)) (k + k) rightStill (omega arith) (omega arith) (omega arith) (omega arith);
+          matrixAside = aside-within m w₁ target (target + 4 * n) left (4 * k) (target + (n + n)) (target + (n + n) + (n + n)) left (4 * k) leftStill (omega arith) (omega arith) (omega arith) (omega arith);
+        }
+
+    pub join-written : (w₂ : List ℕ) → w₂ ≡ written w₁ (target + (n + n)) (pairList (raise m n (pairAt w₁ left 0) (pairAt w₁ (right + (k + k)) k) (matrixAt w₁ left k)))
+        → w₂ ≡ written w target (matrixList (join m n (matrixAt w right k) (matrixAt w left k)))
+    unfolding join raise pairAt matrixAt pairList matrixList part table
+    join-written w₂ e₂ =
+        let row : pairAt w₁ (right + (k + k)) k ≡ pairAt w (right + (k + k)) k
+            = pairAt-kept target (target + 4 * n) w w₁ join-kept (right + (k + k)) k
+              (aside-within m w target (target + 4 * n) right (4 * k) target (target + 4 * n) (right + (k + k)) (k + k) (places .rightAside) (omega arith) (omega arith) (omega arith) (omega arith) .apart) in
+        let matrix : matrixAt w₁ left k ≡ matrixAt w left k = matrixAt-kept target (target + 4 * n) w w₁ join-kept left k (places .leftAside .apart) in
+        let long : length (pairList (raise m n (pairAt w left 0) (pairAt w (right + (k + k)) k) (matrixAt w left k))) ≡ n + n = pairList-length n _ (raise-length m n (pairAt w left 0) (pairAt w (right + (k + k)) k) (matrixAt w left k)) in
+        written-then w target joinedFirst (target + (n + n)) (pairList (raise m n (pairAt w left 0) (pairAt w (right + (k + k)) k) (matrixAt w left k))) w₁ w₂
+          (omega (arith, places .room, joined-length)) (ap (λ x. target + x) (sym joined-length)) e₁
+          (e₂ ∙ ap₂ (λ x y. written w₁ (target + (n + n)) (pairList (raise m n (pairAt w left 0) x y))) row matrix)
+
+-- ---- the leaf of two rows of the family
+module _ (m : ℕ) (a b c : List ℕ) (r : ℕ) (w : List ℕ) (at t : ℕ) (input : BuildInput m a b c r w at 0 1 t) (pa pb pc qa qb qc : ℕ)
+    (epa : pa ≡ getD (take r a) (t + 1) 0) (epb : pb ≡ getD (take r b) (t + 1) 0) (epc : pc ≡ getD (take r c) (t + 1) 0)
+    (eqa : qa ≡ getD (take r a) (t + 2) 0) (eqb : qb ≡ getD (take r b) (t + 2) 0) (eqc : qc ≡ getD (take r c) (t + 2) 0) where
+  pub leaf-input : LeafInput m w at pa pb pc qa qb qc
+  unfolding rowAt treeSize
+  leaf-input = record {
+    most = input .input .most;
+    room = input .room;
+    paBelow = rw epa (input .input .rows (t + 1) .aBelow);
+    pbBelow = rw epb (input .input .rows (t + 1) .bBelow);
+    pcBelow = rw epc (input .input .rows (t + 1) .cBelow);
+    qaBelow = rw eqa (input .input .rows (t + 2) .aBelow);
+    qbBelow = rw eqb (input .input .rows (t + 2) .bBelow);
+    qcBelow = rw eqc (input .input .rows (t + 2) .cBelow);
+  }
+
+  pub leaf-stored : (w′ : List ℕ) → w′ ≡ written w at (matrixList (leaf m (rowOf pa pb pc) (rowOf qa qb qc))) → w′ ≡ written w at (treeList (padded (familyOf m r a b c)) 0 t)
+  unfolding rowAt treeList node
+  leaf-stored w′ e =
+      let one : t + 1 ≡ suc t = omega arith in
+      let two : t + 2 ≡ suc (suc t) = omega arith in
+      e ∙ rw (epa, epb, epc, eqa, eqb, eqc, one, two)

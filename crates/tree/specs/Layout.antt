@@ -9,6 +9,7 @@
 -- Assumes nothing.
 use mathlib.Core.Path.{_≡_, refl, sym, _∙_, ap, ap₂}
 use mathlib.Core.List.{List, [], _∷_, _++_}
+use mathlib.Core.Logic.{inl, inr}
 use Prim.Native.Nat.{ℕ, zero, suc, _+_, _*_, _-_, _/_, _^_, _≤_, _<_}
 use native.Mathlib.Decide.{le-ind}
 use native.Mathlib.Nat.{add-zero, le-refl, mul-suc, add-mul}
@@ -16,7 +17,7 @@ use native.Mathlib.Omega.{arith}
 use lib.ListN.{length, getD, length-append}
 use Rattle.definitions.specs.Family.{Family, rowAt}
 use Rattle.theory.specs.Level.{span, span-zero, span-suc, span-two, span-power}
-use Rattle.theory.specs.Regions.{part, part-left, part-right}
+use Rattle.theory.specs.Regions.{part, Apart, KeptOutside, part-left, part-right, kept-part}
 use Rattle.theory.specs.Products.{Below}
 use Rattle.theory.specs.Tree.{Matrix, Pair, node}
 use Rattle.theory.specs.TreeLengths.{MatrixLength, PairLength, node-length}
@@ -162,6 +163,29 @@ tree-node f w at (suc l) t holds = part-right w at (treeSize l + treeSize l) (4 
 
 pub tree-matrix : (f : Family) (w : List ℕ) (at l t : ℕ) → part w at (treeSize l) ≡ treeList f l t → matrixAt w (at + nodePlace l) (suc (span l)) ≡ node f l t
 tree-matrix f w at l t holds = matrix-reads w (at + nodePlace l) (suc (span l)) (node f l t) (node-length f l t) (tree-node f w at l t holds)
+
+-- ---- what is kept
+module _ (lo hi : ℕ) (w w′ : List ℕ) (kept : KeptOutside lo hi w w′) (at n : ℕ) where
+  -- one list of several that lie side by side
+  apart-list : (k p : ℕ) → Apart lo hi at k → at ≤ p → p + n ≤ at + k → Apart lo hi p n
+  apart-list k p (inl h) a b = inl (omega arith)
+  apart-list k p (inr h) a b = inr (omega arith)
+
+  still : (k p : ℕ) → Apart lo hi at k → at ≤ p → p + n ≤ at + k → part w′ p n ≡ part w p n
+  still k p h a b = kept-part lo hi w w′ kept p n (apart-list k p h a b)
+
+  pub pairAt-kept : Apart lo hi at (n + n) → pairAt w′ at n ≡ pairAt w at n
+  unfolding pairAt
+  pairAt-kept h = rw (still (n + n) at h (omega arith) (omega arith), still (n + n) (at + n) h (omega arith) (omega arith))
+
+  pub matrixAt-kept : Apart lo hi at (4 * n) → matrixAt w′ at n ≡ matrixAt w at n
+  unfolding matrixAt
+  matrixAt-kept h = rw (
+    still (4 * n) at h (omega arith) (omega arith),
+    still (4 * n) (at + n) h (omega arith) (omega arith),
+    still (4 * n) (at + (n + n)) h (omega arith) (omega arith),
+    still (4 * n) (at + (n + n) + n) h (omega arith) (omega arith),
+  )
 
 -- ---- entries below m
 append-below : (m : ℕ) (xs ys : List ℕ) → Below m xs → Below m ys → Below m (xs ++ ys)

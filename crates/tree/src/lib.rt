@@ -7,7 +7,7 @@ ghost use lib.ListN.{length, getD, take};
 ghost use Rattle.theory.specs.Regions.{part, written};
 ghost use Rattle.theory.specs.Tree.{padded, leaf, join, node, raise};
 ghost use Rattle.tree.specs.Layout.{Level, treeSize, treeList, matrixList, pairList, matrixAt, pairAt};
-ghost use Rattle.tree.specs.Build.{familyOf, rowOf, Residues, LeafInput, RaisePlaces, JoinPlaces, BuildInput};
+ghost use Rattle.tree.specs.Build.{familyOf, rowOf, Residues, LeafInput, RaisePlaces, JoinPlaces, RowsInput, BuildInput};
 use products::add_products;
 
 // The numbers that the stored tree over pairs pairs of rows takes.
@@ -73,4 +73,84 @@ fn write_leaf(
     store_three(w, at + 3, pb, pa, 0);
     store_three(w, at + 6, b0, b1, 0);
     store_three(w, at + 9, c0, c1, c2);
+}
+
+// Writes the pair t + row matrix, n coefficients of each entry, from place target on: t is a pair of lists of tn numbers, row one of
+// lists of pn, matrix has lists of qn.
+fn raise(
+    m: u32,
+    w: &mut [u32],
+    target: usize,
+    n: usize,
+    t: usize,
+    tn: usize,
+    row: usize,
+    pn: usize,
+    matrix: usize,
+    qn: usize,
+)
+    requires { ⌜ RaisePlaces m (now w) target n t tn row pn matrix qn ⌝ }
+    ensures { λ _. ⌜ now (w .exit) ≡ written (now (w .entry)) target (pairList (raise m n (pairAt (now (w .entry)) t tn) (pairAt (now (w .entry)) row pn) (matrixAt (now (w .entry)) matrix qn))) ⌝ }
+{
+    let second = row + pn;
+    let lower = matrix + (qn + qn);
+    add_products(m, w, target, n, t, tn, row, second, pn, matrix, lower, qn);
+    add_products(m, w, target + n, n, t + tn, tn, row, second, pn, matrix + qn, lower + qn, qn);
+}
+
+// Writes the right half's matrix times the left half's, n coefficients of each entry, from place target on. The halves' lists have k
+// numbers.
+fn join(m: u32, w: &mut [u32], target: usize, n: usize, right: usize, left: usize, k: usize)
+    requires { ⌜ JoinPlaces m (now w) target n right left k ⌝ }
+    ensures { λ _. ⌜ now (w .exit) ≡ written (now (w .entry)) target (matrixList (join m n (matrixAt (now (w .entry)) right k) (matrixAt (now (w .entry)) left k))) ⌝ }
+{
+    raise(m, w, target, n, left, 0, right, k, left, k);
+    raise(m, w, target + (n + n), n, left, 0, right + (k + k), k, left, k);
+}
+
+// Writes the leaf over the rows t + 2 and t + 3 at place at.
+fn build_leaf(m: u32, a: &[u32], b: &[u32], c: &[u32], r: usize, w: &mut [u32], at: usize, t: usize)
+    requires { ⌜ BuildInput m (now a) (now b) (now c) r (now w) at 0 1 t ⌝ }
+    ensures { λ _. ⌜ now (w .exit) ≡ written (now (w .entry)) at (treeList (padded (familyOf m r (now (a .entry)) (now (b .entry)) (now (c .entry)))) 0 t) ⌝ }
+{
+    let p = t + 1;
+    let q = t + 2;
+    let pa = row_entry(a, r, p);
+    let pb = row_entry(b, r, p);
+    let pc = row_entry(c, r, p);
+    let qa = row_entry(a, r, q);
+    let qb = row_entry(b, r, q);
+    let qc = row_entry(c, r, q);
+    write_leaf(m, w, at, pa, pb, pc, qa, qb, qc);
+}
+
+// Stores the tree over 2 pairs rows that follow row t + 1, from place at on.
+fn build(
+    m: u32,
+    a: &[u32],
+    b: &[u32],
+    c: &[u32],
+    r: usize,
+    w: &mut [u32],
+    at: usize,
+    level: usize,
+    pairs: usize,
+    t: usize,
+)
+    requires { ⌜ BuildInput m (now a) (now b) (now c) r (now w) at level pairs t ⌝ }
+    ensures { λ _. ⌜ now (w .exit) ≡ written (now (w .entry)) at (treeList (padded (familyOf m r (now (a .entry)) (now (b .entry)) (now (c .entry)))) level t) ⌝ }
+{
+    if pairs == 1 {
+        build_leaf(m, a, b, c, r, w, at, t);
+        return;
+    }
+    let half = pairs / 2;
+    let size = tree_size(level - 1, half);
+    let right = at + size;
+    let end = right + size;
+    let k = pairs + 1;
+    let lists = 4 * k;
+    build(m, a, b, c, r, w, at, level - 1, half, t);
+    build(m, a, b, c, r, w, right, level - 1, half, t + pairs);
+    join(m, w, end, pairs + k, end - lists, right - lists, k);
 }
