@@ -53,21 +53,21 @@ pub record Level (level pairs : ℕ) : Type 0 where
 
 -- ---- levels
 -- a tree over more than one pair of rows has halves
-pub record Halves (level pairs l : ℕ) : Type 0 where
-  pub is : level ≡ suc l
-  pub below : level - 1 ≡ l
-  pub half : Level l (pairs / 2)
-  pub rows : span l ≡ pairs
+pub record Halves (level pairs : ℕ) : Type 0 where
+  pub is : level ≡ suc (level - 1)
+  pub half : Level (level - 1) (pairs / 2)
+  pub rows : span (level - 1) ≡ pairs
   pub falls : pairs / 2 < pairs
 
-pub level-halves : (level pairs : ℕ) → Level level pairs → (pairs ≡ 1 → ⊥) → (l : ℕ) × Halves level pairs l
+pub level-halves : (level pairs : ℕ) → Level level pairs → (pairs ≡ 1 → ⊥) → Halves level pairs
 level-halves zero pairs h more = absurd (more (omega (arith, h .covers, span-zero)))
 level-halves (suc l) pairs h more =
+    let s : suc l - 1 ≡ l = omega arith in
     let e : span l ≡ pairs = omega (arith, h .covers, span-suc l) in
     let p : span l ≡ 2 * 2 ^ l = span-power l in
     let two : 2 ≤ span l = span-two l in
     let d : pairs / 2 ≡ 2 ^ l = omega arith in
-    (l, record { is = refl; below = omega arith; half = record { most = omega (arith, h .most); covers = omega arith }; rows = e; falls = omega arith })
+    record { is = ap suc (sym s); half = rw s record { most = omega (arith, h .most); covers = omega arith }; rows = rw s e; falls = omega arith }
 
 pub level-one : (level pairs : ℕ) → Level level pairs → pairs ≡ 1 → level ≡ 0
 level-one zero pairs h e = refl

@@ -23,11 +23,7 @@ fn row_entry(a: &[u32], r: usize, i: usize) -> u32
     requires { ⌜ r ≤ length (now a) ⌝ }
     ensures { λ v. ⌜ v ≡ getD (take r (now (a .entry))) i 0 ⌝ }
 {
-    if i < r {
-        a[i]
-    } else {
-        0
-    }
+    if i < r { a[i] } else { 0 }
 }
 
 // s + x y + u v modulo m.
@@ -95,7 +91,20 @@ fn raise(
     let second = row + pn;
     let lower = matrix + (qn + qn);
     add_products(m, w, target, n, t, tn, row, second, pn, matrix, lower, qn);
-    add_products(m, w, target + n, n, t + tn, tn, row, second, pn, matrix + qn, lower + qn, qn);
+    add_products(
+        m,
+        w,
+        target + n,
+        n,
+        t + tn,
+        tn,
+        row,
+        second,
+        pn,
+        matrix + qn,
+        lower + qn,
+        qn,
+    );
 }
 
 // Writes the right half's matrix times the left half's, n coefficients of each entry, from place target on. The halves' lists have k
@@ -105,7 +114,18 @@ fn join(m: u32, w: &mut [u32], target: usize, n: usize, right: usize, left: usiz
     ensures { λ _. ⌜ now (w .exit) ≡ written (now (w .entry)) target (matrixList (join m n (matrixAt (now (w .entry)) right k) (matrixAt (now (w .entry)) left k))) ⌝ }
 {
     raise(m, w, target, n, left, 0, right, k, left, k);
-    raise(m, w, target + (n + n), n, left, 0, right + (k + k), k, left, k);
+    raise(
+        m,
+        w,
+        target + (n + n),
+        n,
+        left,
+        0,
+        right + (k + k),
+        k,
+        left,
+        k,
+    );
 }
 
 // Writes the leaf over the rows t + 2 and t + 3 at place at.

@@ -1,3 +1,6 @@
+use native.Mathlib.Omega.{arith}
+use mathlib.Core.Path.{_∙_}
+use Rattle.tree.specs.Build.{build-one, build-one-stored, build-halves, build-sizes, build-left, build-right, build-join, build-stored}
 use Prim.Native.Nat.{ℕ, _<_}
 use borrow.Fn.Kinds.{In}
 use borrow.Fn.PlainCycle.{Measures, is, falls, and}
@@ -11,7 +14,7 @@ use Rattle.tree.proofs.+build.{statement}
 use Rattle.tree.proofs.+build.Tie.{close}
 
 abbrev μ-build : Measures 4 build-kinds.ps ℕ
-μ-build κs a = ?
+μ-build κs a = a .1 .1 .1 .1 .1 .1 .1 .1 .0
 
 abbrev build-at : ℕ → In 4 build-kinds.ps
 build-at t = and 4 build-kinds.ps (is 4 build-kinds.ps μ-build t) build.Pre
@@ -30,7 +33,7 @@ build-build-leaf-requires : (t : ℕ) → build-lts.Need-build-leaf-requires (
   join-reads.Asked,
   join-reads.Learnt,
 ) (build-at t) build.Post
-build-build-leaf-requires t c κs = ?
+build-build-leaf-requires t c κs = build-one _ _ _ _ _ _ _ _ _ _ (c .before .before .before .before .before .before .pre .1) (c .before .if1 .taken)
 
 -- src/lib.rt:145:9
 build-same-length : (t : ℕ) → build-lts.Need-same-length (
@@ -43,7 +46,7 @@ build-same-length : (t : ℕ) → build-lts.Need-same-length (
   join-reads.Asked,
   join-reads.Learnt,
 ) (build-at t) build.Post
-build-same-length t c = ?
+build-same-length t c = c .before .before .build-leaf .kept .1 .1 .1 .1 .1 .0
 
 -- src/lib.rt:145:9
 build-returns : (t : ℕ) → build-lts.Need-returns (
@@ -56,7 +59,7 @@ build-returns : (t : ℕ) → build-lts.Need-returns (
   join-reads.Asked,
   join-reads.Learnt,
 ) (build-at t) build.Post
-build-returns t c = ?
+build-returns t c = build-one-stored _ _ _ _ _ _ _ _ _ _ (c .before .before .before .before .before .before .before .before .before .pre .1) (c .before .before .before .before .if1 .taken) _ (c .before .before .build-leaf .ensures)
 
 -- src/lib.rt:148:26
 build-sub-tree-size : (t : ℕ) → build-lts.Need-sub-tree-size (
@@ -69,7 +72,7 @@ build-sub-tree-size : (t : ℕ) → build-lts.Need-sub-tree-size (
   join-reads.Asked,
   join-reads.Learnt,
 ) (build-at t) build.Post
-build-sub-tree-size t c = ?
+build-sub-tree-size t c = omega (arith, build-halves _ _ _ _ _ _ _ _ _ _ (c .before .before .before .before .before .pre .1) (c .if1 .left) .is)
 
 -- src/lib.rt:148:9
 build-tree-size-requires : (t : ℕ) → build-lts.Need-tree-size-requires (
@@ -82,7 +85,7 @@ build-tree-size-requires : (t : ℕ) → build-lts.Need-tree-size-requires (
   join-reads.Asked,
   join-reads.Learnt,
 ) (build-at t) build.Post
-build-tree-size-requires t c κs = ?
+build-tree-size-requires t c κs = build-halves _ _ _ _ _ _ _ _ _ _ (c .before .before .before .before .before .pre .1) (c .if1 .left) .half
 
 -- src/lib.rt:149:17
 build-add-right : (t : ℕ) → build-lts.Need-add-right (
@@ -95,7 +98,7 @@ build-add-right : (t : ℕ) → build-lts.Need-add-right (
   join-reads.Asked,
   join-reads.Learnt,
 ) (build-at t) build.Post
-build-add-right t c = ?
+build-add-right t c = omega (arith, build-sizes _ _ _ _ _ _ _ _ _ _ (c .before .before .before .before .before .before .pre .1) (c .before .if1 .left) _ (c .tree-size .ensures))
 
 -- src/lib.rt:150:15
 build-add-end : (t : ℕ) → build-lts.Need-add-end (
@@ -108,7 +111,7 @@ build-add-end : (t : ℕ) → build-lts.Need-add-end (
   join-reads.Asked,
   join-reads.Learnt,
 ) (build-at t) build.Post
-build-add-end t c = ?
+build-add-end t c = omega (arith, build-sizes _ _ _ _ _ _ _ _ _ _ (c .before .before .before .before .before .before .pre .1) (c .before .if1 .left) _ (c .tree-size .ensures))
 
 -- src/lib.rt:151:13
 build-add-k : (t : ℕ) → build-lts.Need-add-k (
@@ -121,7 +124,7 @@ build-add-k : (t : ℕ) → build-lts.Need-add-k (
   join-reads.Asked,
   join-reads.Learnt,
 ) (build-at t) build.Post
-build-add-k t c = ?
+build-add-k t c = omega (arith, build-sizes _ _ _ _ _ _ _ _ _ _ (c .before .before .before .before .before .before .pre .1) (c .before .if1 .left) _ (c .tree-size .ensures))
 
 -- src/lib.rt:152:17
 build-mul-lists : (t : ℕ) → build-lts.Need-mul-lists (
@@ -134,7 +137,7 @@ build-mul-lists : (t : ℕ) → build-lts.Need-mul-lists (
   join-reads.Asked,
   join-reads.Learnt,
 ) (build-at t) build.Post
-build-mul-lists t c = ?
+build-mul-lists t c = omega (arith, build-sizes _ _ _ _ _ _ _ _ _ _ (c .before .before .before .before .before .before .pre .1) (c .before .if1 .left) _ (c .tree-size .ensures))
 
 -- src/lib.rt:153:33
 build-sub-build : (t : ℕ) → build-lts.Need-sub-build (
@@ -147,7 +150,7 @@ build-sub-build : (t : ℕ) → build-lts.Need-sub-build (
   join-reads.Asked,
   join-reads.Learnt,
 ) (build-at t) build.Post
-build-sub-build t c = ?
+build-sub-build t c = omega (arith, build-sizes _ _ _ _ _ _ _ _ _ _ (c .before .before .before .before .before .before .before .pre .1) (c .before .before .if1 .left) _ (c .before .tree-size .ensures))
 
 -- src/lib.rt:153:5
 build-build-requires : (t : ℕ) → build-lts.Need-build-requires (
@@ -160,7 +163,7 @@ build-build-requires : (t : ℕ) → build-lts.Need-build-requires (
   join-reads.Asked,
   join-reads.Learnt,
 ) (build-at t) build.Post
-build-build-requires t c κs = ?
+build-build-requires t c κs = (omega (arith, build-sizes _ _ _ _ _ _ _ _ _ _ (c .before .before .before .before .before .before .before .pre .1) (c .before .before .if1 .left) _ (c .before .tree-size .ensures)), build-left _ _ _ _ _ _ _ _ _ _ (c .before .before .before .before .before .before .before .pre .1) (c .before .before .if1 .left) _ (c .before .tree-size .ensures))
 
 -- src/lib.rt:154:36
 build-sub-build-2 : (t : ℕ) → build-lts.Need-sub-build-2 (
@@ -173,7 +176,7 @@ build-sub-build-2 : (t : ℕ) → build-lts.Need-sub-build-2 (
   join-reads.Asked,
   join-reads.Learnt,
 ) (build-at t) build.Post
-build-sub-build-2 t c = ?
+build-sub-build-2 t c = omega (arith, build-sizes _ _ _ _ _ _ _ _ _ _ (c .before .before .before .before .before .before .before .before .before .before .before .pre .1) (c .before .before .before .before .before .before .if1 .left) _ (c .before .before .before .before .before .tree-size .ensures))
 
 -- src/lib.rt:154:53
 build-add-build : (t : ℕ) → build-lts.Need-add-build (
@@ -186,7 +189,7 @@ build-add-build : (t : ℕ) → build-lts.Need-add-build (
   join-reads.Asked,
   join-reads.Learnt,
 ) (build-at t) build.Post
-build-add-build t c = ?
+build-add-build t c = omega (arith, build-sizes _ _ _ _ _ _ _ _ _ _ (c .before .before .before .before .before .before .before .before .before .before .before .pre .1) (c .before .before .before .before .before .before .if1 .left) _ (c .before .before .before .before .before .tree-size .ensures))
 
 -- src/lib.rt:154:5
 build-build-requires-2 : (t : ℕ) → build-lts.Need-build-requires-2 (
@@ -199,7 +202,7 @@ build-build-requires-2 : (t : ℕ) → build-lts.Need-build-requires-2 (
   join-reads.Asked,
   join-reads.Learnt,
 ) (build-at t) build.Post
-build-build-requires-2 t c κs = ?
+build-build-requires-2 t c κs = (omega (arith, build-sizes _ _ _ _ _ _ _ _ _ _ (c .before .before .before .before .before .before .before .before .before .before .before .pre .1) (c .before .before .before .before .before .before .if1 .left) _ (c .before .before .before .before .before .tree-size .ensures)), build-right _ _ _ _ _ _ _ _ _ _ (c .before .before .before .before .before .before .before .before .before .before .before .pre .1) (c .before .before .before .before .before .before .if1 .left) _ (c .before .before .before .before .before .tree-size .ensures) _ (c .before .before .before .build .ensures))
 
 -- src/lib.rt:155:21
 build-add-join : (t : ℕ) → build-lts.Need-add-join (
@@ -212,7 +215,7 @@ build-add-join : (t : ℕ) → build-lts.Need-add-join (
   join-reads.Asked,
   join-reads.Learnt,
 ) (build-at t) build.Post
-build-add-join t c = ?
+build-add-join t c = omega (arith, build-sizes _ _ _ _ _ _ _ _ _ _ (c .before .before .before .before .before .before .before .before .before .before .before .before .before .before .before .pre .1) (c .before .before .before .before .before .before .before .before .before .before .if1 .left) _ (c .before .before .before .before .before .before .before .before .before .tree-size .ensures))
 
 -- src/lib.rt:155:32
 build-sub-join : (t : ℕ) → build-lts.Need-sub-join (
@@ -225,7 +228,7 @@ build-sub-join : (t : ℕ) → build-lts.Need-sub-join (
   join-reads.Asked,
   join-reads.Learnt,
 ) (build-at t) build.Post
-build-sub-join t c = ?
+build-sub-join t c = omega (arith, build-sizes _ _ _ _ _ _ _ _ _ _ (c .before .before .before .before .before .before .before .before .before .before .before .before .before .before .before .pre .1) (c .before .before .before .before .before .before .before .before .before .before .if1 .left) _ (c .before .before .before .before .before .before .before .before .before .tree-size .ensures))
 
 -- src/lib.rt:155:45
 build-sub-join-2 : (t : ℕ) → build-lts.Need-sub-join-2 (
@@ -238,7 +241,7 @@ build-sub-join-2 : (t : ℕ) → build-lts.Need-sub-join-2 (
   join-reads.Asked,
   join-reads.Learnt,
 ) (build-at t) build.Post
-build-sub-join-2 t c = ?
+build-sub-join-2 t c = omega (arith, build-sizes _ _ _ _ _ _ _ _ _ _ (c .before .before .before .before .before .before .before .before .before .before .before .before .before .before .before .pre .1) (c .before .before .before .before .before .before .before .before .before .before .if1 .left) _ (c .before .before .before .before .before .before .before .before .before .tree-size .ensures))
 
 -- src/lib.rt:155:5
 build-join-requires : (t : ℕ) → build-lts.Need-join-requires (
@@ -251,7 +254,7 @@ build-join-requires : (t : ℕ) → build-lts.Need-join-requires (
   join-reads.Asked,
   join-reads.Learnt,
 ) (build-at t) build.Post
-build-join-requires t c κs = ?
+build-join-requires t c κs = build-join _ _ _ _ _ _ _ _ _ _ (c .before .before .before .before .before .before .before .before .before .before .before .before .before .before .before .pre .1) (c .before .before .before .before .before .before .before .before .before .before .if1 .left) _ (c .before .before .before .before .before .before .before .before .before .tree-size .ensures) _ (c .before .before .before .before .before .before .before .build .ensures) _ (c .before .before .before .build2 .ensures)
 
 -- src/lib.rt:128:1
 build-same-length-2 : (t : ℕ) → build-lts.Need-same-length-2 (
@@ -264,7 +267,7 @@ build-same-length-2 : (t : ℕ) → build-lts.Need-same-length-2 (
   join-reads.Asked,
   join-reads.Learnt,
 ) (build-at t) build.Post
-build-same-length-2 t c = ?
+build-same-length-2 t c = c .before .before .join .kept .1 .0 ∙ c .before .before .before .before .before .before .build2 .kept .1 .1 .1 .1 .1 .0 ∙ c .before .before .before .before .before .before .before .before .before .before .build .kept .1 .1 .1 .1 .1 .0
 
 -- src/lib.rt:128:1
 build-returns-2 : (t : ℕ) → build-lts.Need-returns-2 (
@@ -277,7 +280,7 @@ build-returns-2 : (t : ℕ) → build-lts.Need-returns-2 (
   join-reads.Asked,
   join-reads.Learnt,
 ) (build-at t) build.Post
-build-returns-2 t c = ?
+build-returns-2 t c = build-stored _ _ _ _ _ _ _ _ _ _ (c .before .before .before .before .before .before .before .before .before .before .before .before .before .before .before .before .before .before .pre .1) (c .before .before .before .before .before .before .before .before .before .before .before .before .before .if1 .left) _ (c .before .before .before .before .before .before .before .before .before .before .before .before .tree-size .ensures) _ (c .before .before .before .before .before .before .before .before .before .before .build .ensures) _ (c .before .before .before .before .before .before .build2 .ensures) _ (c .before .before .join .ensures)
 
 pub +build-spec : {M : Type 1} → statement M
 +build-spec = close μ-build λ t. build-lts.spec (

@@ -1,3 +1,4 @@
+use Rattle.tree.specs.Build.{leaf-input, leaf-stored}
 use borrow.Author.Needs.{needs}
 use Rattle.tree.proofs.build_leaf.Statement.{statement}
 use Rattle.tree.proofs.build_leaf.Tie as tie
@@ -40,7 +41,7 @@ row-entry-requires-6 c κs = search needs
 
 -- src/lib.rt:124:5
 write-leaf-requires : tie.Need-write-leaf-requires
-write-leaf-requires c κs = ?
+write-leaf-requires c κs = leaf-input _ _ _ _ _ _ _ _ (c .before .before .before .before .before .before .before .before .before .before .before .pre) _ _ _ _ _ _ (c .before .before .before .before .before .before .row-entry .ensures) (c .before .before .before .before .before .row-entry2 .ensures) (c .before .before .before .before .row-entry3 .ensures) (c .before .before .before .row-entry4 .ensures) (c .before .before .row-entry5 .ensures) (c .before .row-entry6 .ensures)
 
 -- src/lib.rt:112:1
 same-length : tie.Need-same-length
@@ -48,7 +49,7 @@ same-length c = search needs
 
 -- src/lib.rt:112:1
 returns : tie.Need-returns
-returns c = ?
+returns c = leaf-stored _ _ _ _ _ _ _ _ (c .before .before .before .before .before .before .before .before .before .before .before .before .before .before .pre) _ _ _ _ _ _ (c .before .before .before .before .before .before .before .before .before .row-entry .ensures) (c .before .before .before .before .before .before .before .before .row-entry2 .ensures) (c .before .before .before .before .before .before .before .row-entry3 .ensures) (c .before .before .before .before .before .before .row-entry4 .ensures) (c .before .before .before .before .before .row-entry5 .ensures) (c .before .before .before .before .row-entry6 .ensures) _ (c .before .before .write-leaf .ensures)
 
 pub build-leaf-spec : {M : Type 1} → statement M
 build-leaf-spec =
