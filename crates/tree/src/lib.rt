@@ -8,6 +8,7 @@ ghost use Rattle.theory.specs.Regions.{part, written};
 ghost use Rattle.theory.specs.Tree.{padded, leaf, join, node, raise};
 ghost use Rattle.tree.specs.Layout.{Level, treeSize, treeList, matrixList, pairList, matrixAt, pairAt};
 ghost use Rattle.tree.specs.Build.{familyOf, rowOf, Residues, LeafInput, RaisePlaces, JoinPlaces, RowsInput, BuildInput};
+ghost use Rattle.tree.specs.Climb.{ClimbInput, ClimbOutput};
 use products::add_products;
 
 // The numbers that the stored tree over pairs pairs of rows takes.
@@ -173,4 +174,51 @@ fn build(
     build(m, a, b, c, r, w, at, level - 1, half, t);
     build(m, a, b, c, r, w, right, level - 1, half, t + pairs);
     join(m, w, end, pairs + k, end - lists, right - lists, k);
+}
+
+// Writes the pair over two entries x and y of the curve: each is a polynomial of two coefficients.
+fn climb_leaf(w: &mut [u32], at: usize, x: u32, y: u32)
+    requires { ⌜ at + 4 ≤ length (now w) ⌝ }
+    ensures { λ _. ⌜ now (w .exit) ≡ written (now (w .entry)) at (x ∷ 0 ∷ y ∷ 0 ∷ []) ⌝ }
+{
+    let second = at + 1;
+    let third = at + 2;
+    let fourth = at + 3;
+    w[at] = x;
+    w[second] = 0;
+    w[third] = y;
+    w[fourth] = 0;
+}
+
+// Writes the pair over the 2 pairs entries of the curve from t on, from place at on, by the tree that is stored from place tree on.
+// Behind the pair lie the pairs of both halves, and their scratch.
+fn climb(
+    m: u32,
+    curve: &[u32],
+    n: usize,
+    w: &mut [u32],
+    tree: usize,
+    at: usize,
+    level: usize,
+    pairs: usize,
+    t: usize,
+)
+    requires { ⌜ ClimbInput m (now curve) n (now w) tree at level pairs t ⌝ }
+    ensures { λ _. ⌜ ClimbOutput m (take n (now (curve .entry))) (now (w .entry)) tree at level t (now (w .exit)) ⌝ }
+{
+    if pairs == 1 {
+        let x = row_entry(curve, n, t);
+        let y = row_entry(curve, n, t + 1);
+        climb_leaf(w, at, x, y);
+        return;
+    }
+    let half = pairs / 2;
+    let size = tree_size(level - 1, half);
+    let left = at + 4 * pairs;
+    let right = left + 2 * pairs;
+    let end = tree + size;
+    let k = pairs + 1;
+    climb(m, curve, n, w, tree, left, level - 1, half, t);
+    climb(m, curve, n, w, end, right, level - 1, half, t + pairs);
+    raise(m, w, at, pairs + pairs, left, pairs, right, pairs, end - 4 * k, k);
 }
