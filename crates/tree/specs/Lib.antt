@@ -2,3 +2,4 @@
 pub mod Layout
 pub mod Build
 pub mod Climb
+pub mod Descend
