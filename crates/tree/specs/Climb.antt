@@ -226,7 +226,7 @@ module _ (m : ℕ) (curve : List ℕ) (n : ℕ) (w : List ℕ) (tree at level pa
                   source = record {
                     inside = omega arith;
                     below = kept-residues (at + 4 * pairs) (at + 12 * pairs) w w₂ both-kept m (tree + size - 4 * (pairs + 1)) (4 * (pairs + 1)) matrix-apart
-                      (λ i a b. h .treeBelow i (omega arith) (omega (arith, sized, whole)));
+                        (λ i a b. h .treeBelow i (omega arith) (omega (arith, sized, whole)));
                   };
                   apart = inl (omega arith);
                 };
@@ -241,7 +241,7 @@ module _ (m : ℕ) (curve : List ℕ) (n : ℕ) (w : List ℕ) (tree at level pa
               let wide : pairs + pairs ≡ span (suc (level - 1)) = omega (arith, climb-halves .rows, span-suc (level - 1)) in
               let lists : pairs + 1 ≡ suc (span (level - 1)) = omega (arith, climb-halves .rows) in
               let e : raise m (pairs + pairs) (pairAt w₂ (at + 4 * pairs) pairs) (pairAt w₂ (at + 4 * pairs + 2 * pairs) pairs) (matrixAt w₂ (tree + size - 4 * (pairs + 1)) (pairs + 1))
-                  ≡ climbed m w tree (take n curve) (suc (level - 1)) t = rw (
+              ≡ climbed m w tree (take n curve) (suc (level - 1)) t = rw (
                 pair-reads w₂ (at + 4 * pairs) pairs _ left-length left-holds,
                 pair-reads w₂ (at + 4 * pairs + 2 * pairs) pairs _ right-length right-holds,
                 matrixAt-kept (at + 4 * pairs) (at + 12 * pairs) w w₂ both-kept (tree + size - 4 * (pairs + 1)) (pairs + 1) matrix-apart,
@@ -264,7 +264,7 @@ module _ (m : ℕ) (curve : List ℕ) (n : ℕ) (w : List ℕ) (tree at level pa
               let room : at + length (pairList (climbed m w tree (take n curve) level t)) ≤ length w₂ = omega (arith, both-kept .long) in
               record {
                 kept = kept-then at (at + 6 * span level) w w₂ w₃
-                  (kept-wider (at + 4 * pairs) (at + 12 * pairs) at (at + 6 * span level) w w₂ (omega arith) (omega arith) both-kept)
-                  (rw e (kept-wider at (at + length (pairList (climbed m w tree (take n curve) level t))) at (at + 6 * span level) w₂ _ (omega arith) (omega arith) (written-kept w₂ at _ room)));
+                    (kept-wider (at + 4 * pairs) (at + 12 * pairs) at (at + 6 * span level) w w₂ (omega arith) (omega arith) both-kept)
+                    (rw e (kept-wider at (at + length (pairList (climbed m w tree (take n curve) level t))) at (at + 6 * span level) w₂ _ (omega arith) (omega arith) (written-kept w₂ at _ room)));
                 holds = ap₂ (λ v k. part v at k) e (sym long) ∙ part-written w₂ at (pairList (climbed m w tree (take n curve) level t)) room;
               }

@@ -128,7 +128,7 @@ module _ (m : ℕ) (w : List ℕ) (target n matrix qn first second vn : ℕ) (pl
     lower-kept =
         let room : target + (n + n) ≤ length w = places .room in
         rw e₁ (kept-wider target (target + length loweredFirst) target (target + (n + n)) w (written w target loweredFirst) (omega arith) (omega (arith, first-length))
-          (written-kept w target loweredFirst (omega (arith, first-length))))
+        (written-kept w target loweredFirst (omega (arith, first-length))))
 
     pub lower-second : TransposedPlaces m w₁ (target + n) n (matrix + (qn + qn)) (matrix + (qn + qn) + qn) qn first second vn
     lower-second =
@@ -151,15 +151,15 @@ module _ (m : ℕ) (w : List ℕ) (target n matrix qn first second vn : ℕ) (pl
     unfolding lower listsAt matrixAt pairList
     lower-written w₂ e₂ =
         let within : (p : ℕ) → matrix ≤ p → p + qn ≤ matrix + 4 * qn → part w₁ p qn ≡ part w p qn
-            = λ p a b. kept-part target (target + (n + n)) w w₁ lower-kept p qn (aside-within m w target (target + (n + n)) matrix (4 * qn) target (target + (n + n)) p qn (places .matrixAside) (omega arith) (omega arith) a b .apart) in
+        = λ p a b. kept-part target (target + (n + n)) w w₁ lower-kept p qn (aside-within m w target (target + (n + n)) matrix (4 * qn) target (target + (n + n)) p qn (places .matrixAside) (omega arith) (omega arith) a b .apart) in
         let e : transposedSum m n (part w₁ (matrix + (qn + qn)) qn) (part w₁ first vn) (part w₁ (matrix + (qn + qn) + qn) qn) (part w₁ second vn)
-            ≡ transposedSum m n (part w (matrix + (qn + qn)) qn) (part w first vn) (part w (matrix + (qn + qn) + qn) qn) (part w second vn)
-            = rw (
-              within (matrix + (qn + qn)) (omega arith) (omega arith),
-              within (matrix + (qn + qn) + qn) (omega arith) (omega arith),
-              kept-part target (target + (n + n)) w w₁ lower-kept first vn (places .firstAside .apart),
-              kept-part target (target + (n + n)) w w₁ lower-kept second vn (places .secondAside .apart),
-            ) in
+        ≡ transposedSum m n (part w (matrix + (qn + qn)) qn) (part w first vn) (part w (matrix + (qn + qn) + qn) qn) (part w second vn)
+        = rw (
+          within (matrix + (qn + qn)) (omega arith) (omega arith),
+          within (matrix + (qn + qn) + qn) (omega arith) (omega arith),
+          kept-part target (target + (n + n)) w w₁ lower-kept first vn (places .firstAside .apart),
+          kept-part target (target + (n + n)) w w₁ lower-kept second vn (places .secondAside .apart),
+        ) in
         let long : length (transposedSum m n (part w (matrix + (qn + qn)) qn) (part w first vn) (part w (matrix + (qn + qn) + qn) qn) (part w second vn)) ≡ n = transposedSum-length m n _ _ _ _ in
         written-then w target loweredFirst (target + n) _ w₁ w₂ (omega (arith, places .room, first-length)) (ap (λ x. target + x) (sym first-length)) e₁ (e₂ ∙ ap (written w₁ (target + n)) e)
 
@@ -257,14 +257,14 @@ module _ (m : ℕ) (w : List ℕ) (tree first second at level pairs : ℕ) (h : 
                 source = record {
                   inside = omega arith;
                   below = kept-residues at (at + 6 * pairs) w w₁ left-kept m (tree + size - 4 * (pairs + 1)) (4 * (pairs + 1)) node-apart
-                    (λ i a b. h .treeBelow i (omega arith) (omega (arith, sized, whole)));
+                      (λ i a b. h .treeBelow i (omega arith) (omega (arith, sized, whole)));
                 };
                 apart = inl (omega arith);
               };
               firstAside = aside-within m w₁ at (at + 6 * pairs) first (pairs + pairs) (at + 4 * pairs) (at + 4 * pairs + (pairs + pairs)) first (pairs + pairs)
-                (aside-kept m at (at + 6 * pairs) w w₁ first (pairs + pairs) left-kept firstApart) (omega arith) (omega arith) (omega arith) (omega arith);
+                  (aside-kept m at (at + 6 * pairs) w w₁ first (pairs + pairs) left-kept firstApart) (omega arith) (omega arith) (omega arith) (omega arith);
               secondAside = aside-within m w₁ at (at + 6 * pairs) second (pairs + pairs) (at + 4 * pairs) (at + 4 * pairs + (pairs + pairs)) second (pairs + pairs)
-                (aside-kept m at (at + 6 * pairs) w w₁ second (pairs + pairs) left-kept secondApart) (omega arith) (omega arith) (omega arith) (omega arith);
+                  (aside-kept m at (at + 6 * pairs) w w₁ second (pairs + pairs) left-kept secondApart) (omega arith) (omega arith) (omega arith) (omega arith);
             }
 
         module _ (w₂ : List ℕ) (e₂ : w₂ ≡ written w₁ (at + 4 * pairs) (pairList (lower m pairs (matrixAt w₁ (tree + size - 4 * (pairs + 1)) (pairs + 1)) (listsAt w₁ first second (pairs + pairs))))) where
@@ -338,9 +338,9 @@ module _ (m : ℕ) (w : List ℕ) (tree first second at level pairs : ℕ) (h : 
                 let node-is : tree + size - 4 * (pairs + 1) ≡ tree + nodePlace (level - 1) = omega (arith, sized, descend-halves .rows, treeSize-node (level - 1)) in
                 let one : pairs + 1 ≡ suc pairs = omega arith in
                 let e : descended m w tree (level - 1) (listsAt w first second pairs)
-                    ++ descended m w (tree + size) (level - 1) (lower m pairs (matrixAt w (tree + size - 4 * (pairs + 1)) (pairs + 1)) (listsAt w first second (pairs + pairs)))
-                    ≡ descended m w tree (suc (level - 1)) (listsAt w first second (pairs + pairs))
-                    = rw (node-is, one, sized, descend-halves .rows, listsAt-first w first second (pairs + pairs) pairs (omega arith)) in
+                ++ descended m w (tree + size) (level - 1) (lower m pairs (matrixAt w (tree + size - 4 * (pairs + 1)) (pairs + 1)) (listsAt w first second (pairs + pairs)))
+                ≡ descended m w tree (suc (level - 1)) (listsAt w first second (pairs + pairs))
+                = rw (node-is, one, sized, descend-halves .rows, listsAt-first w first second (pairs + pairs) pairs (omega arith)) in
                 e ∙ ap₂ (λ k x. descended m w tree k (listsAt w first second x)) (sym (descend-halves .is)) (sym covers)
 
             pub descend-output : DescendOutput m w tree first second at level w₃
@@ -353,9 +353,9 @@ module _ (m : ℕ) (w : List ℕ) (tree first second at level pairs : ℕ) (h : 
                 let both : length (xs ++ ys) ≡ span level = length-append xs ys ∙ omega (arith, covers) in
                 record {
                   kept = kept-then at (at + 3 * span level) w w₂ w₃
-                    (kept-wider at (at + 6 * pairs) at (at + 3 * span level) w w₂ (omega arith) (omega (arith, covers)) two-kept)
-                    (kept-wider (at + pairs) (at + pairs + 3 * pairs) at (at + 3 * span level) w₂ w₃ (omega arith) (omega (arith, covers)) right-kept);
+                      (kept-wider at (at + 6 * pairs) at (at + 3 * span level) w w₂ (omega arith) (omega (arith, covers)) two-kept)
+                      (kept-wider (at + pairs) (at + pairs + 3 * pairs) at (at + 3 * span level) w₂ w₃ (omega arith) (omega (arith, covers)) right-kept);
                   holds = ap (part w₃ at) (sym both)
-                    ∙ part-both w₃ at xs ys (ap (part w₃ at) lx ∙ left-holds) (ap₂ (λ p k. part w₃ (at + p) k) lx ly ∙ right-holds)
-                    ∙ entries-are;
+                      ∙ part-both w₃ at xs ys (ap (part w₃ at) lx ∙ left-holds) (ap₂ (λ p k. part w₃ (at + p) k) lx ly ∙ right-holds)
+                      ∙ entries-are;
                 }

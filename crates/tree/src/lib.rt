@@ -5,11 +5,13 @@ ghost use mathlib.Core.List.{[], _∷_};
 ghost use Prim.Native.Nat.{ℕ, zero, _+_, _*_, _-_, _%_, _≤_, _<_};
 ghost use lib.ListN.{length, getD, take};
 ghost use Rattle.theory.specs.Regions.{part, written};
-ghost use Rattle.theory.specs.Tree.{padded, leaf, join, node, raise};
+ghost use Rattle.theory.specs.Tree.{padded, leaf, join, node, raise, lower};
 ghost use Rattle.tree.specs.Layout.{Level, treeSize, treeList, matrixList, pairList, matrixAt, pairAt};
 ghost use Rattle.tree.specs.Build.{familyOf, rowOf, Residues, LeafInput, RaisePlaces, JoinPlaces, RowsInput, BuildInput};
 ghost use Rattle.tree.specs.Climb.{ClimbInput, ClimbOutput};
+ghost use Rattle.tree.specs.Descend.{LeafPlaces, LowerPlaces, DescendInput, DescendOutput, listsAt};
 use products::add_products;
+use products::transposed_sum;
 
 // The numbers that the stored tree over pairs pairs of rows takes.
 fn tree_size(level: usize, pairs: usize) -> usize
@@ -220,5 +222,87 @@ fn climb(
     let k = pairs + 1;
     climb(m, curve, n, w, tree, left, level - 1, half, t);
     climb(m, curve, n, w, end, right, level - 1, half, t + pairs);
-    raise(m, w, at, pairs + pairs, left, pairs, right, pairs, end - 4 * k, k);
+    raise(
+        m,
+        w,
+        at,
+        pairs + pairs,
+        left,
+        pairs,
+        right,
+        pairs,
+        end - 4 * k,
+        k,
+    );
+}
+
+// Writes the pair of the right half: n terms of the transposed products of the lists at first and second with a matrix. Those lists have
+// vn numbers, the matrix has lists of qn.
+fn lower(
+    m: u32,
+    w: &mut [u32],
+    target: usize,
+    n: usize,
+    matrix: usize,
+    qn: usize,
+    first: usize,
+    second: usize,
+    vn: usize,
+)
+    requires { ⌜ LowerPlaces m (now w) target n matrix qn first second vn ⌝ }
+    ensures { λ _. ⌜ now (w .exit) ≡ written (now (w .entry)) target (pairList (lower m n (matrixAt (now (w .entry)) matrix qn) (listsAt (now (w .entry)) first second vn))) ⌝ }
+{
+    let row = matrix + (qn + qn);
+    transposed_sum(m, w, target, n, matrix, matrix + qn, qn, first, second, vn);
+    transposed_sum(m, w, target + n, n, row, row + qn, qn, first, second, vn);
+}
+
+fn descend_leaf(w: &mut [u32], first: usize, second: usize, at: usize)
+    requires { ⌜ LeafPlaces (length (now w)) first second at ⌝ }
+    ensures { λ _. ⌜ now (w .exit) ≡ written (now (w .entry)) at (getD (now (w .entry)) first 0 ∷ getD (now (w .entry)) second 0 ∷ []) ⌝ }
+{
+    let x = w[first];
+    let y = w[second];
+    let next = at + 1;
+    w[at] = x;
+    w[next] = y;
+}
+
+// Writes the 2 pairs entries of the answer from place at on, from the lists at first and second, by the tree that is stored from place
+// tree on. The left half's entries come first, and then the right half's, whose pair lies behind its scratch.
+fn descend(
+    m: u32,
+    w: &mut [u32],
+    tree: usize,
+    first: usize,
+    second: usize,
+    at: usize,
+    level: usize,
+    pairs: usize,
+)
+    requires { ⌜ DescendInput m (now w) tree first second at level pairs ⌝ }
+    ensures { λ _. ⌜ DescendOutput m (now (w .entry)) tree first second at level (now (w .exit)) ⌝ }
+{
+    if pairs == 1 {
+        descend_leaf(w, first, second, at);
+        return;
+    }
+    let half = pairs / 2;
+    let size = tree_size(level - 1, half);
+    let end = tree + size;
+    let pair = at + 4 * pairs;
+    let k = pairs + 1;
+    descend(m, w, tree, first, second, at, level - 1, half);
+    lower(
+        m,
+        w,
+        pair,
+        pairs,
+        end - 4 * k,
+        k,
+        first,
+        second,
+        pairs + pairs,
+    );
+    descend(m, w, end, pair, pair + pairs, at + pairs, level - 1, half);
 }
