@@ -75,19 +75,19 @@ abbrev pub lent : List ℕ → ℕ → ℕ → List ℕ
 lent w at n = take (at + n - at) (drop at w)
 
 module _ (m : ℕ) (w : List ℕ) (at n : ℕ) (h : Source m w at n) where
-  lent-part : lent w at n ≡ part w at n
+  pub lent-part : lent w at n ≡ part w at n
   lent-part =
       let e : at + n - at ≡ n = omega arith in
       ap (λ k. take k (drop at w)) e ∙ part-slice w at n (h .inside)
 
-  lent-below : 0 < m → Below m (lent w at n)
+  pub lent-below : 0 < m → Below m (lent w at n)
   lent-below pos = rw lent-part (part-below m w at n pos (h .below))
 
-  lent-length : length (lent w at n) ≡ n
+  pub lent-length : length (lent w at n) ≡ n
   lent-length = ap length lent-part ∙ part-length w at n
 
 -- a residue is below m m
-residue-small : (m x : ℕ) → x < m → x < m * m
+pub residue-small : (m x : ℕ) → x < m → x < m * m
 residue-small m x h =
     let least : m * 1 ≤ m * m = mul-le-mul-left m (omega arith) in
     omega (arith, mul-one m)

@@ -1,5 +1,3 @@
--- What the contracts of this crate cite, and the mathematics of its recursions. Assumes nothing.
-pub mod Layout
-pub mod Build
-pub mod Climb
-pub mod Descend
+-- What the contracts of this crate cite, and the mathematics of its loops and steps. Assumes nothing.
+pub mod Root
+pub mod Core

@@ -1,0 +1,3 @@
+-- Expand and Adjoint by the tree, whole.
+-- Assumes nothing.
+use Prim.Native.Nat.{ℕ}
