@@ -6,6 +6,7 @@
 --   moments, norms and the product law (demand 3): Reversal, Determinant, Favard, Form, Orthogonal, Quotient, Moments, ProductLaw, Gram
 --   the plain ways, as models on lists: PlainModels, PlainSteps, PlainExpand, PlainAdjoint, Horner, PlainDecompose, PlainBasis, PlainAnswers
 --   the tree way, as a model on lists: Level, Products, ProductTerms, Tree, TreeClauses, TreeLengths, TreeBelow, ListSeries, TreeNodes, TreeExpand, Pairing, ListPairing, TreeAdjoint, Extended, TreeExamples
+--   parts of a working list: Regions
 --   texts: Decimal, DecimalReading, NumbersReading, LinesReading, Texts, AnswerTexts, Overwriting
 -- docs/THEOREMS.md leads from the demands to the statements. Assumes nothing.
 pub mod Lists
@@ -58,6 +59,7 @@ pub mod ListPairing
 pub mod TreeAdjoint
 pub mod Extended
 pub mod TreeExamples
+pub mod Regions
 pub mod Decimal
 pub mod DecimalReading
 pub mod NumbersReading

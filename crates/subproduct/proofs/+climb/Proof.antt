@@ -1,0 +1,440 @@
+use native.Mathlib.Omega.{arith}
+use mathlib.Core.Path.{_∙_}
+use Rattle.subproduct.specs.Climb.{climb-one, climb-one-output, climb-halves, climb-sizes, climb-left, climb-right, climb-raise, climb-output}
+use Prim.Native.Nat.{ℕ, _<_}
+use borrow.Fn.Kinds.{In}
+use borrow.Fn.PlainCycle.{Measures, is, falls, and}
+use Rattle.subproduct.proofs.climb.Reads as climb
+use Rattle.subproduct.proofs.climb.Kinds as climb-kinds
+use Rattle.subproduct.proofs.+climb.Lts-climb as climb-lts
+use Rattle.subproduct.proofs.climb_leaf.Reads as climb-leaf-reads
+use Rattle.subproduct.proofs.raise.Reads as raise-reads
+use Rattle.subproduct.proofs.row_entry.Reads as row-entry-reads
+use Rattle.subproduct.proofs.tree_size.Reads as tree-size-reads
+use Rattle.subproduct.proofs.+climb.{statement}
+use Rattle.subproduct.proofs.+climb.Tie.{close}
+
+abbrev μ-climb : Measures 2 climb-kinds.ps ℕ
+μ-climb κs a = a .1 .1 .1 .1 .1 .1 .1 .0
+
+abbrev climb-at : ℕ → In 2 climb-kinds.ps
+climb-at t = and 2 climb-kinds.ps (is 2 climb-kinds.ps μ-climb t) climb.Pre
+
+abbrev climb-below : ℕ → In 2 climb-kinds.ps
+climb-below t = and 2 climb-kinds.ps (falls 2 climb-kinds.ps _<_ μ-climb t) climb.Pre
+
+-- src/lib.rt:210:13
+climb-row-entry-requires : (t : ℕ) → climb-lts.Need-row-entry-requires (
+  row-entry-reads.Asked,
+  row-entry-reads.Learnt,
+  climb-leaf-reads.Asked,
+  climb-leaf-reads.Learnt,
+  tree-size-reads.Asked,
+  tree-size-reads.Learnt,
+  climb-below t,
+  climb.Post,
+  raise-reads.Asked,
+  raise-reads.Learnt,
+) (climb-at t) climb.Post
+climb-row-entry-requires t c κs = c .before .before .before .pre .1 .curveLong
+
+-- src/lib.rt:211:37
+climb-add-row-entry : (t : ℕ) → climb-lts.Need-add-row-entry (
+  row-entry-reads.Asked,
+  row-entry-reads.Learnt,
+  climb-leaf-reads.Asked,
+  climb-leaf-reads.Learnt,
+  tree-size-reads.Asked,
+  tree-size-reads.Learnt,
+  climb-below t,
+  climb.Post,
+  raise-reads.Asked,
+  raise-reads.Learnt,
+) (climb-at t) climb.Post
+climb-add-row-entry t c = omega (arith, climb-one _ _ _ _ _ _ _ _ _ (c .before .before .before .before .pre .1) (c .before .if1 .taken))
+
+-- src/lib.rt:211:13
+climb-row-entry-requires-2 : (t : ℕ) → climb-lts.Need-row-entry-requires-2 (
+  row-entry-reads.Asked,
+  row-entry-reads.Learnt,
+  climb-leaf-reads.Asked,
+  climb-leaf-reads.Learnt,
+  tree-size-reads.Asked,
+  tree-size-reads.Learnt,
+  climb-below t,
+  climb.Post,
+  raise-reads.Asked,
+  raise-reads.Learnt,
+) (climb-at t) climb.Post
+climb-row-entry-requires-2 t c κs = c .before .before .before .before .pre .1 .curveLong
+
+-- src/lib.rt:212:9
+climb-climb-leaf-requires : (t : ℕ) → climb-lts.Need-climb-leaf-requires (
+  row-entry-reads.Asked,
+  row-entry-reads.Learnt,
+  climb-leaf-reads.Asked,
+  climb-leaf-reads.Learnt,
+  tree-size-reads.Asked,
+  tree-size-reads.Learnt,
+  climb-below t,
+  climb.Post,
+  raise-reads.Asked,
+  raise-reads.Learnt,
+) (climb-at t) climb.Post
+climb-climb-leaf-requires t c κs = climb-one _ _ _ _ _ _ _ _ _ (c .before .before .before .before .before .before .pre .1) (c .before .before .before .if1 .taken) .0
+
+-- src/lib.rt:213:9
+climb-same-length : (t : ℕ) → climb-lts.Need-same-length (
+  row-entry-reads.Asked,
+  row-entry-reads.Learnt,
+  climb-leaf-reads.Asked,
+  climb-leaf-reads.Learnt,
+  tree-size-reads.Asked,
+  tree-size-reads.Learnt,
+  climb-below t,
+  climb.Post,
+  raise-reads.Asked,
+  raise-reads.Learnt,
+) (climb-at t) climb.Post
+climb-same-length t c = c .before .before .climb-leaf .kept .0
+
+-- src/lib.rt:213:9
+climb-returns : (t : ℕ) → climb-lts.Need-returns (
+  row-entry-reads.Asked,
+  row-entry-reads.Learnt,
+  climb-leaf-reads.Asked,
+  climb-leaf-reads.Learnt,
+  tree-size-reads.Asked,
+  tree-size-reads.Learnt,
+  climb-below t,
+  climb.Post,
+  raise-reads.Asked,
+  raise-reads.Learnt,
+) (climb-at t) climb.Post
+climb-returns t c = climb-one-output _ _ _ _ _ _ _ _ _ (c .before .before .before .before .before .before .before .before .before .pre .1) (c .before .before .before .before .before .before .if1 .taken) _ _ _ (c .before .before .before .before .before .row-entry .ensures) (c .before .before .before .before .row-entry2 .ensures) (c .before .before .climb-leaf .ensures)
+
+-- src/lib.rt:216:26
+climb-sub-tree-size : (t : ℕ) → climb-lts.Need-sub-tree-size (
+  row-entry-reads.Asked,
+  row-entry-reads.Learnt,
+  climb-leaf-reads.Asked,
+  climb-leaf-reads.Learnt,
+  tree-size-reads.Asked,
+  tree-size-reads.Learnt,
+  climb-below t,
+  climb.Post,
+  raise-reads.Asked,
+  raise-reads.Learnt,
+) (climb-at t) climb.Post
+climb-sub-tree-size t c = omega (arith, climb-halves _ _ _ _ _ _ _ _ _ (c .before .before .before .pre .1) (c .if1 .left) .is)
+
+-- src/lib.rt:216:9
+climb-tree-size-requires : (t : ℕ) → climb-lts.Need-tree-size-requires (
+  row-entry-reads.Asked,
+  row-entry-reads.Learnt,
+  climb-leaf-reads.Asked,
+  climb-leaf-reads.Learnt,
+  tree-size-reads.Asked,
+  tree-size-reads.Learnt,
+  climb-below t,
+  climb.Post,
+  raise-reads.Asked,
+  raise-reads.Learnt,
+) (climb-at t) climb.Post
+climb-tree-size-requires t c κs = climb-halves _ _ _ _ _ _ _ _ _ (c .before .before .before .pre .1) (c .if1 .left) .half
+
+-- src/lib.rt:217:21
+climb-mul-left : (t : ℕ) → climb-lts.Need-mul-left (
+  row-entry-reads.Asked,
+  row-entry-reads.Learnt,
+  climb-leaf-reads.Asked,
+  climb-leaf-reads.Learnt,
+  tree-size-reads.Asked,
+  tree-size-reads.Learnt,
+  climb-below t,
+  climb.Post,
+  raise-reads.Asked,
+  raise-reads.Learnt,
+) (climb-at t) climb.Post
+climb-mul-left t c = omega (arith, climb-sizes _ _ _ _ _ _ _ _ _ (c .before .before .before .before .pre .1) (c .before .if1 .left) _ (c .tree-size .ensures))
+
+-- src/lib.rt:217:16
+climb-add-left : (t : ℕ) → climb-lts.Need-add-left (
+  row-entry-reads.Asked,
+  row-entry-reads.Learnt,
+  climb-leaf-reads.Asked,
+  climb-leaf-reads.Learnt,
+  tree-size-reads.Asked,
+  tree-size-reads.Learnt,
+  climb-below t,
+  climb.Post,
+  raise-reads.Asked,
+  raise-reads.Learnt,
+) (climb-at t) climb.Post
+climb-add-left t c = omega (arith, climb-sizes _ _ _ _ _ _ _ _ _ (c .before .before .before .before .pre .1) (c .before .if1 .left) _ (c .tree-size .ensures))
+
+-- src/lib.rt:218:24
+climb-mul-right : (t : ℕ) → climb-lts.Need-mul-right (
+  row-entry-reads.Asked,
+  row-entry-reads.Learnt,
+  climb-leaf-reads.Asked,
+  climb-leaf-reads.Learnt,
+  tree-size-reads.Asked,
+  tree-size-reads.Learnt,
+  climb-below t,
+  climb.Post,
+  raise-reads.Asked,
+  raise-reads.Learnt,
+) (climb-at t) climb.Post
+climb-mul-right t c = omega (arith, climb-sizes _ _ _ _ _ _ _ _ _ (c .before .before .before .before .pre .1) (c .before .if1 .left) _ (c .tree-size .ensures))
+
+-- src/lib.rt:218:17
+climb-add-right : (t : ℕ) → climb-lts.Need-add-right (
+  row-entry-reads.Asked,
+  row-entry-reads.Learnt,
+  climb-leaf-reads.Asked,
+  climb-leaf-reads.Learnt,
+  tree-size-reads.Asked,
+  tree-size-reads.Learnt,
+  climb-below t,
+  climb.Post,
+  raise-reads.Asked,
+  raise-reads.Learnt,
+) (climb-at t) climb.Post
+climb-add-right t c = omega (arith, climb-sizes _ _ _ _ _ _ _ _ _ (c .before .before .before .before .pre .1) (c .before .if1 .left) _ (c .tree-size .ensures))
+
+-- src/lib.rt:219:15
+climb-add-end : (t : ℕ) → climb-lts.Need-add-end (
+  row-entry-reads.Asked,
+  row-entry-reads.Learnt,
+  climb-leaf-reads.Asked,
+  climb-leaf-reads.Learnt,
+  tree-size-reads.Asked,
+  tree-size-reads.Learnt,
+  climb-below t,
+  climb.Post,
+  raise-reads.Asked,
+  raise-reads.Learnt,
+) (climb-at t) climb.Post
+climb-add-end t c = omega (arith, climb-sizes _ _ _ _ _ _ _ _ _ (c .before .before .before .before .pre .1) (c .before .if1 .left) _ (c .tree-size .ensures))
+
+-- src/lib.rt:220:13
+climb-add-k : (t : ℕ) → climb-lts.Need-add-k (
+  row-entry-reads.Asked,
+  row-entry-reads.Learnt,
+  climb-leaf-reads.Asked,
+  climb-leaf-reads.Learnt,
+  tree-size-reads.Asked,
+  tree-size-reads.Learnt,
+  climb-below t,
+  climb.Post,
+  raise-reads.Asked,
+  raise-reads.Learnt,
+) (climb-at t) climb.Post
+climb-add-k t c = omega (arith, climb-sizes _ _ _ _ _ _ _ _ _ (c .before .before .before .before .pre .1) (c .before .if1 .left) _ (c .tree-size .ensures))
+
+-- src/lib.rt:221:39
+climb-sub-climb : (t : ℕ) → climb-lts.Need-sub-climb (
+  row-entry-reads.Asked,
+  row-entry-reads.Learnt,
+  climb-leaf-reads.Asked,
+  climb-leaf-reads.Learnt,
+  tree-size-reads.Asked,
+  tree-size-reads.Learnt,
+  climb-below t,
+  climb.Post,
+  raise-reads.Asked,
+  raise-reads.Learnt,
+) (climb-at t) climb.Post
+climb-sub-climb t c = omega (arith, climb-sizes _ _ _ _ _ _ _ _ _ (c .before .before .before .before .before .pre .1) (c .before .before .if1 .left) _ (c .before .tree-size .ensures))
+
+-- src/lib.rt:221:5
+climb-climb-requires : (t : ℕ) → climb-lts.Need-climb-requires (
+  row-entry-reads.Asked,
+  row-entry-reads.Learnt,
+  climb-leaf-reads.Asked,
+  climb-leaf-reads.Learnt,
+  tree-size-reads.Asked,
+  tree-size-reads.Learnt,
+  climb-below t,
+  climb.Post,
+  raise-reads.Asked,
+  raise-reads.Learnt,
+) (climb-at t) climb.Post
+climb-climb-requires t c κs = (omega (arith, climb-sizes _ _ _ _ _ _ _ _ _ (c .before .before .before .before .before .pre .1) (c .before .before .if1 .left) _ (c .before .tree-size .ensures)), climb-left _ _ _ _ _ _ _ _ _ (c .before .before .before .before .before .pre .1) (c .before .before .if1 .left) _ (c .before .tree-size .ensures))
+
+-- src/lib.rt:222:39
+climb-sub-climb-2 : (t : ℕ) → climb-lts.Need-sub-climb-2 (
+  row-entry-reads.Asked,
+  row-entry-reads.Learnt,
+  climb-leaf-reads.Asked,
+  climb-leaf-reads.Learnt,
+  tree-size-reads.Asked,
+  tree-size-reads.Learnt,
+  climb-below t,
+  climb.Post,
+  raise-reads.Asked,
+  raise-reads.Learnt,
+) (climb-at t) climb.Post
+climb-sub-climb-2 t c = omega (arith, climb-sizes _ _ _ _ _ _ _ _ _ (c .before .before .before .before .before .before .before .before .before .pre .1) (c .before .before .before .before .before .before .if1 .left) _ (c .before .before .before .before .before .tree-size .ensures))
+
+-- src/lib.rt:222:56
+climb-add-climb : (t : ℕ) → climb-lts.Need-add-climb (
+  row-entry-reads.Asked,
+  row-entry-reads.Learnt,
+  climb-leaf-reads.Asked,
+  climb-leaf-reads.Learnt,
+  tree-size-reads.Asked,
+  tree-size-reads.Learnt,
+  climb-below t,
+  climb.Post,
+  raise-reads.Asked,
+  raise-reads.Learnt,
+) (climb-at t) climb.Post
+climb-add-climb t c = omega (arith, climb-sizes _ _ _ _ _ _ _ _ _ (c .before .before .before .before .before .before .before .before .before .pre .1) (c .before .before .before .before .before .before .if1 .left) _ (c .before .before .before .before .before .tree-size .ensures))
+
+-- src/lib.rt:222:5
+climb-climb-requires-2 : (t : ℕ) → climb-lts.Need-climb-requires-2 (
+  row-entry-reads.Asked,
+  row-entry-reads.Learnt,
+  climb-leaf-reads.Asked,
+  climb-leaf-reads.Learnt,
+  tree-size-reads.Asked,
+  tree-size-reads.Learnt,
+  climb-below t,
+  climb.Post,
+  raise-reads.Asked,
+  raise-reads.Learnt,
+) (climb-at t) climb.Post
+climb-climb-requires-2 t c κs = (omega (arith, climb-sizes _ _ _ _ _ _ _ _ _ (c .before .before .before .before .before .before .before .before .before .pre .1) (c .before .before .before .before .before .before .if1 .left) _ (c .before .before .before .before .before .tree-size .ensures)), climb-right _ _ _ _ _ _ _ _ _ (c .before .before .before .before .before .before .before .before .before .pre .1) (c .before .before .before .before .before .before .if1 .left) _ (c .before .before .before .before .before .tree-size .ensures) _ (c .before .before .before .climb .ensures))
+
+-- src/lib.rt:223:21
+climb-add-raise : (t : ℕ) → climb-lts.Need-add-raise (
+  row-entry-reads.Asked,
+  row-entry-reads.Learnt,
+  climb-leaf-reads.Asked,
+  climb-leaf-reads.Learnt,
+  tree-size-reads.Asked,
+  tree-size-reads.Learnt,
+  climb-below t,
+  climb.Post,
+  raise-reads.Asked,
+  raise-reads.Learnt,
+) (climb-at t) climb.Post
+climb-add-raise t c = omega (arith, climb-sizes _ _ _ _ _ _ _ _ _ (c .before .before .before .before .before .before .before .before .before .before .before .before .before .pre .1) (c .before .before .before .before .before .before .before .before .before .before .if1 .left) _ (c .before .before .before .before .before .before .before .before .before .tree-size .ensures))
+
+-- src/lib.rt:223:69
+climb-mul-raise : (t : ℕ) → climb-lts.Need-mul-raise (
+  row-entry-reads.Asked,
+  row-entry-reads.Learnt,
+  climb-leaf-reads.Asked,
+  climb-leaf-reads.Learnt,
+  tree-size-reads.Asked,
+  tree-size-reads.Learnt,
+  climb-below t,
+  climb.Post,
+  raise-reads.Asked,
+  raise-reads.Learnt,
+) (climb-at t) climb.Post
+climb-mul-raise t c = omega (arith, climb-sizes _ _ _ _ _ _ _ _ _ (c .before .before .before .before .before .before .before .before .before .before .before .before .before .pre .1) (c .before .before .before .before .before .before .before .before .before .before .if1 .left) _ (c .before .before .before .before .before .before .before .before .before .tree-size .ensures))
+
+-- src/lib.rt:223:63
+climb-sub-raise : (t : ℕ) → climb-lts.Need-sub-raise (
+  row-entry-reads.Asked,
+  row-entry-reads.Learnt,
+  climb-leaf-reads.Asked,
+  climb-leaf-reads.Learnt,
+  tree-size-reads.Asked,
+  tree-size-reads.Learnt,
+  climb-below t,
+  climb.Post,
+  raise-reads.Asked,
+  raise-reads.Learnt,
+) (climb-at t) climb.Post
+climb-sub-raise t c = omega (arith, climb-sizes _ _ _ _ _ _ _ _ _ (c .before .before .before .before .before .before .before .before .before .before .before .before .before .pre .1) (c .before .before .before .before .before .before .before .before .before .before .if1 .left) _ (c .before .before .before .before .before .before .before .before .before .tree-size .ensures))
+
+-- src/lib.rt:223:5
+climb-raise-requires : (t : ℕ) → climb-lts.Need-raise-requires (
+  row-entry-reads.Asked,
+  row-entry-reads.Learnt,
+  climb-leaf-reads.Asked,
+  climb-leaf-reads.Learnt,
+  tree-size-reads.Asked,
+  tree-size-reads.Learnt,
+  climb-below t,
+  climb.Post,
+  raise-reads.Asked,
+  raise-reads.Learnt,
+) (climb-at t) climb.Post
+climb-raise-requires t c κs = climb-raise _ _ _ _ _ _ _ _ _ (c .before .before .before .before .before .before .before .before .before .before .before .before .before .pre .1) (c .before .before .before .before .before .before .before .before .before .before .if1 .left) _ (c .before .before .before .before .before .before .before .before .before .tree-size .ensures) _ (c .before .before .before .before .before .before .before .climb .ensures) _ (c .before .before .before .climb2 .ensures)
+
+-- src/lib.rt:195:1
+climb-same-length-2 : (t : ℕ) → climb-lts.Need-same-length-2 (
+  row-entry-reads.Asked,
+  row-entry-reads.Learnt,
+  climb-leaf-reads.Asked,
+  climb-leaf-reads.Learnt,
+  tree-size-reads.Asked,
+  tree-size-reads.Learnt,
+  climb-below t,
+  climb.Post,
+  raise-reads.Asked,
+  raise-reads.Learnt,
+) (climb-at t) climb.Post
+climb-same-length-2 t c = c .before .before .raise .kept .1 .0 ∙ c .before .before .before .before .before .before .climb2 .kept .1 .1 .1 .0 ∙ c .before .before .before .before .before .before .before .before .before .before .climb .kept .1 .1 .1 .0
+
+-- src/lib.rt:195:1
+climb-returns-2 : (t : ℕ) → climb-lts.Need-returns-2 (
+  row-entry-reads.Asked,
+  row-entry-reads.Learnt,
+  climb-leaf-reads.Asked,
+  climb-leaf-reads.Learnt,
+  tree-size-reads.Asked,
+  tree-size-reads.Learnt,
+  climb-below t,
+  climb.Post,
+  raise-reads.Asked,
+  raise-reads.Learnt,
+) (climb-at t) climb.Post
+climb-returns-2 t c = climb-output _ _ _ _ _ _ _ _ _ (c .before .before .before .before .before .before .before .before .before .before .before .before .before .before .before .before .pre .1) (c .before .before .before .before .before .before .before .before .before .before .before .before .before .if1 .left) _ (c .before .before .before .before .before .before .before .before .before .before .before .before .tree-size .ensures) _ (c .before .before .before .before .before .before .before .before .before .before .climb .ensures) _ (c .before .before .before .before .before .before .climb2 .ensures) _ (c .before .before .raise .ensures)
+
+pub +climb-spec : {M : Type 1} → statement M
++climb-spec = close μ-climb λ t. climb-lts.spec (
+  row-entry-reads.Asked,
+  row-entry-reads.Learnt,
+  climb-leaf-reads.Asked,
+  climb-leaf-reads.Learnt,
+  tree-size-reads.Asked,
+  tree-size-reads.Learnt,
+  climb-below t,
+  climb.Post,
+  raise-reads.Asked,
+  raise-reads.Learnt,
+)
+    (climb-at t)
+    climb.Post
+    (climb-row-entry-requires t)
+    (climb-add-row-entry t)
+    (climb-row-entry-requires-2 t)
+    (climb-climb-leaf-requires t)
+    (climb-same-length t)
+    (climb-returns t)
+    (climb-sub-tree-size t)
+    (climb-tree-size-requires t)
+    (climb-mul-left t)
+    (climb-add-left t)
+    (climb-mul-right t)
+    (climb-add-right t)
+    (climb-add-end t)
+    (climb-add-k t)
+    (climb-sub-climb t)
+    (climb-climb-requires t)
+    (climb-sub-climb-2 t)
+    (climb-add-climb t)
+    (climb-climb-requires-2 t)
+    (climb-add-raise t)
+    (climb-mul-raise t)
+    (climb-sub-raise t)
+    (climb-raise-requires t)
+    (climb-same-length-2 t)
+    (climb-returns-2 t)

@@ -1,0 +1,331 @@
+use native.Mathlib.Omega.{arith}
+use mathlib.Core.Path.{_∙_}
+use Rattle.subproduct.specs.Descend.{descend-one, descend-one-output, descend-halves, descend-sizes, descend-left, descend-lower, descend-right, descend-output}
+use Prim.Native.Nat.{ℕ, _<_}
+use borrow.Fn.Kinds.{In}
+use borrow.Fn.PlainCycle.{Measures, is, falls, and}
+use Rattle.subproduct.proofs.descend.Reads as descend
+use Rattle.subproduct.proofs.descend.Kinds as descend-kinds
+use Rattle.subproduct.proofs.+descend.Lts-descend as descend-lts
+use Rattle.subproduct.proofs.descend_leaf.Reads as descend-leaf-reads
+use Rattle.subproduct.proofs.lower.Reads as lower-reads
+use Rattle.subproduct.proofs.tree_size.Reads as tree-size-reads
+use Rattle.subproduct.proofs.+descend.{statement}
+use Rattle.subproduct.proofs.+descend.Tie.{close}
+
+abbrev μ-descend : Measures 1 descend-kinds.ps ℕ
+μ-descend κs a = a .1 .1 .1 .1 .1 .1 .1 .0
+
+abbrev descend-at : ℕ → In 1 descend-kinds.ps
+descend-at t = and 1 descend-kinds.ps (is 1 descend-kinds.ps μ-descend t) descend.Pre
+
+abbrev descend-below : ℕ → In 1 descend-kinds.ps
+descend-below t = and 1 descend-kinds.ps (falls 1 descend-kinds.ps _<_ μ-descend t) descend.Pre
+
+-- src/lib.rt:275:9
+descend-descend-leaf-requires : (t : ℕ) → descend-lts.Need-descend-leaf-requires (
+  descend-leaf-reads.Asked,
+  descend-leaf-reads.Learnt,
+  tree-size-reads.Asked,
+  tree-size-reads.Learnt,
+  descend-below t,
+  descend.Post,
+  lower-reads.Asked,
+  lower-reads.Learnt,
+) (descend-at t) descend.Post
+descend-descend-leaf-requires t c κs = descend-one _ _ _ _ _ _ _ _ (c .before .before .before .pre .1) (c .before .if1 .taken)
+
+-- src/lib.rt:276:9
+descend-same-length : (t : ℕ) → descend-lts.Need-same-length (
+  descend-leaf-reads.Asked,
+  descend-leaf-reads.Learnt,
+  tree-size-reads.Asked,
+  tree-size-reads.Learnt,
+  descend-below t,
+  descend.Post,
+  lower-reads.Asked,
+  lower-reads.Learnt,
+) (descend-at t) descend.Post
+descend-same-length t c = c .before .before .descend-leaf .kept .0
+
+-- src/lib.rt:276:9
+descend-returns : (t : ℕ) → descend-lts.Need-returns (
+  descend-leaf-reads.Asked,
+  descend-leaf-reads.Learnt,
+  tree-size-reads.Asked,
+  tree-size-reads.Learnt,
+  descend-below t,
+  descend.Post,
+  lower-reads.Asked,
+  lower-reads.Learnt,
+) (descend-at t) descend.Post
+descend-returns t c = descend-one-output _ _ _ _ _ _ _ _ (c .before .before .before .before .before .before .pre .1) (c .before .before .before .before .if1 .taken) _ (c .before .before .descend-leaf .ensures)
+
+-- src/lib.rt:279:26
+descend-sub-tree-size : (t : ℕ) → descend-lts.Need-sub-tree-size (
+  descend-leaf-reads.Asked,
+  descend-leaf-reads.Learnt,
+  tree-size-reads.Asked,
+  tree-size-reads.Learnt,
+  descend-below t,
+  descend.Post,
+  lower-reads.Asked,
+  lower-reads.Learnt,
+) (descend-at t) descend.Post
+descend-sub-tree-size t c = omega (arith, descend-halves _ _ _ _ _ _ _ _ (c .before .before .pre .1) (c .if1 .left) .is)
+
+-- src/lib.rt:279:9
+descend-tree-size-requires : (t : ℕ) → descend-lts.Need-tree-size-requires (
+  descend-leaf-reads.Asked,
+  descend-leaf-reads.Learnt,
+  tree-size-reads.Asked,
+  tree-size-reads.Learnt,
+  descend-below t,
+  descend.Post,
+  lower-reads.Asked,
+  lower-reads.Learnt,
+) (descend-at t) descend.Post
+descend-tree-size-requires t c κs = descend-halves _ _ _ _ _ _ _ _ (c .before .before .pre .1) (c .if1 .left) .half
+
+-- src/lib.rt:280:15
+descend-add-end : (t : ℕ) → descend-lts.Need-add-end (
+  descend-leaf-reads.Asked,
+  descend-leaf-reads.Learnt,
+  tree-size-reads.Asked,
+  tree-size-reads.Learnt,
+  descend-below t,
+  descend.Post,
+  lower-reads.Asked,
+  lower-reads.Learnt,
+) (descend-at t) descend.Post
+descend-add-end t c = omega (arith, descend-sizes _ _ _ _ _ _ _ _ (c .before .before .before .pre .1) (c .before .if1 .left) _ (c .tree-size .ensures))
+
+-- src/lib.rt:281:21
+descend-mul-pair : (t : ℕ) → descend-lts.Need-mul-pair (
+  descend-leaf-reads.Asked,
+  descend-leaf-reads.Learnt,
+  tree-size-reads.Asked,
+  tree-size-reads.Learnt,
+  descend-below t,
+  descend.Post,
+  lower-reads.Asked,
+  lower-reads.Learnt,
+) (descend-at t) descend.Post
+descend-mul-pair t c = omega (arith, descend-sizes _ _ _ _ _ _ _ _ (c .before .before .before .pre .1) (c .before .if1 .left) _ (c .tree-size .ensures))
+
+-- src/lib.rt:281:16
+descend-add-pair : (t : ℕ) → descend-lts.Need-add-pair (
+  descend-leaf-reads.Asked,
+  descend-leaf-reads.Learnt,
+  tree-size-reads.Asked,
+  tree-size-reads.Learnt,
+  descend-below t,
+  descend.Post,
+  lower-reads.Asked,
+  lower-reads.Learnt,
+) (descend-at t) descend.Post
+descend-add-pair t c = omega (arith, descend-sizes _ _ _ _ _ _ _ _ (c .before .before .before .pre .1) (c .before .if1 .left) _ (c .tree-size .ensures))
+
+-- src/lib.rt:282:13
+descend-add-k : (t : ℕ) → descend-lts.Need-add-k (
+  descend-leaf-reads.Asked,
+  descend-leaf-reads.Learnt,
+  tree-size-reads.Asked,
+  tree-size-reads.Learnt,
+  descend-below t,
+  descend.Post,
+  lower-reads.Asked,
+  lower-reads.Learnt,
+) (descend-at t) descend.Post
+descend-add-k t c = omega (arith, descend-sizes _ _ _ _ _ _ _ _ (c .before .before .before .pre .1) (c .before .if1 .left) _ (c .tree-size .ensures))
+
+-- src/lib.rt:283:44
+descend-sub-descend : (t : ℕ) → descend-lts.Need-sub-descend (
+  descend-leaf-reads.Asked,
+  descend-leaf-reads.Learnt,
+  tree-size-reads.Asked,
+  tree-size-reads.Learnt,
+  descend-below t,
+  descend.Post,
+  lower-reads.Asked,
+  lower-reads.Learnt,
+) (descend-at t) descend.Post
+descend-sub-descend t c = omega (arith, descend-sizes _ _ _ _ _ _ _ _ (c .before .before .before .before .pre .1) (c .before .before .if1 .left) _ (c .before .tree-size .ensures))
+
+-- src/lib.rt:283:5
+descend-descend-requires : (t : ℕ) → descend-lts.Need-descend-requires (
+  descend-leaf-reads.Asked,
+  descend-leaf-reads.Learnt,
+  tree-size-reads.Asked,
+  tree-size-reads.Learnt,
+  descend-below t,
+  descend.Post,
+  lower-reads.Asked,
+  lower-reads.Learnt,
+) (descend-at t) descend.Post
+descend-descend-requires t c κs = (omega (arith, descend-sizes _ _ _ _ _ _ _ _ (c .before .before .before .before .pre .1) (c .before .before .if1 .left) _ (c .before .tree-size .ensures)), descend-left _ _ _ _ _ _ _ _ (c .before .before .before .before .pre .1) (c .before .before .if1 .left) _ (c .before .tree-size .ensures))
+
+-- src/lib.rt:284:36
+descend-mul-lower : (t : ℕ) → descend-lts.Need-mul-lower (
+  descend-leaf-reads.Asked,
+  descend-leaf-reads.Learnt,
+  tree-size-reads.Asked,
+  tree-size-reads.Learnt,
+  descend-below t,
+  descend.Post,
+  lower-reads.Asked,
+  lower-reads.Learnt,
+) (descend-at t) descend.Post
+descend-mul-lower t c = omega (arith, descend-sizes _ _ _ _ _ _ _ _ (c .before .before .before .before .before .before .before .before .pre .1) (c .before .before .before .before .before .before .if1 .left) _ (c .before .before .before .before .before .tree-size .ensures))
+
+-- src/lib.rt:284:30
+descend-sub-lower : (t : ℕ) → descend-lts.Need-sub-lower (
+  descend-leaf-reads.Asked,
+  descend-leaf-reads.Learnt,
+  tree-size-reads.Asked,
+  tree-size-reads.Learnt,
+  descend-below t,
+  descend.Post,
+  lower-reads.Asked,
+  lower-reads.Learnt,
+) (descend-at t) descend.Post
+descend-sub-lower t c = omega (arith, descend-sizes _ _ _ _ _ _ _ _ (c .before .before .before .before .before .before .before .before .pre .1) (c .before .before .before .before .before .before .if1 .left) _ (c .before .before .before .before .before .tree-size .ensures))
+
+-- src/lib.rt:284:61
+descend-add-lower : (t : ℕ) → descend-lts.Need-add-lower (
+  descend-leaf-reads.Asked,
+  descend-leaf-reads.Learnt,
+  tree-size-reads.Asked,
+  tree-size-reads.Learnt,
+  descend-below t,
+  descend.Post,
+  lower-reads.Asked,
+  lower-reads.Learnt,
+) (descend-at t) descend.Post
+descend-add-lower t c = omega (arith, descend-sizes _ _ _ _ _ _ _ _ (c .before .before .before .before .before .before .before .before .pre .1) (c .before .before .before .before .before .before .if1 .left) _ (c .before .before .before .before .before .tree-size .ensures))
+
+-- src/lib.rt:284:5
+descend-lower-requires : (t : ℕ) → descend-lts.Need-lower-requires (
+  descend-leaf-reads.Asked,
+  descend-leaf-reads.Learnt,
+  tree-size-reads.Asked,
+  tree-size-reads.Learnt,
+  descend-below t,
+  descend.Post,
+  lower-reads.Asked,
+  lower-reads.Learnt,
+) (descend-at t) descend.Post
+descend-lower-requires t c κs = descend-lower _ _ _ _ _ _ _ _ (c .before .before .before .before .before .before .before .before .pre .1) (c .before .before .before .before .before .before .if1 .left) _ (c .before .before .before .before .before .tree-size .ensures) _ (c .before .before .before .descend .ensures)
+
+-- src/lib.rt:285:30
+descend-add-descend : (t : ℕ) → descend-lts.Need-add-descend (
+  descend-leaf-reads.Asked,
+  descend-leaf-reads.Learnt,
+  tree-size-reads.Asked,
+  tree-size-reads.Learnt,
+  descend-below t,
+  descend.Post,
+  lower-reads.Asked,
+  lower-reads.Learnt,
+) (descend-at t) descend.Post
+descend-add-descend t c = omega (arith, descend-sizes _ _ _ _ _ _ _ _ (c .before .before .before .before .before .before .before .before .before .before .before .before .pre .1) (c .before .before .before .before .before .before .before .before .before .before .if1 .left) _ (c .before .before .before .before .before .before .before .before .before .tree-size .ensures))
+
+-- src/lib.rt:285:44
+descend-add-descend-2 : (t : ℕ) → descend-lts.Need-add-descend-2 (
+  descend-leaf-reads.Asked,
+  descend-leaf-reads.Learnt,
+  tree-size-reads.Asked,
+  tree-size-reads.Learnt,
+  descend-below t,
+  descend.Post,
+  lower-reads.Asked,
+  lower-reads.Learnt,
+) (descend-at t) descend.Post
+descend-add-descend-2 t c = omega (arith, descend-sizes _ _ _ _ _ _ _ _ (c .before .before .before .before .before .before .before .before .before .before .before .before .pre .1) (c .before .before .before .before .before .before .before .before .before .before .if1 .left) _ (c .before .before .before .before .before .before .before .before .before .tree-size .ensures))
+
+-- src/lib.rt:285:56
+descend-sub-descend-2 : (t : ℕ) → descend-lts.Need-sub-descend-2 (
+  descend-leaf-reads.Asked,
+  descend-leaf-reads.Learnt,
+  tree-size-reads.Asked,
+  tree-size-reads.Learnt,
+  descend-below t,
+  descend.Post,
+  lower-reads.Asked,
+  lower-reads.Learnt,
+) (descend-at t) descend.Post
+descend-sub-descend-2 t c = omega (arith, descend-sizes _ _ _ _ _ _ _ _ (c .before .before .before .before .before .before .before .before .before .before .before .before .pre .1) (c .before .before .before .before .before .before .before .before .before .before .if1 .left) _ (c .before .before .before .before .before .before .before .before .before .tree-size .ensures))
+
+-- src/lib.rt:285:5
+descend-descend-requires-2 : (t : ℕ) → descend-lts.Need-descend-requires-2 (
+  descend-leaf-reads.Asked,
+  descend-leaf-reads.Learnt,
+  tree-size-reads.Asked,
+  tree-size-reads.Learnt,
+  descend-below t,
+  descend.Post,
+  lower-reads.Asked,
+  lower-reads.Learnt,
+) (descend-at t) descend.Post
+descend-descend-requires-2 t c κs = (omega (arith, descend-sizes _ _ _ _ _ _ _ _ (c .before .before .before .before .before .before .before .before .before .before .before .before .pre .1) (c .before .before .before .before .before .before .before .before .before .before .if1 .left) _ (c .before .before .before .before .before .before .before .before .before .tree-size .ensures)), descend-right _ _ _ _ _ _ _ _ (c .before .before .before .before .before .before .before .before .before .before .before .before .pre .1) (c .before .before .before .before .before .before .before .before .before .before .if1 .left) _ (c .before .before .before .before .before .before .before .before .before .tree-size .ensures) _ (c .before .before .before .before .before .before .before .descend .ensures) _ (c .before .before .before .lower .ensures))
+
+-- src/lib.rt:261:1
+descend-same-length-2 : (t : ℕ) → descend-lts.Need-same-length-2 (
+  descend-leaf-reads.Asked,
+  descend-leaf-reads.Learnt,
+  tree-size-reads.Asked,
+  tree-size-reads.Learnt,
+  descend-below t,
+  descend.Post,
+  lower-reads.Asked,
+  lower-reads.Learnt,
+) (descend-at t) descend.Post
+descend-same-length-2 t c = c .before .before .descend2 .kept .1 .0 ∙ c .before .before .before .before .before .before .lower .kept .1 .0 ∙ c .before .before .before .before .before .before .before .before .before .before .descend .kept .1 .0
+
+-- src/lib.rt:261:1
+descend-returns-2 : (t : ℕ) → descend-lts.Need-returns-2 (
+  descend-leaf-reads.Asked,
+  descend-leaf-reads.Learnt,
+  tree-size-reads.Asked,
+  tree-size-reads.Learnt,
+  descend-below t,
+  descend.Post,
+  lower-reads.Asked,
+  lower-reads.Learnt,
+) (descend-at t) descend.Post
+descend-returns-2 t c = descend-output _ _ _ _ _ _ _ _ (c .before .before .before .before .before .before .before .before .before .before .before .before .before .before .before .pre .1) (c .before .before .before .before .before .before .before .before .before .before .before .before .before .if1 .left) _ (c .before .before .before .before .before .before .before .before .before .before .before .before .tree-size .ensures) _ (c .before .before .before .before .before .before .before .before .before .before .descend .ensures) _ (c .before .before .before .before .before .before .lower .ensures) _ (c .before .before .descend2 .ensures)
+
+pub +descend-spec : {M : Type 1} → statement M
++descend-spec = close μ-descend λ t. descend-lts.spec (
+  descend-leaf-reads.Asked,
+  descend-leaf-reads.Learnt,
+  tree-size-reads.Asked,
+  tree-size-reads.Learnt,
+  descend-below t,
+  descend.Post,
+  lower-reads.Asked,
+  lower-reads.Learnt,
+)
+    (descend-at t)
+    descend.Post
+    (descend-descend-leaf-requires t)
+    (descend-same-length t)
+    (descend-returns t)
+    (descend-sub-tree-size t)
+    (descend-tree-size-requires t)
+    (descend-add-end t)
+    (descend-mul-pair t)
+    (descend-add-pair t)
+    (descend-add-k t)
+    (descend-sub-descend t)
+    (descend-descend-requires t)
+    (descend-mul-lower t)
+    (descend-sub-lower t)
+    (descend-add-lower t)
+    (descend-lower-requires t)
+    (descend-add-descend t)
+    (descend-add-descend-2 t)
+    (descend-sub-descend-2 t)
+    (descend-descend-requires-2 t)
+    (descend-same-length-2 t)
+    (descend-returns-2 t)

@@ -1,0 +1,5 @@
+-- What the contracts of this crate cite, and the mathematics of its recursions. Assumes nothing.
+pub mod Layout
+pub mod Build
+pub mod Climb
+pub mod Descend

@@ -1,0 +1,308 @@
+// The subproduct tree in the working list, and the ways up and down a stored tree. Vectors and scratch lie behind the tree
+// (specs/Layout.antt). All recursions go by the number of pairs of rows, which is halved at each level.
+ghost use mathlib.Core.Path.{_≡_};
+ghost use mathlib.Core.List.{[], _∷_};
+ghost use Prim.Native.Nat.{ℕ, zero, _+_, _*_, _-_, _%_, _≤_, _<_};
+ghost use lib.ListN.{length, getD, take};
+ghost use Rattle.theory.specs.Regions.{part, written};
+ghost use Rattle.theory.specs.Tree.{padded, leaf, join, node, raise, lower};
+ghost use Rattle.subproduct.specs.Layout.{Level, treeSize, treeList, matrixList, pairList, matrixAt, pairAt};
+ghost use Rattle.subproduct.specs.Build.{familyOf, rowOf, Residues, LeafInput, RaisePlaces, JoinPlaces, RowsInput, BuildInput};
+ghost use Rattle.subproduct.specs.Climb.{ClimbInput, ClimbOutput};
+ghost use Rattle.subproduct.specs.Descend.{LeafPlaces, LowerPlaces, DescendInput, DescendOutput, listsAt};
+use products::add_products;
+use products::transposed_sum;
+
+// The numbers that the stored tree over pairs pairs of rows takes.
+fn tree_size(level: usize, pairs: usize) -> usize
+    requires { ⌜ Level level pairs ⌝ }
+    ensures { λ r. ⌜ r ≡ treeSize level ⌝ }
+{
+    8 * pairs * (level + 2) - 4
+}
+
+// Entry i of a column of the family, and 0 from row r on: the padding rows.
+fn row_entry(a: &[u32], r: usize, i: usize) -> u32
+    requires { ⌜ r ≤ length (now a) ⌝ }
+    ensures { λ v. ⌜ v ≡ getD (take r (now (a .entry))) i 0 ⌝ }
+{
+    if i < r { a[i] } else { 0 }
+}
+
+// s + x y + u v modulo m.
+fn combine(m: u32, s: u32, x: u32, y: u32, u: u32, v: u32) -> u32
+    requires { ⌜ Residues m s x y u v ⌝ }
+    ensures { λ r. ⌜ r ≡ (s + x * y + u * v) % m ⌝ }
+{
+    (((s as u64) + (x as u64) * (y as u64) + (u as u64) * (v as u64)) % (m as u64)) as u32
+}
+
+fn store_three(w: &mut [u32], at: usize, x: u32, y: u32, z: u32)
+    requires { ⌜ at + 3 ≤ length (now w) ⌝ }
+    ensures { λ _. ⌜ now (w .exit) ≡ written (now (w .entry)) at (x ∷ y ∷ z ∷ []) ⌝ }
+{
+    let second = at + 1;
+    let third = at + 2;
+    w[at] = x;
+    w[second] = y;
+    w[third] = z;
+}
+
+// Writes the leaf of the rows p and q at place at.
+fn write_leaf(
+    m: u32,
+    w: &mut [u32],
+    at: usize,
+    pa: u32,
+    pb: u32,
+    pc: u32,
+    qa: u32,
+    qb: u32,
+    qc: u32,
+)
+    requires { ⌜ LeafInput m (now w) at pa pb pc qa qb qc ⌝ }
+    ensures { λ _. ⌜ now (w .exit) ≡ written (now (w .entry)) at (matrixList (leaf m (rowOf pa pb pc) (rowOf qa qb qc))) ⌝ }
+{
+    let b0 = combine(m, 0, qb, pc, 0, 0);
+    let b1 = combine(m, 0, qa, pc, 0, 0);
+    let c0 = combine(m, qc, qb, pb, 0, 0);
+    let c1 = combine(m, 0, qb, pa, qa, pb);
+    let c2 = combine(m, 0, qa, pa, 0, 0);
+    store_three(w, at, pc, 0, 0);
+    store_three(w, at + 3, pb, pa, 0);
+    store_three(w, at + 6, b0, b1, 0);
+    store_three(w, at + 9, c0, c1, c2);
+}
+
+// Writes the pair t + row matrix, n coefficients of each entry, from place target on: t is a pair of lists of tn numbers, row one of
+// lists of pn, matrix has lists of qn.
+fn raise(
+    m: u32,
+    w: &mut [u32],
+    target: usize,
+    n: usize,
+    t: usize,
+    tn: usize,
+    row: usize,
+    pn: usize,
+    matrix: usize,
+    qn: usize,
+)
+    requires { ⌜ RaisePlaces m (now w) target n t tn row pn matrix qn ⌝ }
+    ensures { λ _. ⌜ now (w .exit) ≡ written (now (w .entry)) target (pairList (raise m n (pairAt (now (w .entry)) t tn) (pairAt (now (w .entry)) row pn) (matrixAt (now (w .entry)) matrix qn))) ⌝ }
+{
+    let second = row + pn;
+    let lower = matrix + (qn + qn);
+    add_products(m, w, target, n, t, tn, row, second, pn, matrix, lower, qn);
+    add_products(
+        m,
+        w,
+        target + n,
+        n,
+        t + tn,
+        tn,
+        row,
+        second,
+        pn,
+        matrix + qn,
+        lower + qn,
+        qn,
+    );
+}
+
+// Writes the right half's matrix times the left half's, n coefficients of each entry, from place target on. The halves' lists have k
+// numbers.
+fn join(m: u32, w: &mut [u32], target: usize, n: usize, right: usize, left: usize, k: usize)
+    requires { ⌜ JoinPlaces m (now w) target n right left k ⌝ }
+    ensures { λ _. ⌜ now (w .exit) ≡ written (now (w .entry)) target (matrixList (join m n (matrixAt (now (w .entry)) right k) (matrixAt (now (w .entry)) left k))) ⌝ }
+{
+    raise(m, w, target, n, left, 0, right, k, left, k);
+    raise(
+        m,
+        w,
+        target + (n + n),
+        n,
+        left,
+        0,
+        right + (k + k),
+        k,
+        left,
+        k,
+    );
+}
+
+// Writes the leaf over the rows t + 2 and t + 3 at place at.
+fn build_leaf(m: u32, a: &[u32], b: &[u32], c: &[u32], r: usize, w: &mut [u32], at: usize, t: usize)
+    requires { ⌜ BuildInput m (now a) (now b) (now c) r (now w) at 0 1 t ⌝ }
+    ensures { λ _. ⌜ now (w .exit) ≡ written (now (w .entry)) at (treeList (padded (familyOf m r (now (a .entry)) (now (b .entry)) (now (c .entry)))) 0 t) ⌝ }
+{
+    let p = t + 1;
+    let q = t + 2;
+    let pa = row_entry(a, r, p);
+    let pb = row_entry(b, r, p);
+    let pc = row_entry(c, r, p);
+    let qa = row_entry(a, r, q);
+    let qb = row_entry(b, r, q);
+    let qc = row_entry(c, r, q);
+    write_leaf(m, w, at, pa, pb, pc, qa, qb, qc);
+}
+
+// Stores the tree over 2 pairs rows that follow row t + 1, from place at on.
+pub fn build(
+    m: u32,
+    a: &[u32],
+    b: &[u32],
+    c: &[u32],
+    r: usize,
+    w: &mut [u32],
+    at: usize,
+    level: usize,
+    pairs: usize,
+    t: usize,
+)
+    requires { ⌜ BuildInput m (now a) (now b) (now c) r (now w) at level pairs t ⌝ }
+    ensures { λ _. ⌜ now (w .exit) ≡ written (now (w .entry)) at (treeList (padded (familyOf m r (now (a .entry)) (now (b .entry)) (now (c .entry)))) level t) ⌝ }
+{
+    if pairs == 1 {
+        build_leaf(m, a, b, c, r, w, at, t);
+        return;
+    }
+    let half = pairs / 2;
+    let size = tree_size(level - 1, half);
+    let right = at + size;
+    let end = right + size;
+    let k = pairs + 1;
+    let lists = 4 * k;
+    build(m, a, b, c, r, w, at, level - 1, half, t);
+    build(m, a, b, c, r, w, right, level - 1, half, t + pairs);
+    join(m, w, end, pairs + k, end - lists, right - lists, k);
+}
+
+// Writes the pair over two entries x and y of the curve: each is a polynomial of two coefficients.
+fn climb_leaf(w: &mut [u32], at: usize, x: u32, y: u32)
+    requires { ⌜ at + 4 ≤ length (now w) ⌝ }
+    ensures { λ _. ⌜ now (w .exit) ≡ written (now (w .entry)) at (x ∷ 0 ∷ y ∷ 0 ∷ []) ⌝ }
+{
+    let second = at + 1;
+    let third = at + 2;
+    let fourth = at + 3;
+    w[at] = x;
+    w[second] = 0;
+    w[third] = y;
+    w[fourth] = 0;
+}
+
+// Writes the pair over the 2 pairs entries of the curve from t on, from place at on, by the tree that is stored from place tree on.
+// Behind the pair lie the pairs of both halves, and their scratch.
+pub fn climb(
+    m: u32,
+    curve: &[u32],
+    n: usize,
+    w: &mut [u32],
+    tree: usize,
+    at: usize,
+    level: usize,
+    pairs: usize,
+    t: usize,
+)
+    requires { ⌜ ClimbInput m (now curve) n (now w) tree at level pairs t ⌝ }
+    ensures { λ _. ⌜ ClimbOutput m (take n (now (curve .entry))) (now (w .entry)) tree at level t (now (w .exit)) ⌝ }
+{
+    if pairs == 1 {
+        let x = row_entry(curve, n, t);
+        let y = row_entry(curve, n, t + 1);
+        climb_leaf(w, at, x, y);
+        return;
+    }
+    let half = pairs / 2;
+    let size = tree_size(level - 1, half);
+    let left = at + 4 * pairs;
+    let right = left + 2 * pairs;
+    let end = tree + size;
+    let k = pairs + 1;
+    climb(m, curve, n, w, tree, left, level - 1, half, t);
+    climb(m, curve, n, w, end, right, level - 1, half, t + pairs);
+    raise(
+        m,
+        w,
+        at,
+        pairs + pairs,
+        left,
+        pairs,
+        right,
+        pairs,
+        end - 4 * k,
+        k,
+    );
+}
+
+// Writes the pair of the right half: n terms of the transposed products of the lists at first and second with a matrix. Those lists have
+// vn numbers, the matrix has lists of qn.
+fn lower(
+    m: u32,
+    w: &mut [u32],
+    target: usize,
+    n: usize,
+    matrix: usize,
+    qn: usize,
+    first: usize,
+    second: usize,
+    vn: usize,
+)
+    requires { ⌜ LowerPlaces m (now w) target n matrix qn first second vn ⌝ }
+    ensures { λ _. ⌜ now (w .exit) ≡ written (now (w .entry)) target (pairList (lower m n (matrixAt (now (w .entry)) matrix qn) (listsAt (now (w .entry)) first second vn))) ⌝ }
+{
+    let row = matrix + (qn + qn);
+    transposed_sum(m, w, target, n, matrix, matrix + qn, qn, first, second, vn);
+    transposed_sum(m, w, target + n, n, row, row + qn, qn, first, second, vn);
+}
+
+fn descend_leaf(w: &mut [u32], first: usize, second: usize, at: usize)
+    requires { ⌜ LeafPlaces (length (now w)) first second at ⌝ }
+    ensures { λ _. ⌜ now (w .exit) ≡ written (now (w .entry)) at (getD (now (w .entry)) first 0 ∷ getD (now (w .entry)) second 0 ∷ []) ⌝ }
+{
+    let x = w[first];
+    let y = w[second];
+    let next = at + 1;
+    w[at] = x;
+    w[next] = y;
+}
+
+// Writes the 2 pairs entries of the answer from place at on, from the lists at first and second, by the tree that is stored from place
+// tree on. The left half's entries come first, and then the right half's, whose pair lies behind its scratch.
+pub fn descend(
+    m: u32,
+    w: &mut [u32],
+    tree: usize,
+    first: usize,
+    second: usize,
+    at: usize,
+    level: usize,
+    pairs: usize,
+)
+    requires { ⌜ DescendInput m (now w) tree first second at level pairs ⌝ }
+    ensures { λ _. ⌜ DescendOutput m (now (w .entry)) tree first second at level (now (w .exit)) ⌝ }
+{
+    if pairs == 1 {
+        descend_leaf(w, first, second, at);
+        return;
+    }
+    let half = pairs / 2;
+    let size = tree_size(level - 1, half);
+    let end = tree + size;
+    let pair = at + 4 * pairs;
+    let k = pairs + 1;
+    descend(m, w, tree, first, second, at, level - 1, half);
+    lower(
+        m,
+        w,
+        pair,
+        pairs,
+        end - 4 * k,
+        k,
+        first,
+        second,
+        pairs + pairs,
+    );
+    descend(m, w, end, pair, pair + pairs, at + pairs, level - 1, half);
+}

@@ -1,0 +1,3 @@
+-- What the contracts of this crate cite, and the mathematics of its loops and steps. Assumes nothing.
+pub mod Root
+pub mod Core

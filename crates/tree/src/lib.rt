@@ -1,0 +1,194 @@
+// Expand and Adjoint by the subproduct tree, on input that is already checked. Both work in the first 16,384 numbers of the working list and
+// leave zeros there: the tree from place 0 on, the vectors and their scratch from place 9,212 on.
+ghost use mathlib.Core.Path.{_≡_};
+ghost use mathlib.Core.List.{[], _∷_, _++_};
+ghost use Prim.Native.Nat.{ℕ, _+_, _*_, _-_, _%_, _≤_, _<_};
+ghost use lib.ListN.{length, getD, take, drop};
+ghost use Rattle.definitions.specs.Answers.{cleared};
+ghost use Rattle.theory.specs.Level.{span, levelFor};
+ghost use Rattle.theory.specs.Regions.{part, written};
+ghost use Rattle.theory.specs.Products.{productAt, plusProduct};
+ghost use Rattle.theory.specs.Tree.{treeExpand, treeAdjoint};
+ghost use Rattle.subproduct.specs.Layout.{pairList};
+ghost use Rattle.subproduct.specs.Build.{familyOf};
+ghost use Rattle.tree.specs.Root.{RootInput, CoefficientInput, PairInput, rootLists};
+ghost use Rattle.tree.specs.Core.{Input, TreeOutput, Output};
+use products::product_at;
+use products::transposed;
+use subproduct::build;
+use subproduct::climb;
+use subproduct::descend;
+
+// The level of the least tree that covers n rows.
+fn level_for(n: usize) -> usize
+    requires { ⌜ (2 ≤ n) × (n ≤ 256) ⌝ }
+    ensures { λ r. ⌜ r ≡ levelFor n ⌝ }
+{
+    let top = (n - 1) as u32;
+    (31 - u32::leading_zeros(top)) as usize
+}
+
+// The pairs of rows that a tree of this level covers.
+fn pairs_for(level: usize) -> usize
+    requires { ⌜ level ≤ 7 ⌝ }
+    ensures { λ r. ⌜ r + r ≡ span level ⌝ }
+{
+    1 << level
+}
+
+// The coefficient of x^k in v_0 + v_1 (a x + b), where v_0 and v_1 are the lists of span numbers from place at on.
+fn root_coefficient(m: u32, w: &[u32], at: usize, span: usize, first: &[u32], k: usize) -> u32
+    requires { ⌜ CoefficientInput m (now w) at span (now first) k ⌝ }
+    ensures { λ v. ⌜ v ≡ (getD (part (now (w .entry)) at span) k 0 + productAt (part (now (w .entry)) (at + span) span) (now (first .entry)) k) % m ⌝ }
+{
+    let place = at + k;
+    let second = at + span;
+    let sum = product_at(m, w[place] as u64, &w[second..second + span], first, k);
+    (sum % (m as u64)) as u32
+}
+
+// Writes the n coefficients of v_0 F_0 + v_1 F_1, from the pair of the root.
+fn expand_root(
+    m: u32,
+    w: &[u32],
+    at: usize,
+    span: usize,
+    first: &[u32],
+    n: usize,
+    output: &mut [u32],
+)
+    requires { ⌜ RootInput m (now w) at span (now first) n (now output) ⌝ }
+    ensures { λ _. ⌜ now (output .exit) ≡ plusProduct m n (part (now (w .entry)) at span) (part (now (w .entry)) (at + span) span) (now (first .entry)) ++ drop n (now (output .entry)) ⌝ }
+{
+    let mut k: usize = 0;
+    while k < n {
+        output[k] = root_coefficient(m, w, at, span, first, k);
+        k += 1;
+    }
+}
+
+// Writes the pair of the root: the transposed products of the curve with F_0 and F_1.
+fn root_pair(m: u32, first: &[u32], curve: &[u32], n: usize, w: &mut [u32], at: usize, span: usize)
+    requires { ⌜ PairInput m (now first) (now curve) n (now w) at span ⌝ }
+    ensures { λ _. ⌜ now (w .exit) ≡ written (now (w .entry)) at (pairList (rootLists m span (now (first .entry)) (take n (now (curve .entry))))) ⌝ }
+{
+    let one = [1u32];
+    transposed(m, &one, &curve[..n], w, at, span);
+    transposed(m, first, &curve[..n], w, at + span, span);
+}
+
+// Copies the n numbers of w from place at on.
+fn copy_out(w: &[u32], at: usize, n: usize, output: &mut [u32])
+    requires { ⌜ (at + n ≤ length (now w)) × (n ≤ length (now output)) ⌝ }
+    ensures { λ _. ⌜ now (output .exit) ≡ part (now (w .entry)) at n ++ drop n (now (output .entry)) ⌝ }
+{
+    let mut i: usize = 0;
+    while i < n {
+        let place = at + i;
+        output[i] = w[place];
+        i += 1;
+    }
+}
+
+// Leaves zeros in the first 16,384 numbers.
+fn clear(work: &mut [u32])
+    requires { ⌜ 16384 ≤ length (now work) ⌝ }
+    ensures { λ _. ⌜ now (work .exit) ≡ cleared (now (work .entry)) ⌝ }
+{
+    let mut i: usize = 0;
+    while i < 16384 {
+        work[i] = 0;
+        i += 1;
+    }
+}
+
+fn expand_tree(
+    m: u32,
+    a: &[u32],
+    b: &[u32],
+    c: &[u32],
+    curve: &[u32],
+    n: usize,
+    output: &mut [u32],
+    work: &mut [u32],
+)
+    requires { ⌜ Input m (now a) (now b) (now c) (now curve) n (now output) (now work) × (2 ≤ n) ⌝ }
+    ensures { λ _. ⌜ TreeOutput (treeExpand (familyOf m (n - 1) (now (a .entry)) (now (b .entry)) (now (c .entry))) (take n (now (curve .entry)))) n (now (output .entry)) (now (output .exit)) (now (work .entry)) (now (work .exit)) ⌝ }
+{
+    let level = level_for(n);
+    let pairs = pairs_for(level);
+    let first = [b[0], a[0]];
+    build(m, a, b, c, n - 1, work, 0, level, pairs, 0);
+    climb(m, curve, n, work, 0, 9212, level, pairs, 0);
+    expand_root(m, work, 9212, pairs + pairs, &first, n, output);
+}
+
+fn adjoint_tree(
+    m: u32,
+    a: &[u32],
+    b: &[u32],
+    c: &[u32],
+    curve: &[u32],
+    n: usize,
+    output: &mut [u32],
+    work: &mut [u32],
+)
+    requires { ⌜ Input m (now a) (now b) (now c) (now curve) n (now output) (now work) × (2 ≤ n) ⌝ }
+    ensures { λ _. ⌜ TreeOutput (treeAdjoint (familyOf m (n - 1) (now (a .entry)) (now (b .entry)) (now (c .entry))) (take n (now (curve .entry)))) n (now (output .entry)) (now (output .exit)) (now (work .entry)) (now (work .exit)) ⌝ }
+{
+    let level = level_for(n);
+    let pairs = pairs_for(level);
+    let first = [b[0], a[0]];
+    let second = 9212 + (pairs + pairs);
+    let at = second + (pairs + pairs);
+    build(m, a, b, c, n - 1, work, 0, level, pairs, 0);
+    root_pair(m, &first, curve, n, work, 9212, pairs + pairs);
+    descend(m, work, 0, 9212, second, at, level, pairs);
+    copy_out(work, at, n, output);
+}
+
+// Expand: the n first coefficients of the sum of the u_j F_j, from n - 1 rows and n entries of a curve. Up to n = 256 the tree fits.
+pub fn expand(
+    m: u32,
+    a: &[u32],
+    b: &[u32],
+    c: &[u32],
+    curve: &[u32],
+    n: usize,
+    output: &mut [u32],
+    work: &mut [u32],
+)
+    requires { ⌜ Input m (now a) (now b) (now c) (now curve) n (now output) (now work) ⌝ }
+    ensures { λ _. ⌜ Output (treeExpand (familyOf m (n - 1) (now (a .entry)) (now (b .entry)) (now (c .entry))) (take n (now (curve .entry)))) n (now (output .entry)) (now (output .exit)) (now (work .entry)) (now (work .exit)) ⌝ }
+{
+    if n == 1 {
+        output[0] = curve[0] % m;
+        clear(work);
+        return;
+    }
+    expand_tree(m, a, b, c, curve, n, output, work);
+    clear(work);
+}
+
+// Adjoint: entry j is the sum over i of u_i times the coefficient of x^i in F_j, for j below n.
+pub fn adjoint(
+    m: u32,
+    a: &[u32],
+    b: &[u32],
+    c: &[u32],
+    curve: &[u32],
+    n: usize,
+    output: &mut [u32],
+    work: &mut [u32],
+)
+    requires { ⌜ Input m (now a) (now b) (now c) (now curve) n (now output) (now work) ⌝ }
+    ensures { λ _. ⌜ Output (treeAdjoint (familyOf m (n - 1) (now (a .entry)) (now (b .entry)) (now (c .entry))) (take n (now (curve .entry)))) n (now (output .entry)) (now (output .exit)) (now (work .entry)) (now (work .exit)) ⌝ }
+{
+    if n == 1 {
+        output[0] = curve[0] % m;
+        clear(work);
+        return;
+    }
+    adjoint_tree(m, a, b, c, curve, n, output, work);
+    clear(work);
+}
