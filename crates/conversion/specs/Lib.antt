@@ -3,3 +3,4 @@ pub mod Inverting
 pub mod PlainCall
 pub mod PlainCore
 pub mod InversesCore
+pub mod TreeCore

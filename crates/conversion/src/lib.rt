@@ -4,12 +4,12 @@ ghost use mathlib.Core.Path.{_≡_};
 ghost use mathlib.Core.List.{List, [], _∷_};
 ghost use Prim.Native.Nat.{ℕ};
 ghost use lib.ListN.{length};
-ghost use Rattle.definitions.specs.Answers.{valued, Converted};
+ghost use Rattle.definitions.specs.Answers.{valued, Converted, ConvertedIn};
 ghost use Rattle.definitions.specs.Conversion.{expand, adjoint, decompose};
 ghost use Rattle.definitions.specs.Orthogonality.{norms};
 ghost use Rattle.definitions.specs.Family.{family};
 ghost use Rattle.definitions.specs.Number.{inverse};
-ghost use Rattle.definitions.specs.Refusals.{verdict, plainTests, normsTests, inverseTests};
+ghost use Rattle.definitions.specs.Refusals.{verdict, plainTests, treeTests, normsTests, inverseTests};
 use definitions::Answer;
 use definitions::Valued;
 use residue::Inversion;
@@ -106,5 +106,47 @@ pub fn norms(m: u32, a: &[u32], b: &[u32], c: &[u32], output: &mut [u32]) -> Ans
     let mut inverses = polynomial::zeros();
     plain::inverses(m, a, a.len(), &mut inverses);
     plain::norms(m, &inverses, c, 1, 1, a.len() + 1, output);
+    Answer::Finished
+}
+
+// Expand by the subproduct tree (Figure 1 of the report): the same list as plain_expand's. After an accepted call the first 16,384
+// numbers of the working list are zero. Refused as plain_expand is, and with 8: the working list is too short.
+pub fn tree_expand(
+    m: u32,
+    a: &[u32],
+    b: &[u32],
+    c: &[u32],
+    curve: &[u32],
+    output: &mut [u32],
+    work: &mut [u32],
+) -> Answer
+    ensures { λ r. ⌜ ConvertedIn (treeTests (family m (now (a .entry)) (now (b .entry)) (now (c .entry))) (now (curve .entry)) (length (now (output .entry))) (length (now (work .entry)))) (expand (family m (now (a .entry)) (now (b .entry)) (now (c .entry))) (now (curve .entry))) r (now (output .entry)) (now (output .exit)) (now (work .entry)) (now (work .exit)) ⌝ }
+{
+    let tested = verdicts::tree(m, a, b, c, curve, output.len(), work.len());
+    let Answer::Finished = tested else {
+        return tested;
+    };
+    tree::expand(m, a, b, c, curve, a.len() + 1, output, work);
+    Answer::Finished
+}
+
+// Adjoint by the subproduct tree (Figure 2 of the report): the same list as plain_adjoint's. The working list and the refusals are as
+// for tree_expand.
+pub fn tree_adjoint(
+    m: u32,
+    a: &[u32],
+    b: &[u32],
+    c: &[u32],
+    curve: &[u32],
+    output: &mut [u32],
+    work: &mut [u32],
+) -> Answer
+    ensures { λ r. ⌜ ConvertedIn (treeTests (family m (now (a .entry)) (now (b .entry)) (now (c .entry))) (now (curve .entry)) (length (now (output .entry))) (length (now (work .entry)))) (adjoint (family m (now (a .entry)) (now (b .entry)) (now (c .entry))) (now (curve .entry))) r (now (output .entry)) (now (output .exit)) (now (work .entry)) (now (work .exit)) ⌝ }
+{
+    let tested = verdicts::tree(m, a, b, c, curve, output.len(), work.len());
+    let Answer::Finished = tested else {
+        return tested;
+    };
+    tree::adjoint(m, a, b, c, curve, a.len() + 1, output, work);
     Answer::Finished
 }

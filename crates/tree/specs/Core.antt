@@ -168,17 +168,17 @@ module _ (m : ℕ) (a b c curve : List ℕ) (n : ℕ) (output work : List ℕ) (
           core-expand output′ e =
               let long : PairLength (pairs + pairs) (climbed m w₁ 0 (take n curve) level 0) = rw covers (climbed-length m w₁ 0 (take n curve) level 0) in
               let pair : pairAt w₂ 9212 (pairs + pairs) ≡ up (padded (familyOf m (n - 1) a b c)) (take n curve) level 0
-                  = pair-reads w₂ 9212 (pairs + pairs) (climbed m w₁ 0 (take n curve) level 0) long pair-holds ∙ climbed-is in
+              = pair-reads w₂ 9212 (pairs + pairs) (climbed m w₁ 0 (take n curve) level 0) long pair-holds ∙ climbed-is in
               let deeper : levelFor (size (familyOf m (n - 1) a b c)) ≡ level = ap levelFor size-is ∙ sym deep in
               let some : 0 < rows (familyOf m (n - 1) a b c) = omega (arith, size-is) in
               let model : plusProduct m n (part w₂ 9212 (pairs + pairs)) (part w₂ (9212 + (pairs + pairs)) (pairs + pairs)) (getD b 0 0 ∷ getD a 0 0 ∷ []) ≡ treeExpand (familyOf m (n - 1) a b c) (take n curve)
-                  = ap₂ (λ v first. plusProduct m n (v .v0) (v .v1) first) pair (sym first-is)
-                    ∙ ap₂ (λ k l. plusProduct m k (up (padded (familyOf m (n - 1) a b c)) (take n curve) l 0 .v0) (up (padded (familyOf m (n - 1) a b c)) (take n curve) l 0 .v1) (F₁ (padded (familyOf m (n - 1) a b c)))) (sym size-is) (sym deeper)
-                    ∙ sym (treeExpand-tree (familyOf m (n - 1) a b c) (take n curve) some) in
+              = ap₂ (λ v first. plusProduct m n (v .v0) (v .v1) first) pair (sym first-is)
+              ∙ ap₂ (λ k l. plusProduct m k (up (padded (familyOf m (n - 1) a b c)) (take n curve) l 0 .v0) (up (padded (familyOf m (n - 1) a b c)) (take n curve) l 0 .v1) (F₁ (padded (familyOf m (n - 1) a b c)))) (sym size-is) (sym deeper)
+              ∙ sym (treeExpand-tree (familyOf m (n - 1) a b c) (take n curve) some) in
               record {
                 written = e ∙ ap (λ t. t ++ drop n output) model;
                 kept = kept-then 0 workLength work w₁ w₂ tree-kept
-                  (kept-wider 9212 (9212 + 6 * span level) 0 workLength w₁ w₂ (omega arith) (omega (arith, span-covers)) (climbs .kept));
+                    (kept-wider 9212 (9212 + 6 * span level) 0 workLength w₁ w₂ (omega arith) (omega (arith, span-covers)) (climbs .kept));
               }
 
         -- ---- Adjoint
@@ -255,15 +255,15 @@ module _ (m : ℕ) (a b c curve : List ℕ) (n : ℕ) (output work : List ℕ) (
                 let deeper : levelFor (size (familyOf m (n - 1) a b c)) ≡ level = ap levelFor size-is ∙ sym deep in
                 let some : 0 < rows (familyOf m (n - 1) a b c) = omega (arith, size-is) in
                 let model : part w₃ (9212 + (pairs + pairs) + (pairs + pairs)) n ≡ treeAdjoint (familyOf m (n - 1) a b c) (take n curve)
-                    = sym (part-take w₃ (span level) n (9212 + (pairs + pairs) + (pairs + pairs)) (omega (arith, span-covers)))
-                      ∙ ap (take n) entries
-                      ∙ ap₂ (λ k l. take k (down (padded (familyOf m (n - 1) a b c)) l 0 (rootPair (padded (familyOf m (n - 1) a b c)) l (take n curve)))) (sym size-is) (sym deeper)
-                      ∙ sym (treeAdjoint-tree (familyOf m (n - 1) a b c) (take n curve) some) in
+                = sym (part-take w₃ (span level) n (9212 + (pairs + pairs) + (pairs + pairs)) (omega (arith, span-covers)))
+                ∙ ap (take n) entries
+                ∙ ap₂ (λ k l. take k (down (padded (familyOf m (n - 1) a b c)) l 0 (rootPair (padded (familyOf m (n - 1) a b c)) l (take n curve)))) (sym size-is) (sym deeper)
+                ∙ sym (treeAdjoint-tree (familyOf m (n - 1) a b c) (take n curve) some) in
                 record {
                   written = e ∙ ap (λ t. t ++ drop n output) model;
                   kept = kept-then 0 workLength work w₂ w₃
-                    (kept-then 0 workLength work w₁ w₂ tree-kept (kept-wider 9212 workLength 0 workLength w₁ w₂ (omega arith) (omega arith) pair-kept))
-                    (kept-wider (9212 + (pairs + pairs) + (pairs + pairs)) (9212 + (pairs + pairs) + (pairs + pairs) + 3 * span level) 0 workLength w₂ w₃ (omega arith) (omega (arith, span-covers)) (descends .kept));
+                      (kept-then 0 workLength work w₁ w₂ tree-kept (kept-wider 9212 workLength 0 workLength w₁ w₂ (omega arith) (omega arith) pair-kept))
+                      (kept-wider (9212 + (pairs + pairs) + (pairs + pairs)) (9212 + (pairs + pairs) + (pairs + pairs) + 3 * span level) 0 workLength w₂ w₃ (omega arith) (omega (arith, span-covers)) (descends .kept));
                 }
 
   -- ---- no tree
