@@ -3,125 +3,176 @@
  * usage: vectors IN OUT
  *
  * IN and OUT are what tests/reference/vectors.py writes: a line of decimal numbers for each case, and the line that the call must
- * give. Every list is lent in memory of just its length, so that a checker of memory sees a step past its end. Prints how many
- * cases of each call agreed and exits 0; at the first case that differs prints it and exits 1; exits 2 if a file cannot be read.
+ * give. Prints how many cases of each call agree and exits 0; shows the first case that differs and exits 1; exits 2 if a file
+ * cannot be read or is not of the form.
  */
+#define _DEFAULT_SOURCE
 #include <inttypes.h>
 #include <stdio.h>
 #include <stdlib.h>
 #include <string.h>
+#include <sys/mman.h>
+#include <unistd.h>
 
 #include "zahupnik.h"
 
-enum { LONGEST = 1 << 16, CALLS = 10 };
+enum { LONGEST_LINE = 1 << 16 };
+
+/* The numbers of the calls in IN. */
+enum call { PLAIN_EXPAND = 1, PLAIN_ADJOINT, PLAIN_DECOMPOSE, NORMS, INVERT, CALLS };
+static const char *const NAMES[CALLS] = {NULL, "plain_expand", "plain_adjoint", "plain_decompose", "norms", "invert"};
+
+/* A file that is read line by line. */
+struct text {
+    FILE *file;
+    const char *name;
+    unsigned long line;
+    char words[LONGEST_LINE];
+    char *at;
+};
+
+static struct text in, out;
+
+static void unusable(const struct text *text, const char *why) {
+    fprintf(stderr, "vectors: %s, line %lu: %s\n", text->name, text->line, why);
+    exit(2);
+}
+
+static void open_text(struct text *text, const char *name) {
+    text->name = name;
+    text->file = fopen(name, "r");
+    if (!text->file) {
+        fprintf(stderr, "vectors: %s cannot be read\n", name);
+        exit(2);
+    }
+}
+
+/* 0 at the end of the file. */
+static int next_line(struct text *text) {
+    text->at = text->words;
+    if (!fgets(text->words, sizeof text->words, text->file)) return 0;
+    text->line++;
+    if (!strchr(text->words, '\n')) unusable(text, "too long, or without its end");
+    return 1;
+}
+
+static uint32_t next_number(struct text *text) {
+    char *end;
+    unsigned long long value = strtoull(text->at, &end, 10);
+    if (end == text->at || value > UINT32_MAX) unusable(text, "a number of 32 bits is missing");
+    text->at = end;
+    return (uint32_t)value;
+}
+
+static void end_line(struct text *text) {
+    if (strcmp(text->at, "\n")) unusable(text, "more stands there than the call takes or gives");
+}
+
+static void differs(const char *what, uint32_t given, uint32_t wanted) {
+    fprintf(stderr, "vectors: case %lu: %s is %" PRIu32 " and not %" PRIu32 "\n case %s wanted %s", in.line, what, given, wanted,
+            in.words, out.words);
+    exit(1);
+}
+
+/* What the call gave is the next number of OUT. */
+static void expect(const char *what, uint32_t given) {
+    uint32_t wanted = next_number(&out);
+    if (given != wanted) differs(what, given, wanted);
+}
 
 struct list {
     uint32_t *entries;
     size_t length;
 };
 
-static void fail(const char *words, const char *file) {
-    fprintf(stderr, "vectors: %s: %s\n", file, words);
-    exit(2);
+static size_t bytes(struct list list) { return list.length * sizeof *list.entries; }
+
+/* The bytes of the whole pages that a list takes. */
+static size_t room(struct list list) {
+    size_t page = (size_t)sysconf(_SC_PAGESIZE);
+    return (bytes(list) + page - 1) / page * page;
 }
 
-static uint64_t number(char **at) {
-    char *end;
-    uint64_t value = strtoull(*at, &end, 10);
-    if (end == *at) fail("a line is not of the form", "IN");
-    *at = end;
-    return value;
+/* The library is compiled without a checker of memory, so each list ends at a page that nobody may touch: a step past its end
+ * stops this program. */
+static struct list make_list(size_t length) {
+    struct list list = {NULL, length};
+    size_t page = (size_t)sysconf(_SC_PAGESIZE);
+    char *pages = mmap(NULL, room(list) + page, PROT_READ | PROT_WRITE, MAP_PRIVATE | MAP_ANONYMOUS, -1, 0);
+    if (pages == MAP_FAILED || mprotect(pages + room(list), page, PROT_NONE)) unusable(&in, "no memory for its lists");
+    list.entries = (uint32_t *)(void *)(pages + room(list) - bytes(list));
+    return list;
 }
 
-static struct list make(size_t length) {
-    struct list made = {malloc(length ? length * sizeof(uint32_t) : 1), length};
-    if (!made.entries) fail("no memory", "IN");
-    return made;
+static void free_list(struct list list) {
+    munmap((char *)list.entries + bytes(list) - room(list), room(list) + (size_t)sysconf(_SC_PAGESIZE));
 }
 
-static struct list read_list(char **at) {
-    struct list read = make(number(at));
-    for (size_t i = 0; i < read.length; i++) read.entries[i] = (uint32_t)number(at);
-    return read;
+static struct list next_list(struct text *text) {
+    struct list list = make_list(next_number(text));
+    for (size_t i = 0; i < list.length; i++) list.entries[i] = next_number(text);
+    return list;
 }
 
-static char *put(char *at, uint64_t value) {
-    return at + sprintf(at, at[-1] == '\n' ? "%" PRIu64 : " %" PRIu64, value);
-}
+/* Runs the case of a line of IN, holds what it gives against the line of OUT, and returns the call's number. */
+static unsigned run_case(void) {
+    unsigned call = next_number(&in);
+    uint32_t m = next_number(&in);
+    struct list a = next_list(&in), b = next_list(&in), c = next_list(&in), v = next_list(&in);
+    size_t output_length = next_number(&in), work_length = next_number(&in);
+    end_line(&in);
+    if (work_length) unusable(&in, "a working list, which no call here is lent");
+    if (call == INVERT && v.length != 1) unusable(&in, "not one number to invert");
 
-/* The line that the library gives for a line of IN. */
-static unsigned answer(char *case_line, char *line) {
-    char *at = case_line;
-    unsigned call = (unsigned)number(&at);
-    uint32_t m = (uint32_t)number(&at);
-    struct list a = read_list(&at), b = read_list(&at), c = read_list(&at), v = read_list(&at);
-    struct list output = make(number(&at)), work = make(number(&at));
-    for (size_t i = 0; i < output.length; i++) output.entries[i] = (uint32_t)(4294967295u - i);
-    for (size_t i = 0; i < work.length; i++) work.entries[i] = (uint32_t)(4000000000u + i % 1000);
-    uint32_t refused, inverse = 4294967295u;
+    /* the inverse is written to one number */
+    struct list output = make_list(call == INVERT ? 1 : output_length);
+    for (size_t i = 0; i < output.length; i++) output.entries[i] = (uint32_t)(UINT32_MAX - i);
+    uint32_t number = 0;
 #define FAMILY m, a.entries, a.length, b.entries, b.length, c.entries, c.length
 #define CURVE v.entries, v.length
 #define OUTPUT output.entries, output.length
     switch (call) {
-    case 1: refused = zahupnik_plain_expand(FAMILY, CURVE, OUTPUT); break;
-    case 2: refused = zahupnik_plain_adjoint(FAMILY, CURVE, OUTPUT); break;
-    case 3: refused = zahupnik_plain_decompose(FAMILY, CURVE, OUTPUT); break;
-    case 4: refused = zahupnik_norms(FAMILY, OUTPUT); break;
-    case 5: refused = zahupnik_invert(m, v.entries[0], &inverse); break;
-    default: fail("a call that this program does not know", "IN"); return 0;
+    case PLAIN_EXPAND: number = zahupnik_plain_expand(FAMILY, CURVE, OUTPUT); break;
+    case PLAIN_ADJOINT: number = zahupnik_plain_adjoint(FAMILY, CURVE, OUTPUT); break;
+    case PLAIN_DECOMPOSE: number = zahupnik_plain_decompose(FAMILY, CURVE, OUTPUT); break;
+    case NORMS: number = zahupnik_norms(FAMILY, OUTPUT); break;
+    case INVERT: number = zahupnik_invert(m, v.entries[0], output.entries); break;
+    default: unusable(&in, "a call that this program does not know");
     }
-    *line++ = '\n';
-    char *end = put(line, refused);
-    if (call == 5) {
-        end = refused ? put(end, 0) : put(put(end, 1), inverse);
-        if (refused && inverse != 4294967295u) end = put(end, inverse);
+
+    expect("the number returned", number);
+    if (call == INVERT && number != ZAHUPNIK_FINISHED) {
+        expect("the count of inverses", 0);
+        if (output.entries[0] != UINT32_MAX) differs("the number lent to a refused call", output.entries[0], UINT32_MAX);
     } else {
-        end = put(end, output.length);
-        for (size_t i = 0; i < output.length; i++) end = put(end, output.entries[i]);
+        expect("the length of the output", (uint32_t)output.length);
+        for (size_t i = 0; i < output.length; i++) expect("an entry of the output", output.entries[i]);
     }
-    if (call > 5) {
-        uint64_t zeros = 0, sum = 0;
-        for (size_t i = 0; i < work.length; i++) {
-            zeros += work.entries[i] == 0;
-            sum = (sum + work.entries[i]) % 4294967291u;
-        }
-        end = put(put(end, zeros), sum);
-    }
-    strcpy(end, "\n");
-    free(a.entries);
-    free(b.entries);
-    free(c.entries);
-    free(v.entries);
-    free(output.entries);
-    free(work.entries);
+    end_line(&out);
+    free_list(a);
+    free_list(b);
+    free_list(c);
+    free_list(v);
+    free_list(output);
     return call;
 }
 
 int main(int argc, char **argv) {
-    static char given[LONGEST], wanted[LONGEST], got[LONGEST + 1];
-    unsigned long agreed[CALLS] = {0}, cases = 0;
+    unsigned long agreed[CALLS] = {0};
     if (argc != 3) {
         fprintf(stderr, "usage: vectors IN OUT\n");
         return 2;
     }
-    FILE *in = fopen(argv[1], "r"), *out = fopen(argv[2], "r");
-    if (!in) fail("cannot be read", argv[1]);
-    if (!out) fail("cannot be read", argv[2]);
-    while (fgets(given, LONGEST, in)) {
-        if (!fgets(wanted, LONGEST, out)) fail("is shorter than IN", argv[2]);
-        cases++;
-        unsigned call = answer(given, got);
-        if (strcmp(got + 1, wanted)) {
-            printf("vectors: case %lu differs\n given %s wanted %s got %s", cases, given, wanted, got + 1);
-            return 1;
-        }
-        agreed[call]++;
+    open_text(&in, argv[1]);
+    open_text(&out, argv[2]);
+    while (next_line(&in)) {
+        if (!next_line(&out)) unusable(&out, "ends before IN does");
+        agreed[run_case()]++;
     }
-    if (fgets(wanted, LONGEST, out)) fail("is longer than IN", argv[2]);
-    if (!cases) fail("has no case", argv[1]);
-    printf("vectors: %lu agree (by call:", cases);
-    for (unsigned call = 1; call < CALLS; call++)
-        if (agreed[call]) printf(" %u %lu", call, agreed[call]);
+    if (next_line(&out)) unusable(&out, "goes on after the end of IN");
+    if (!in.line) unusable(&in, "holds no case");
+    printf("vectors: %lu cases agree (", in.line);
+    for (unsigned call = 1; call < CALLS; call++) printf("%s%s %lu", call == 1 ? "" : ", ", NAMES[call], agreed[call]);
     printf(")\n");
     return 0;
 }

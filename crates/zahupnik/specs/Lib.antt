@@ -1,0 +1,4 @@
+-- What the exported functions promise, and how the public calls' promises come to it. Assumes nothing.
+pub mod Returned
+pub mod Returning
+pub mod Zero

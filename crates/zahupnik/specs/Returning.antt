@@ -1,0 +1,49 @@
+-- From the answer of a public call to what its exported function returns and leaves.
+-- Proved: a call that writes a list keeps its promise when its answer is turned into a number; so does Inverse, whether it
+-- finishes or refuses. Assumes nothing.
+use mathlib.Core.Path.{_≡_, refl, sym, _∙_, ap}
+use mathlib.Core.Bool.{Bool, true, false}
+use mathlib.Core.List.{List, [], _∷_}
+use Prim.Native.Nat.{ℕ}
+use Rattle.definitions.specs.Answers.{answered, after, Converted}
+use Rattle.definitions.specs.Refusals.{Test, Verdict, finished, refused, verdict}
+use Rattle.definitions.specs.declared.Answer.{Answer}
+use Rattle.theory.specs.Verdicts.{refused-not-finished, verdict-here, verdict-next}
+use Rattle.zahupnik.specs.Returned.{number, Returned}
+
+pub list-returned : (tests : List Test) (result output output′ : List ℕ) (r : Answer) (k : ℕ)
+    → Converted tests result r output output′ → k ≡ number (answered r) → Returned tests result k output output′
+list-returned tests result output output′ r k converted e = record {
+  answer = e ∙ ap number (converted .answer);
+  written = converted .written ∙ ap (λ v. after v result output) (converted .answer);
+}
+
+-- a verdict, with the values that it gives if finished
+abbrev withValues : List ℕ → Verdict → Verdict
+withValues values (finished none) = finished values
+withValues values (refused k) = refused k
+
+verdict-values : (values : List ℕ) (ts : List Test) → verdict ts values ≡ withValues values (verdict ts [])
+unfolding verdict
+verdict-values values [] = refl
+verdict-values values (t ∷ ts) = split (t .holds) refl (verdict-values values ts)
+  where
+    split : (h : Bool) → t .holds ≡ h → verdict ts values ≡ withValues values (verdict ts [])
+        → verdict (t ∷ ts) values ≡ withValues values (verdict (t ∷ ts) [])
+    split true q rest = rw (verdict-here t ts values q, verdict-here t ts [] q)
+    split false q rest = rw (verdict-next t ts values q, verdict-next t ts [] q) rest
+
+module _ (tests : List Test) (x old : ℕ) where
+  pub value-returned : (y : ℕ) → finished (y ∷ []) ≡ verdict tests (x ∷ []) → Returned tests (x ∷ []) 0 (old ∷ []) (y ∷ [])
+  value-returned y e = at (verdict tests []) refl (e ∙ verdict-values (x ∷ []) tests)
+    where
+      at : (v : Verdict) → verdict tests [] ≡ v → finished (y ∷ []) ≡ withValues (x ∷ []) v → Returned tests (x ∷ []) 0 (old ∷ []) (y ∷ [])
+      at (finished none) q d = record { answer = sym (ap number q); written = rw q (cc) }
+      at (refused k) q d = absurd (refused-not-finished k (y ∷ []) (sym d))
+
+  pub refusal-returned : (k : ℕ) → refused k ≡ verdict tests (x ∷ []) → Returned tests (x ∷ []) k (old ∷ []) (old ∷ [])
+  refusal-returned k e = at (verdict tests []) refl (e ∙ verdict-values (x ∷ []) tests)
+    where
+      at : (v : Verdict) → verdict tests [] ≡ v → refused k ≡ withValues (x ∷ []) v → Returned tests (x ∷ []) k (old ∷ []) (old ∷ [])
+      at (finished none) q d = absurd (refused-not-finished k (x ∷ []) d)
+      at (refused j) q d = record { answer = rw q (cc); written = rw q }

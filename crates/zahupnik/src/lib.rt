@@ -1,0 +1,91 @@
+// The public calls for C, as include/zahupnik.h declares them: numbers and lent lists only, and each returns 0 or the refusal
+// number. None has a 'requires', and each has one 'ensures' that settles the number and what is lent on every input.
+ghost use mathlib.Core.Path.{_≡_};
+ghost use mathlib.Core.List.{[], _∷_};
+ghost use lib.ListN.{length};
+ghost use Rattle.definitions.specs.Answers.{answered};
+ghost use Rattle.definitions.specs.Conversion.{expand, adjoint, decompose};
+ghost use Rattle.definitions.specs.Family.{family};
+ghost use Rattle.definitions.specs.Number as Number;
+ghost use Rattle.definitions.specs.Orthogonality.{norms};
+ghost use Rattle.definitions.specs.Refusals.{plainTests, normsTests, inverseTests};
+ghost use Rattle.zahupnik.specs.Returned.{number, Returned};
+use definitions::Answer;
+use definitions::Valued;
+
+// 0 for the finished kind, and a refusal's number.
+fn number(answer: Answer) -> u32
+    ensures { λ r. ⌜ r ≡ number (answered answer) ⌝ }
+{
+    match answer {
+        Answer::Finished => 0,
+        Answer::Refused(k) => k,
+    }
+}
+
+// Inverse, written to the lent number. Refused as conversion::invert is.
+#[no_mangle]
+pub extern "C" fn zahupnik_invert(m: u32, x: u32, inverse: &mut u32) -> u32
+    ensures { λ r. ⌜ Returned (inverseTests m x) (Number.inverse m x ∷ []) r (now (inverse .entry) ∷ []) (now (inverse .exit) ∷ []) ⌝ }
+{
+    match conversion::invert(m, x) {
+        Valued::Value(y) => {
+            *inverse = y;
+            0
+        }
+        Valued::Refused(k) => k,
+    }
+}
+
+// Expand by the plain way. Refused as conversion::plain_expand is.
+#[no_mangle]
+pub extern "C" fn zahupnik_plain_expand(
+    m: u32,
+    a: &[u32],
+    b: &[u32],
+    c: &[u32],
+    curve: &[u32],
+    output: &mut [u32],
+) -> u32
+    ensures { λ r. ⌜ Returned (plainTests (family m (now (a .entry)) (now (b .entry)) (now (c .entry))) (now (curve .entry)) (length (now (output .entry)))) (expand (family m (now (a .entry)) (now (b .entry)) (now (c .entry))) (now (curve .entry))) r (now (output .entry)) (now (output .exit)) ⌝ }
+{
+    number(conversion::plain_expand(m, a, b, c, curve, output))
+}
+
+// Adjoint by the plain way. Refused as conversion::plain_adjoint is.
+#[no_mangle]
+pub extern "C" fn zahupnik_plain_adjoint(
+    m: u32,
+    a: &[u32],
+    b: &[u32],
+    c: &[u32],
+    curve: &[u32],
+    output: &mut [u32],
+) -> u32
+    ensures { λ r. ⌜ Returned (plainTests (family m (now (a .entry)) (now (b .entry)) (now (c .entry))) (now (curve .entry)) (length (now (output .entry)))) (adjoint (family m (now (a .entry)) (now (b .entry)) (now (c .entry))) (now (curve .entry))) r (now (output .entry)) (now (output .exit)) ⌝ }
+{
+    number(conversion::plain_adjoint(m, a, b, c, curve, output))
+}
+
+// Decompose by the plain way. Refused as conversion::plain_decompose is.
+#[no_mangle]
+pub extern "C" fn zahupnik_plain_decompose(
+    m: u32,
+    a: &[u32],
+    b: &[u32],
+    c: &[u32],
+    coefficients: &[u32],
+    output: &mut [u32],
+) -> u32
+    ensures { λ r. ⌜ Returned (plainTests (family m (now (a .entry)) (now (b .entry)) (now (c .entry))) (now (coefficients .entry)) (length (now (output .entry)))) (decompose (family m (now (a .entry)) (now (b .entry)) (now (c .entry))) (now (coefficients .entry))) r (now (output .entry)) (now (output .exit)) ⌝ }
+{
+    number(conversion::plain_decompose(m, a, b, c, coefficients, output))
+}
+
+// Norms. Refused as conversion::norms is.
+#[no_mangle]
+pub extern "C" fn zahupnik_norms(m: u32, a: &[u32], b: &[u32], c: &[u32], output: &mut [u32]) -> u32
+    ensures { λ r. ⌜ Returned (normsTests (family m (now (a .entry)) (now (b .entry)) (now (c .entry))) (length (now (output .entry)))) (norms (family m (now (a .entry)) (now (b .entry)) (now (c .entry)))) r (now (output .entry)) (now (output .exit)) ⌝ }
+{
+    number(conversion::norms(m, a, b, c, output))
+}

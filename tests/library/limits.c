@@ -1,0 +1,156 @@
+/* Holds the header's constants against the library: every function is taken to its limits, and every refusal that its comment
+ * lists is provoked.
+ *
+ * usage: limits
+ *
+ * Prints how many cases are as the header says and exits 0; says the first that is not and exits 1.
+ */
+#include <inttypes.h>
+#include <stdio.h>
+#include <stdlib.h>
+
+#include "zahupnik.h"
+
+enum { ROOM = ZAHUPNIK_MOST_ROWS + 3 };
+
+static unsigned long cases;
+
+static void expect(const char *function, const char *with, const char *what, uint32_t given, uint32_t wanted) {
+    if (given != wanted) {
+        fprintf(stderr, "limits: %s with %s: %s is %" PRIu32 " and not %" PRIu32 "\n", function, with, what, given, wanted);
+        exit(1);
+    }
+}
+
+/* What a function on families is lent. */
+struct input {
+    uint32_t m, a[ROOM], b[ROOM], c[ROOM], curve[ROOM];
+    size_t a_length, b_length, c_length, curve_length, output_length;
+};
+
+/* An input that every function takes: rows 1 1 1 and a curve of ones, modulo 7. */
+static struct input accepted(size_t rows) {
+    struct input x = {.m = 7, .a_length = rows, .b_length = rows, .c_length = rows};
+    x.curve_length = x.output_length = rows + 1;
+    for (size_t i = 0; i < ROOM; i++) x.a[i] = x.b[i] = x.c[i] = x.curve[i] = 1;
+    return x;
+}
+
+#define FAMILY x->m, x->a, x->a_length, x->b, x->b_length, x->c, x->c_length
+#define CURVE x->curve, x->curve_length
+#define OUTPUT output, x->output_length
+static uint32_t expand(const struct input *x, uint32_t *output) { return zahupnik_plain_expand(FAMILY, CURVE, OUTPUT); }
+static uint32_t adjoint(const struct input *x, uint32_t *output) { return zahupnik_plain_adjoint(FAMILY, CURVE, OUTPUT); }
+static uint32_t decompose(const struct input *x, uint32_t *output) { return zahupnik_plain_decompose(FAMILY, CURVE, OUTPUT); }
+static uint32_t norms(const struct input *x, uint32_t *output) { return zahupnik_norms(FAMILY, OUTPUT); }
+
+struct function {
+    const char *name;
+    uint32_t (*run)(const struct input *, uint32_t *);
+};
+
+/* The function returns the number, and a refusal leaves the output as it was. */
+static void gives(const struct function *f, const char *with, const struct input *x, uint32_t number) {
+    uint32_t output[ROOM];
+    for (size_t i = 0; i < ROOM; i++) output[i] = UINT32_MAX;
+    expect(f->name, with, "the number returned", f->run(x, output), number);
+    for (size_t i = number == ZAHUPNIK_FINISHED ? x->output_length : 0; i < ROOM; i++)
+        expect(f->name, with, "an entry that is not to be written", output[i], UINT32_MAX);
+    cases++;
+}
+
+/* Changed in one thing, an accepted input of some rows gives the number. */
+#define GIVES(number, rows, change)                              \
+    do {                                                         \
+        struct input x = accepted(rows);                         \
+        change;                                                  \
+        gives(f, #rows " rows, " #change, &x, ZAHUPNIK_##number); \
+    } while (0)
+
+static void on_family(const struct function *f) {
+    GIVES(MODULUS, 2, x.m = 0);
+    GIVES(MODULUS, 2, x.m = 1);
+    GIVES(FINISHED, 2, x.m = 2);
+    GIVES(FINISHED, 2, x.m = ZAHUPNIK_GREATEST_MODULUS);
+    GIVES(MODULUS, 2, x.m = ZAHUPNIK_GREATEST_MODULUS + 1);
+    GIVES(MODULUS, 2, x.m = UINT32_MAX);
+    GIVES(LENGTHS, 2, x.a_length = 1);
+    GIVES(LENGTHS, 2, x.b_length = 3);
+    GIVES(LENGTHS, 2, x.c_length = 0);
+    GIVES(FINISHED, 0, x.a[0] = x.b[0] = x.c[0] = 0);
+    GIVES(FINISHED, ZAHUPNIK_MOST_ROWS, x.m = 2);
+    GIVES(ROWS, ZAHUPNIK_MOST_ROWS + 1, x.m = 2);
+    GIVES(OUTPUT_LENGTH, 2, x.output_length = 2);
+    GIVES(OUTPUT_LENGTH, 2, x.output_length = 4);
+    GIVES(FINISHED, 2, x.a[1] = x.b[1] = x.c[1] = 6);
+    GIVES(ENTRY, 2, x.a[1] = 7);
+    GIVES(ENTRY, 2, x.b[1] = 7);
+    GIVES(ENTRY, 2, x.c[1] = 7);
+    GIVES(FINISHED, 2, x.b[1] = 0);
+    GIVES(A_INVERSE, 2, x.a[1] = 0);
+    GIVES(C_INVERSE, 2, x.c[1] = 0);
+    GIVES(A_INVERSE, 2, (x.m = 15, x.a[1] = 6));
+    GIVES(C_INVERSE, 2, (x.m = 15, x.c[1] = 6));
+}
+
+static void on_curve(const struct function *f) {
+    GIVES(CURVE_LENGTH, 2, x.curve_length = 2);
+    GIVES(CURVE_LENGTH, 2, x.curve_length = 4);
+    GIVES(FINISHED, 2, x.curve[2] = 6);
+    GIVES(CURVE_ENTRY, 2, x.curve[2] = 7);
+}
+
+static void inverts(const char *with, uint32_t m, uint32_t x, uint32_t number, uint32_t wanted) {
+    uint32_t inverse = UINT32_MAX;
+    expect("invert", with, "the number returned", zahupnik_invert(m, x, &inverse), number);
+    expect("invert", with, "the number lent", inverse, wanted);
+    cases++;
+}
+
+static void on_number(void) {
+    inverts("m = 0", 0, 0, ZAHUPNIK_MODULUS, UINT32_MAX);
+    inverts("m = 1", 1, 0, ZAHUPNIK_MODULUS, UINT32_MAX);
+    inverts("1 modulo 2", 2, 1, ZAHUPNIK_FINISHED, 1);
+    inverts("2 modulo the greatest m", ZAHUPNIK_GREATEST_MODULUS, 2, ZAHUPNIK_FINISHED, 1073741824);
+    inverts("m one too great", ZAHUPNIK_GREATEST_MODULUS + 1, 1, ZAHUPNIK_MODULUS, UINT32_MAX);
+    inverts("6 modulo 7", 7, 6, ZAHUPNIK_FINISHED, 6);
+    inverts("7 modulo 7", 7, 7, ZAHUPNIK_CURVE_ENTRY, UINT32_MAX);
+    inverts("4 modulo 15", 15, 4, ZAHUPNIK_FINISHED, 4);
+    inverts("6 modulo 15", 15, 6, ZAHUPNIK_NO_INVERSE, UINT32_MAX);
+    inverts("0 modulo 15", 15, 0, ZAHUPNIK_NO_INVERSE, UINT32_MAX);
+}
+
+/* The call returns the number and leaves the entry in the output, which held UINT32_MAX. */
+#define NO_LIST NULL, 0
+#define NO_ROWS 7, NO_LIST, NO_LIST, NO_LIST
+#define LEAVES(call, number, entry)                                                     \
+    do {                                                                                \
+        uint32_t output[] = {UINT32_MAX};                                               \
+        expect(#call, "NULL for lists of length 0", "the number returned", call, number); \
+        expect(#call, "NULL for lists of length 0", "the output", output[0], entry);    \
+        cases++;                                                                        \
+    } while (0)
+
+static void on_null(void) {
+    const uint32_t curve[] = {3};
+    LEAVES(zahupnik_plain_expand(NO_ROWS, curve, 1, output, 1), ZAHUPNIK_FINISHED, 3);
+    LEAVES(zahupnik_plain_adjoint(NO_ROWS, curve, 1, output, 1), ZAHUPNIK_FINISHED, 3);
+    LEAVES(zahupnik_plain_decompose(NO_ROWS, curve, 1, output, 1), ZAHUPNIK_FINISHED, 3);
+    LEAVES(zahupnik_norms(NO_ROWS, output, 1), ZAHUPNIK_FINISHED, 1);
+    LEAVES(zahupnik_plain_expand(NO_ROWS, NO_LIST, output, 1), ZAHUPNIK_CURVE_LENGTH, UINT32_MAX);
+    LEAVES(zahupnik_plain_expand(NO_ROWS, curve, 1, NO_LIST), ZAHUPNIK_OUTPUT_LENGTH, UINT32_MAX);
+    LEAVES(zahupnik_norms(NO_ROWS, NO_LIST), ZAHUPNIK_OUTPUT_LENGTH, UINT32_MAX);
+}
+
+int main(void) {
+    const struct function on_curves[] = {{"plain_expand", expand}, {"plain_adjoint", adjoint}, {"plain_decompose", decompose}};
+    for (size_t i = 0; i < sizeof on_curves / sizeof *on_curves; i++) {
+        on_family(&on_curves[i]);
+        on_curve(&on_curves[i]);
+    }
+    on_family(&(struct function){"norms", norms});
+    on_number();
+    on_null();
+    printf("limits: %lu cases are as the header says\n", cases);
+    return 0;
+}
