@@ -1,2 +1,4 @@
 -- The laws over the calls, as propositions about the lists that the calls hand out. Assumes nothing.
+pub mod Chain
 pub mod Returned
+pub mod Ways
