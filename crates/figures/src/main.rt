@@ -222,6 +222,103 @@ fn on_row_factors() {
     );
 }
 
+// The tree way, in a working list of 16,389 nines: a second line shows its first number, the last that an accepted call clears, and
+// the one after that.
+fn nines() -> [u32; 16389] {
+    [9; 16389]
+}
+
+fn working(first: u32, last: u32, beyond: u32) {
+    text(b"  working list:");
+    number(first);
+    number(last);
+    number(beyond);
+    text(b"\n");
+}
+
+fn tree_expand(
+    label: &[u8],
+    m: u32,
+    a: &[u32],
+    b: &[u32],
+    c: &[u32],
+    curve: &[u32],
+    output: &mut [u32],
+) {
+    let mut work = nines();
+    let answer = conversion::tree_expand(m, a, b, c, curve, output, &mut work);
+    show(label, answer, output);
+    working(work[0], work[16383], work[16384]);
+}
+
+fn tree_adjoint(
+    label: &[u8],
+    m: u32,
+    a: &[u32],
+    b: &[u32],
+    c: &[u32],
+    curve: &[u32],
+    output: &mut [u32],
+) {
+    let mut work = nines();
+    let answer = conversion::tree_adjoint(m, a, b, c, curve, output, &mut work);
+    show(label, answer, output);
+    working(work[0], work[16383], work[16384]);
+}
+
+fn by_the_tree() {
+    tree_expand(
+        b"P1 by the tree",
+        7,
+        &[1, 2],
+        &[0, 3],
+        &[1, 5],
+        &[3, 0, 1],
+        &mut [4; 3],
+    );
+    tree_adjoint(
+        b"P2 by the tree",
+        7,
+        &[1, 2],
+        &[0, 3],
+        &[1, 5],
+        &[1, 3, 2],
+        &mut [4; 3],
+    );
+    tree_expand(b"P6 by the tree", 2, &[], &[], &[], &[1], &mut [4; 1]);
+    tree_expand(b"P7 by the tree", 2, &[1], &[1], &[1], &[1, 1], &mut [4; 2]);
+    tree_expand(
+        b"P10 by the tree",
+        15,
+        &[3],
+        &[0],
+        &[5],
+        &[1, 1],
+        &mut [4; 2],
+    );
+}
+
+fn short() -> [u32; 16383] {
+    [9; 16383]
+}
+
+// P1 in a working list that is one number too short.
+fn in_a_short_list() {
+    let mut output: [u32; 3] = [4; 3];
+    let mut work = short();
+    let answer = conversion::tree_expand(
+        7,
+        &[1, 2],
+        &[0, 3],
+        &[1, 5],
+        &[3, 0, 1],
+        &mut output,
+        &mut work,
+    );
+    show(b"P1 in a short list", answer, &output);
+    working(work[0], work[16381], work[16382]);
+}
+
 fn main() {
     on_r();
     on_small_families();
@@ -230,4 +327,6 @@ fn main() {
     on_most_rows();
     on_too_many_rows();
     on_row_factors();
+    by_the_tree();
+    in_a_short_list();
 }
