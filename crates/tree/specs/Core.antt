@@ -3,29 +3,27 @@
 --   TreeOutput    what they leave before the working list is cleared;  Output  after it
 -- The tree lies from place 0 on, the vectors from place 9,212 on. Proved: each step is handed what it requires, and the model's list comes
 -- out. For n = 1 there is no tree, and the answer is that of F_0. Assumes nothing.
-use mathlib.Core.Path.{_≡_, refl, sym, _∙_, ap, ap₂}
+use mathlib.Core.Path.{_≡_, sym, _∙_, ap, ap₂}
 use mathlib.Core.List.{List, [], _∷_, _++_}
-use mathlib.Core.Logic.{inl, inr}
+use mathlib.Core.Logic.{inl}
 use Prim.Native.Nat.{ℕ, zero, suc, _+_, _*_, _-_, _%_, _≤_, _<_}
 use native.Mathlib.Decide.{decLt}
-use native.Mathlib.Nat.{mod-lt}
 use native.Mathlib.Omega.{arith}
 use lib.ListN.{length, getD, take, drop, set, replicate, List·getD-eq-default}
 use lib.Seq.{length-take-le, getD-take, set-split}
-use Rattle.definitions.specs.Family.{Family, Row, Modulus, greatestModulus, rows, size, rowAt}
+use Rattle.definitions.specs.Family.{Modulus, rows, size, rowAt}
 use Rattle.definitions.specs.Refusals.{workLength}
 use Rattle.definitions.specs.Answers.{cleared}
-use Rattle.theory.specs.Level.{span, span-two, levelFor, level-covers, level-least, level-most}
+use Rattle.theory.specs.Level.{span, levelFor, level-covers, level-least, level-most}
 use Rattle.theory.specs.Regions.{part, written, ResiduesIn, KeptOutside, part-take, part-residues, part-written, written-kept, kept-wider, kept-then, kept-part, kept-residues, kept-drop}
-use Rattle.theory.specs.Products.{Below, plusProduct, transposed-below}
-use Rattle.theory.specs.Tree.{Pair, F₀, F₁, padded, up, expandAt, treeExpand, treeExpand-tree, treeExpand-alone, down, rootPair, adjointAt, treeAdjoint, treeAdjoint-tree, treeAdjoint-alone}
+use Rattle.theory.specs.Products.{Below, plusProduct}
+use Rattle.theory.specs.Tree.{F₁, padded, up, expandAt, treeExpand, treeExpand-tree, treeExpand-alone, down, rootPair, adjointAt, treeAdjoint, treeAdjoint-tree, treeAdjoint-alone}
 use Rattle.theory.specs.TreeLengths.{PairLength, rootPair-length}
 use Rattle.theory.specs.TreeBelow.{RowBelow, rootPair-below}
-use Rattle.products.specs.Places.{Source, Aside}
-use Rattle.subproduct.specs.Layout.{Level, treeSize, treeList, pairList, pairAt, treeSize-most, treeList-length, treeList-below, pairList-length, pairList-below, pair-reads}
+use Rattle.subproduct.specs.Layout.{treeSize, treeList, pairList, pairAt, treeSize-most, treeList-length, treeList-below, pairList-length, pairList-below, pair-reads}
 use Rattle.subproduct.specs.Build.{familyOf, rowOf, RowsInput, BuildInput}
 use Rattle.subproduct.specs.Climb.{ClimbInput, ClimbOutput, climbed, climbed-up, climbed-length, climbed-below}
-use Rattle.subproduct.specs.Descend.{DescendInput, DescendOutput, descended, descended-down, listsAt}
+use Rattle.subproduct.specs.Descend.{DescendInput, DescendOutput, descended-down, listsAt}
 use Rattle.tree.specs.Root.{RootInput, PairInput, rootLists}
 
 pub record Input (m : ℕ) (a b c curve : List ℕ) (n : ℕ) (output work : List ℕ) : Type 0 where
@@ -167,17 +165,17 @@ module _ (m : ℕ) (a b c curve : List ℕ) (n : ℕ) (output work : List ℕ) (
           core-expand output′ e =
               let long : PairLength (pairs + pairs) (climbed m w₁ 0 (take n curve) level 0) = rw covers (climbed-length m w₁ 0 (take n curve) level 0) in
               let pair : pairAt w₂ 9212 (pairs + pairs) ≡ up (padded (familyOf m (n - 1) a b c)) (take n curve) level 0
-                  = pair-reads w₂ 9212 (pairs + pairs) (climbed m w₁ 0 (take n curve) level 0) long pair-holds ∙ climbed-is in
+              = pair-reads w₂ 9212 (pairs + pairs) (climbed m w₁ 0 (take n curve) level 0) long pair-holds ∙ climbed-is in
               let deeper : levelFor (size (familyOf m (n - 1) a b c)) ≡ level = ap levelFor size-is ∙ sym deep in
               let some : 0 < rows (familyOf m (n - 1) a b c) = omega (arith, size-is) in
               let model : plusProduct m n (part w₂ 9212 (pairs + pairs)) (part w₂ (9212 + (pairs + pairs)) (pairs + pairs)) (getD b 0 0 ∷ getD a 0 0 ∷ []) ≡ treeExpand (familyOf m (n - 1) a b c) (take n curve)
-                  = ap₂ (λ v first. plusProduct m n (v .v0) (v .v1) first) pair (sym first-is)
-                    ∙ ap₂ (λ k l. plusProduct m k (up (padded (familyOf m (n - 1) a b c)) (take n curve) l 0 .v0) (up (padded (familyOf m (n - 1) a b c)) (take n curve) l 0 .v1) (F₁ (padded (familyOf m (n - 1) a b c)))) (sym size-is) (sym deeper)
-                    ∙ sym (treeExpand-tree (familyOf m (n - 1) a b c) (take n curve) some) in
+              = ap₂ (λ v first. plusProduct m n (v .v0) (v .v1) first) pair (sym first-is)
+              ∙ ap₂ (λ k l. plusProduct m k (up (padded (familyOf m (n - 1) a b c)) (take n curve) l 0 .v0) (up (padded (familyOf m (n - 1) a b c)) (take n curve) l 0 .v1) (F₁ (padded (familyOf m (n - 1) a b c)))) (sym size-is) (sym deeper)
+              ∙ sym (treeExpand-tree (familyOf m (n - 1) a b c) (take n curve) some) in
               record {
                 written = e ∙ ap (λ t. t ++ drop n output) model;
                 kept = kept-then 0 workLength work w₁ w₂ tree-kept
-                  (kept-wider 9212 (9212 + 6 * span level) 0 workLength w₁ w₂ (omega arith) (omega (arith, span-covers)) (climbs .kept));
+                    (kept-wider 9212 (9212 + 6 * span level) 0 workLength w₁ w₂ (omega arith) (omega (arith, span-covers)) (climbs .kept));
               }
 
         -- ---- Adjoint
@@ -254,15 +252,15 @@ module _ (m : ℕ) (a b c curve : List ℕ) (n : ℕ) (output work : List ℕ) (
                 let deeper : levelFor (size (familyOf m (n - 1) a b c)) ≡ level = ap levelFor size-is ∙ sym deep in
                 let some : 0 < rows (familyOf m (n - 1) a b c) = omega (arith, size-is) in
                 let model : part w₃ (9212 + (pairs + pairs) + (pairs + pairs)) n ≡ treeAdjoint (familyOf m (n - 1) a b c) (take n curve)
-                    = sym (part-take w₃ (span level) n (9212 + (pairs + pairs) + (pairs + pairs)) (omega (arith, span-covers)))
-                      ∙ ap (take n) entries
-                      ∙ ap₂ (λ k l. take k (down (padded (familyOf m (n - 1) a b c)) l 0 (rootPair (padded (familyOf m (n - 1) a b c)) l (take n curve)))) (sym size-is) (sym deeper)
-                      ∙ sym (treeAdjoint-tree (familyOf m (n - 1) a b c) (take n curve) some) in
+                = sym (part-take w₃ (span level) n (9212 + (pairs + pairs) + (pairs + pairs)) (omega (arith, span-covers)))
+                ∙ ap (take n) entries
+                ∙ ap₂ (λ k l. take k (down (padded (familyOf m (n - 1) a b c)) l 0 (rootPair (padded (familyOf m (n - 1) a b c)) l (take n curve)))) (sym size-is) (sym deeper)
+                ∙ sym (treeAdjoint-tree (familyOf m (n - 1) a b c) (take n curve) some) in
                 record {
                   written = e ∙ ap (λ t. t ++ drop n output) model;
                   kept = kept-then 0 workLength work w₂ w₃
-                    (kept-then 0 workLength work w₁ w₂ tree-kept (kept-wider 9212 workLength 0 workLength w₁ w₂ (omega arith) (omega arith) pair-kept))
-                    (kept-wider (9212 + (pairs + pairs) + (pairs + pairs)) (9212 + (pairs + pairs) + (pairs + pairs) + 3 * span level) 0 workLength w₂ w₃ (omega arith) (omega (arith, span-covers)) (descends .kept));
+                      (kept-then 0 workLength work w₁ w₂ tree-kept (kept-wider 9212 workLength 0 workLength w₁ w₂ (omega arith) (omega arith) pair-kept))
+                      (kept-wider (9212 + (pairs + pairs) + (pairs + pairs)) (9212 + (pairs + pairs) + (pairs + pairs) + 3 * span level) 0 workLength w₂ w₃ (omega arith) (omega (arith, span-covers)) (descends .kept));
                 }
 
   -- ---- no tree

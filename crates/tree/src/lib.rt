@@ -1,8 +1,8 @@
 // Expand and Adjoint by the subproduct tree, on input that is already checked. Both work in the first 16,384 numbers of the working list and
 // leave zeros there: the tree from place 0 on, the vectors and their scratch from place 9,212 on.
 ghost use mathlib.Core.Path.{_≡_};
-ghost use mathlib.Core.List.{[], _∷_, _++_};
-ghost use Prim.Native.Nat.{ℕ, _+_, _*_, _-_, _%_, _≤_, _<_};
+ghost use mathlib.Core.List.{_++_};
+ghost use Prim.Native.Nat.{_+_, _-_, _%_, _≤_, _<_};
 ghost use lib.ListN.{length, getD, take, drop};
 ghost use Rattle.definitions.specs.Answers.{cleared};
 ghost use Rattle.theory.specs.Level.{span, levelFor};
