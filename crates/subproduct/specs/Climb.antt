@@ -19,7 +19,7 @@ use Rattle.theory.specs.Tree.{Pair, raise, up}
 use Rattle.theory.specs.TreeLengths.{PairLength, raise-length}
 use Rattle.theory.specs.TreeBelow.{PairBelow, raise-below, up-below}
 use Rattle.subproduct.specs.Layout.{Level, Halves, treeSize, treeList, nodePlace, pairList, matrixAt, pairAt, level-halves, level-one, treeSize-suc, treeSize-node, pairList-length, pair-reads, tree-left, tree-right, tree-matrix, matrixAt-kept, pairList-below}
-use Rattle.subproduct.specs.Build.{RaisePlaces}
+use Rattle.subproduct.specs.Join.{RaisePlaces}
 
 unfoldable pub climbed : ℕ → List ℕ → ℕ → List ℕ → ℕ → ℕ → Pair
 climbed m w tree u zero t = record { v0 = getD u t 0 ∷ 0 ∷ []; v1 = getD u (suc t) 0 ∷ 0 ∷ [] }

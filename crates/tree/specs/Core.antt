@@ -20,10 +20,11 @@ use Rattle.theory.specs.Products.{Below, plusProduct}
 use Rattle.theory.specs.Tree.{F₁, padded, up, expandAt, treeExpand, treeExpand-tree, treeExpand-alone, down, rootPair, adjointAt, treeAdjoint, treeAdjoint-tree, treeAdjoint-alone}
 use Rattle.theory.specs.TreeLengths.{PairLength, rootPair-length}
 use Rattle.theory.specs.TreeBelow.{RowBelow, rootPair-below}
-use Rattle.subproduct.specs.Layout.{treeSize, treeList, pairList, pairAt, treeSize-most, treeList-length, treeList-below, pairList-length, pairList-below, pair-reads}
-use Rattle.subproduct.specs.Build.{familyOf, rowOf, RowsInput, BuildInput}
+use Rattle.subproduct.specs.Layout.{treeSize, treeList, pairList, pairAt, listsAt, treeSize-most, treeList-length, treeList-below, pairList-length, pairList-below, pair-reads}
+use Rattle.subproduct.specs.Leaf.{familyOf, rowOf}
+use Rattle.subproduct.specs.Build.{RowsInput, BuildInput}
 use Rattle.subproduct.specs.Climb.{ClimbInput, ClimbOutput, climbed, climbed-up, climbed-length, climbed-below}
-use Rattle.subproduct.specs.Descend.{DescendInput, DescendOutput, descended-down, listsAt}
+use Rattle.subproduct.specs.Descend.{DescendInput, DescendOutput, descended-down}
 use Rattle.tree.specs.Root.{RootInput, PairInput, rootLists}
 
 pub record Input (m : ℕ) (a b c curve : List ℕ) (n : ℕ) (output work : List ℕ) : Type 0 where

@@ -10,7 +10,7 @@ ghost use Rattle.theory.specs.Regions.{part, written};
 ghost use Rattle.theory.specs.Products.{productAt, plusProduct};
 ghost use Rattle.theory.specs.Tree.{treeExpand, treeAdjoint};
 ghost use Rattle.subproduct.specs.Layout.{pairList};
-ghost use Rattle.subproduct.specs.Build.{familyOf};
+ghost use Rattle.subproduct.specs.Leaf.{familyOf};
 ghost use Rattle.tree.specs.Root.{RootInput, CoefficientInput, PairInput, rootLists};
 ghost use Rattle.tree.specs.Core.{Input, TreeOutput, Output};
 use products::product_at;

@@ -1,7 +1,7 @@
 -- `subproduct::combine` meets its contract: two products of residues and a residue fit 64 bits. Assumes nothing.
 use Prim.Native.Nat.{_+_, _*_}
 use native.Mathlib.Omega.{arith}
-use Rattle.subproduct.specs.Build.{products-small}
+use Rattle.subproduct.specs.Leaf.{products-small}
 use borrow.Author.Needs.{needs}
 use Rattle.subproduct.proofs.combine.Statement.{statement}
 use Rattle.subproduct.proofs.combine.Tie as tie

@@ -1,5 +1,5 @@
 -- `subproduct::join` meets its contract: each row of the right half's matrix times the left half's is a pair, and the two pairs are the node's lists. Assumes nothing.
-use Rattle.subproduct.specs.Build.{join-first, join-second, join-written}
+use Rattle.subproduct.specs.Join.{join-first, join-second, join-written}
 use borrow.Author.Needs.{needs}
 use Rattle.subproduct.proofs.join.Statement.{statement}
 use Rattle.subproduct.proofs.join.Tie as tie

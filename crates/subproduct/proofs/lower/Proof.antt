@@ -1,5 +1,5 @@
 -- `subproduct::lower` meets its contract: the two lists side by side are those of the pair, and what the second is made of is there still. Assumes nothing.
-use Rattle.subproduct.specs.Descend.{lower-first, lower-second, lower-written}
+use Rattle.subproduct.specs.Lower.{lower-first, lower-second, lower-written}
 use borrow.Author.Needs.{needs}
 use Rattle.subproduct.proofs.lower.Statement.{statement}
 use Rattle.subproduct.proofs.lower.Tie as tie

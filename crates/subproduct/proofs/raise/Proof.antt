@@ -1,5 +1,5 @@
 -- `subproduct::raise` meets its contract: the two lists side by side are those of the pair, and what the second is made of is there still. Assumes nothing.
-use Rattle.subproduct.specs.Build.{raise-first, raise-second, raise-written}
+use Rattle.subproduct.specs.Join.{raise-first, raise-second, raise-written}
 use borrow.Author.Needs.{needs}
 use Rattle.subproduct.proofs.raise.Statement.{statement}
 use Rattle.subproduct.proofs.raise.Tie as tie

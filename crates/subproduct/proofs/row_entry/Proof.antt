@@ -1,5 +1,5 @@
 -- `subproduct::row_entry` meets its contract: a list of r entries reads as zero past them. Assumes nothing.
-use Rattle.subproduct.specs.Build.{row-inside, row-past}
+use Rattle.subproduct.specs.Leaf.{row-inside, row-past}
 use borrow.Author.Needs.{needs}
 use Rattle.subproduct.proofs.row_entry.Statement.{statement}
 use Rattle.subproduct.proofs.row_entry.Tie as tie

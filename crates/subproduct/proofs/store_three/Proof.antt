@@ -1,7 +1,7 @@
 -- `subproduct::store_three` meets its contract: three stores side by side write a list of three. Assumes nothing.
 use native.Mathlib.Omega.{arith}
 use lib.ListN.{length-set}
-use Rattle.subproduct.specs.Build.{three-written}
+use Rattle.subproduct.specs.Leaf.{three-written}
 use borrow.Author.Needs.{needs}
 use Rattle.subproduct.proofs.store_three.Statement.{statement}
 use Rattle.subproduct.proofs.store_three.Tie as tie

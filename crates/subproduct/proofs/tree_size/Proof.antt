@@ -1,7 +1,7 @@
 -- `subproduct::tree_size` meets its contract: the closed value of the tree's size. Assumes nothing.
 use native.Mathlib.Omega.{arith}
 use Rattle.subproduct.specs.Layout.{treeSize-most}
-use Rattle.subproduct.specs.Build.{size-value}
+use Rattle.subproduct.specs.Layout.{size-value}
 use borrow.Author.Needs.{needs}
 use Rattle.subproduct.proofs.tree_size.Statement.{statement}
 use Rattle.subproduct.proofs.tree_size.Tie as tie

@@ -1,6 +1,6 @@
 -- `subproduct::write_leaf` meets its contract: four lists of three side by side are the leaf's. Assumes nothing.
 use native.Mathlib.Omega.{arith}
-use Rattle.subproduct.specs.Build.{leaf-written}
+use Rattle.subproduct.specs.Leaf.{leaf-written}
 use borrow.Author.Needs.{needs}
 use Rattle.subproduct.proofs.write_leaf.Statement.{statement}
 use Rattle.subproduct.proofs.write_leaf.Tie as tie

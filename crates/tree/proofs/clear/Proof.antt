@@ -29,13 +29,13 @@ loop-less : tie.Need-loop-less Inv-loop μ-loop
 loop-less c = omega arith
 
 loop-again : tie.Need-loop-again Inv-loop μ-loop
-loop-again c = filling-next _ _ _ _ _ (c .before .loop .inv) _ (c .loop-test .taken) refl
+loop-again c = filling-next _ _ _ _ _ (c .before .loop .inv) _ (omega arith) refl
 
 same-length : tie.Need-same-length Inv-loop μ-loop
 same-length c = omega arith
 
 returns : tie.Need-returns Inv-loop μ-loop
-returns c = clear-ends _ _ _ (c .loop-test .left) (c .before .loop .inv)
+returns c = clear-ends _ _ _ (omega arith) (c .before .loop .inv)
 
 pub clear-spec : {M : Type 1} → statement M
 clear-spec =
