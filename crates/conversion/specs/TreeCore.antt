@@ -17,7 +17,7 @@ use Rattle.theory.specs.Lists.{getD-default}
 use Rattle.theory.specs.Tree.{treeExpand, treeAdjoint}
 use Rattle.theory.specs.TreeExpand.{tree-expand-accepted}
 use Rattle.theory.specs.TreeAdjoint.{tree-adjoint-accepted}
-use Rattle.subproduct.specs.Build.{familyOf}
+use Rattle.subproduct.specs.Leaf.{familyOf}
 use Rattle.tree.specs.Core.{Input, Output}
 use Rattle.checks.specs.Calls.{list-stays}
 use Rattle.conversion.specs.PlainCall.{tests-passed}

@@ -8,12 +8,13 @@
 -- Assumes nothing.
 use mathlib.Core.Path.{_≡_, sym, _∙_, ap, ap₂}
 use mathlib.Core.List.{List}
-use Prim.Native.Nat.{ℕ, zero, suc, _+_, _*_, _-_, _%_, _≤_, _<_}
+use mathlib.Core.Logic.{inl, inr}
+use Prim.Native.Nat.{ℕ, _+_, _*_, _-_, _%_, _≤_, _<_}
 use native.Mathlib.Nat.{mul-le-mul-left, mul-one, zero-add, mod-lt, mod-add-mod}
 use native.Mathlib.Omega.{arith}
 use lib.ListN.{length, getD, take, drop, set}
 use Rattle.definitions.specs.Family.{greatestModulus}
-use Rattle.theory.specs.Regions.{part, written, Apart, ResiduesIn, part-length, part-slice, part-below, kept-part, kept-residues, Writing, writing-kept, writing-next, writing-ends}
+use Rattle.theory.specs.Regions.{part, written, Apart, ResiduesIn, KeptOutside, part-length, part-slice, part-below, kept-part, kept-residues, Writing, writing-kept, writing-next, writing-ends}
 use Rattle.theory.specs.Products.{Below, productAt, plusProducts, transposedAt, transposed, transposedSum}
 use Rattle.products.specs.Sums.{Congruent, ProductInput, TransposedInput}
 
@@ -68,6 +69,23 @@ pub record TransposedPlaces (m : ℕ) (w : List ℕ) (target n p q pn v u vn : �
 
 unfoldable pub transposedEntry : ℕ → List ℕ → ℕ → ℕ → ℕ → ℕ → ℕ → ℕ → ℕ → ℕ
 transposedEntry m w p q pn v u vn i = (transposedAt (part w p pn) (part w v vn) i + transposedAt (part w q pn) (part w u vn) i) % m
+
+-- ---- parts that lie apart from what is written
+pub aside-within : (m : ℕ) (w : List ℕ) (lo hi at n lo′ hi′ at′ n′ : ℕ) → Aside m w lo hi at n → lo ≤ lo′ → hi′ ≤ hi → at ≤ at′ → at′ + n′ ≤ at + n → Aside m w lo′ hi′ at′ n′
+aside-within m w lo hi at n lo′ hi′ at′ n′ h a b c d = record {
+  source = record { inside = omega (arith, h .source .inside); below = λ i p q. h .source .below i (omega arith) (omega arith) };
+  apart = narrower (h .apart);
+}
+  where
+    narrower : Apart lo hi at n → Apart lo′ hi′ at′ n′
+    narrower (inl p) = inl (omega arith)
+    narrower (inr p) = inr (omega arith)
+
+pub aside-kept : (m lo hi : ℕ) (w w′ : List ℕ) (at n : ℕ) → KeptOutside lo hi w w′ → Aside m w lo hi at n → Aside m w′ lo hi at n
+aside-kept m lo hi w w′ at n k h = record {
+  source = record { inside = omega (arith, h .source .inside, k .long); below = kept-residues lo hi w w′ k m at n (h .apart) (h .source .below) };
+  apart = h .apart;
+}
 
 -- ---- one coefficient
 -- what a slice lends is the part
@@ -170,9 +188,6 @@ module _ (m : ℕ) (w₀ : List ℕ) (target n : ℕ) (f : ℕ → ℕ) (w : Lis
   }
 
 module _ (m : ℕ) (w₀ : List ℕ) (target n t tn p r pn q s qn : ℕ) (places : ProductPlaces m w₀ target n t tn p r pn q s qn) (w : List ℕ) (k : ℕ) (l : k < n) (h : Writing w₀ target n (productEntry m w₀ t tn p r pn q s qn) w k) where
-  pub product-entry-inside : t + tn ≤ length w
-  product-entry-inside = aside-source m w₀ target n (productEntry m w₀ t tn p r pn q s qn) w k h t tn (places .tAside) .inside
-
   source : (at c : ℕ) → Aside m w₀ target (target + n) at c → Source m w at c
   source = aside-source m w₀ target n (productEntry m w₀ t tn p r pn q s qn) w k h
 

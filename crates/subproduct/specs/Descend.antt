@@ -1,9 +1,8 @@
 -- Adjoint down a stored tree, by recursion.
 --   descended m w tree l v   the span l entries of the answer, from a pair v of lists of span l numbers, by the matrices that are
 --                            stored in w from place tree on
---   listsAt w p q n          the pair of the n numbers from place p and of those from place q on
---   LowerPlaces, DescendInput, DescendOutput   what each function is handed, and what the recursion leaves: the entries from place at
---                            on, scratch behind them
+--   DescendInput, DescendOutput   what the recursion is handed, and what it leaves: the entries from place at on, scratch behind them
+--   DescendSizes             what the sizes come to at a tree of more than one pair
 -- Proved: by a stored tree of a family these are the model's entries; they rest on nothing but the stored tree and the pair; and the
 -- recursion's steps. Assumes nothing.
 use mathlib.Core.Path.{_≡_, refl, sym, _∙_, ap, ap₂}
@@ -12,33 +11,21 @@ use mathlib.Core.Logic.{inl, inr}
 use Prim.Native.Nat.{ℕ, zero, suc, _+_, _*_, _-_, _/_, _≤_, _<_}
 use native.Mathlib.Nat.{add-zero}
 use native.Mathlib.Omega.{arith}
-use lib.ListN.{length, getD, take, set, length-append}
+use lib.ListN.{length, getD, set, length-append}
 use Rattle.definitions.specs.Family.{Family, greatestModulus}
-use Rattle.theory.specs.Level.{span, span-zero, span-suc, span-two}
-use Rattle.theory.specs.Regions.{part, written, Apart, ResiduesIn, KeptOutside, part-entry, part-take, part-both, part-residues, part-written, written-one, written-more, written-then, written-kept, kept-wider, kept-then, kept-part, kept-residues}
-use Rattle.theory.specs.Products.{Below, transposedSum, transposedSum-length}
+use Rattle.theory.specs.Level.{span}
+use Rattle.theory.specs.Regions.{part, written, Apart, ResiduesIn, KeptOutside, part-entry, part-take, part-both, part-residues, part-written, written-one, written-more, written-kept, kept-wider, kept-then, kept-part, kept-residues}
 use Rattle.theory.specs.Tree.{Pair, node, firstTerms, lower, down}
-use Rattle.theory.specs.TreeLengths.{PairLength, lower-length}
+use Rattle.theory.specs.TreeLengths.{lower-length}
 use Rattle.theory.specs.TreeBelow.{lower-below}
-use Rattle.products.specs.Places.{Source, Aside, TransposedPlaces}
-use Rattle.subproduct.specs.Layout.{Level, Halves, treeSize, treeList, nodePlace, pairList, matrixAt, pairAt, level-halves, level-one, treeSize-suc, treeSize-node, pairList-length, pair-reads, tree-left, tree-right, tree-matrix, matrixAt-kept, pairList-below}
-use Rattle.subproduct.specs.Build.{aside-within, aside-kept}
+use Rattle.products.specs.Places.{Aside, aside-within, aside-kept}
+use Rattle.subproduct.specs.Layout.{listsAt, listsAt-kept, Level, Halves, treeSize, treeList, nodePlace, pairList, matrixAt, pairAt, level-halves, level-one, treeSize-suc, treeSize-node, pairList-length, pair-reads, tree-left, tree-right, tree-matrix, matrixAt-kept, pairList-below}
+use Rattle.subproduct.specs.Lower.{LowerPlaces}
 
 unfoldable pub descended : ℕ → List ℕ → ℕ → ℕ → Pair → List ℕ
 descended m w tree zero v = getD (v .v0) 0 0 ∷ getD (v .v1) 0 0 ∷ []
 descended m w tree (suc l) v =
     descended m w tree l (firstTerms (span l) v) ++ descended m w (tree + treeSize l) l (lower m (span l) (matrixAt w (tree + nodePlace l) (suc (span l))) v)
-
-unfoldable pub listsAt : List ℕ → ℕ → ℕ → ℕ → Pair
-listsAt w p q n = record { v0 = part w p n; v1 = part w q n }
-
-pub record LowerPlaces (m : ℕ) (w : List ℕ) (target n matrix qn first second vn : ℕ) : Type 0 where
-  pub least : 0 < m
-  pub most : m ≤ greatestModulus
-  pub room : target + (n + n) ≤ length w
-  pub matrixAside : Aside m w target (target + (n + n)) matrix (4 * qn)
-  pub firstAside : Aside m w target (target + (n + n)) first vn
-  pub secondAside : Aside m w target (target + (n + n)) second vn
 
 pub record DescendInput (m : ℕ) (w : List ℕ) (tree first second at level pairs : ℕ) : Type 0 where
   pub least : 0 < m
@@ -87,10 +74,6 @@ module _ (m lo hi : ℕ) (w w′ : List ℕ) (kept : KeptOutside lo hi w w′) w
       inner p k a b (inl h) = inl (omega arith)
       inner p k a b (inr h) = inr (omega arith)
 
-  pub listsAt-kept : (p q n : ℕ) → Apart lo hi p n → Apart lo hi q n → listsAt w′ p q n ≡ listsAt w p q n
-  unfolding listsAt
-  listsAt-kept p q n a b = rw (kept-part lo hi w w′ kept p n a, kept-part lo hi w w′ kept q n b)
-
 pub descended-length : (m : ℕ) (w : List ℕ) (tree l : ℕ) (v : Pair) → length (descended m w tree l v) ≡ span l
 unfolding descended span
 descended-length m w tree zero v = refl
@@ -101,67 +84,6 @@ descended-length m w tree (suc l) v =
 listsAt-first : (w : List ℕ) (p q n k : ℕ) → k ≤ n → firstTerms k (listsAt w p q n) ≡ listsAt w p q k
 unfolding firstTerms listsAt
 listsAt-first w p q n k h = rw (part-take w n k p h, part-take w n k q h)
-
--- ---- the pair of the right half: transposed products with the left half's matrix
-module _ (m : ℕ) (w : List ℕ) (target n matrix qn first second vn : ℕ) (places : LowerPlaces m w target n matrix qn first second vn) where
-  abbrev loweredFirst : List ℕ
-  loweredFirst = transposedSum m n (part w matrix qn) (part w first vn) (part w (matrix + qn) qn) (part w second vn)
-
-  pub lower-first : TransposedPlaces m w target n matrix (matrix + qn) qn first second vn
-  lower-first =
-      let room : target + (n + n) ≤ length w = places .room in
-      record {
-        least = places .least;
-        most = places .most;
-        room = omega arith;
-        pAside = aside-within m w target (target + (n + n)) matrix (4 * qn) target (target + n) matrix qn (places .matrixAside) (omega arith) (omega arith) (omega arith) (omega arith);
-        qAside = aside-within m w target (target + (n + n)) matrix (4 * qn) target (target + n) (matrix + qn) qn (places .matrixAside) (omega arith) (omega arith) (omega arith) (omega arith);
-        vAside = aside-within m w target (target + (n + n)) first vn target (target + n) first vn (places .firstAside) (omega arith) (omega arith) (omega arith) (omega arith);
-        uAside = aside-within m w target (target + (n + n)) second vn target (target + n) second vn (places .secondAside) (omega arith) (omega arith) (omega arith) (omega arith);
-      }
-
-  module _ (w₁ : List ℕ) (e₁ : w₁ ≡ written w target loweredFirst) where
-    first-length : length loweredFirst ≡ n
-    first-length = transposedSum-length m n (part w matrix qn) (part w first vn) (part w (matrix + qn) qn) (part w second vn)
-
-    lower-kept : KeptOutside target (target + (n + n)) w w₁
-    lower-kept =
-        let room : target + (n + n) ≤ length w = places .room in
-        rw e₁ (kept-wider target (target + length loweredFirst) target (target + (n + n)) w (written w target loweredFirst) (omega arith) (omega (arith, first-length))
-        (written-kept w target loweredFirst (omega (arith, first-length))))
-
-    pub lower-second : TransposedPlaces m w₁ (target + n) n (matrix + (qn + qn)) (matrix + (qn + qn) + qn) qn first second vn
-    lower-second =
-        let room : target + (n + n) ≤ length w = places .room in
-        let matrixStill : Aside m w₁ target (target + (n + n)) matrix (4 * qn) = aside-kept m target (target + (n + n)) w w₁ matrix (4 * qn) lower-kept (places .matrixAside) in
-        let firstStill : Aside m w₁ target (target + (n + n)) first vn = aside-kept m target (target + (n + n)) w w₁ first vn lower-kept (places .firstAside) in
-        let secondStill : Aside m w₁ target (target + (n + n)) second vn = aside-kept m target (target + (n + n)) w w₁ second vn lower-kept (places .secondAside) in
-        record {
-          least = places .least;
-          most = places .most;
-          room = omega (arith, lower-kept .long);
-          pAside = aside-within m w₁ target (target + (n + n)) matrix (4 * qn) (target + n) (target + n + n) (matrix + (qn + qn)) qn matrixStill (omega arith) (omega arith) (omega arith) (omega arith);
-          qAside = aside-within m w₁ target (target + (n + n)) matrix (4 * qn) (target + n) (target + n + n) (matrix + (qn + qn) + qn) qn matrixStill (omega arith) (omega arith) (omega arith) (omega arith);
-          vAside = aside-within m w₁ target (target + (n + n)) first vn (target + n) (target + n + n) first vn firstStill (omega arith) (omega arith) (omega arith) (omega arith);
-          uAside = aside-within m w₁ target (target + (n + n)) second vn (target + n) (target + n + n) second vn secondStill (omega arith) (omega arith) (omega arith) (omega arith);
-        }
-
-    pub lower-written : (w₂ : List ℕ) → w₂ ≡ written w₁ (target + n) (transposedSum m n (part w₁ (matrix + (qn + qn)) qn) (part w₁ first vn) (part w₁ (matrix + (qn + qn) + qn) qn) (part w₁ second vn))
-        → w₂ ≡ written w target (pairList (lower m n (matrixAt w matrix qn) (listsAt w first second vn)))
-    unfolding lower listsAt matrixAt pairList
-    lower-written w₂ e₂ =
-        let within : (p : ℕ) → matrix ≤ p → p + qn ≤ matrix + 4 * qn → part w₁ p qn ≡ part w p qn
-        = λ p a b. kept-part target (target + (n + n)) w w₁ lower-kept p qn (aside-within m w target (target + (n + n)) matrix (4 * qn) target (target + (n + n)) p qn (places .matrixAside) (omega arith) (omega arith) a b .apart) in
-        let e : transposedSum m n (part w₁ (matrix + (qn + qn)) qn) (part w₁ first vn) (part w₁ (matrix + (qn + qn) + qn) qn) (part w₁ second vn)
-        ≡ transposedSum m n (part w (matrix + (qn + qn)) qn) (part w first vn) (part w (matrix + (qn + qn) + qn) qn) (part w second vn)
-        = rw (
-          within (matrix + (qn + qn)) (omega arith) (omega arith),
-          within (matrix + (qn + qn) + qn) (omega arith) (omega arith),
-          kept-part target (target + (n + n)) w w₁ lower-kept first vn (places .firstAside .apart),
-          kept-part target (target + (n + n)) w w₁ lower-kept second vn (places .secondAside .apart),
-        ) in
-        let long : length (transposedSum m n (part w (matrix + (qn + qn)) qn) (part w first vn) (part w (matrix + (qn + qn) + qn) qn) (part w second vn)) ≡ n = transposedSum-length m n _ _ _ _ in
-        written-then w target loweredFirst (target + n) _ w₁ w₂ (omega (arith, places .room, first-length)) (ap (λ x. target + x) (sym first-length)) e₁ (e₂ ∙ ap (written w₁ (target + n)) e)
 
 -- ---- one pair of rows
 pub two-written : (w : List ℕ) (at x y : ℕ) → at + 2 ≤ length w → set (set w at x) (at + 1) y ≡ written w at (x ∷ y ∷ [])
@@ -271,7 +193,7 @@ module _ (m : ℕ) (w : List ℕ) (tree first second at level pairs : ℕ) (h : 
           lowered-is : lower m pairs (matrixAt w₁ (tree + size - 4 * (pairs + 1)) (pairs + 1)) (listsAt w₁ first second (pairs + pairs))
               ≡ lower m pairs (matrixAt w (tree + size - 4 * (pairs + 1)) (pairs + 1)) (listsAt w first second (pairs + pairs))
           lowered-is = ap₂ (lower m pairs) (matrixAt-kept at (at + 6 * pairs) w w₁ left-kept (tree + size - 4 * (pairs + 1)) (pairs + 1) node-apart)
-              (listsAt-kept m at (at + 6 * pairs) w w₁ left-kept first second (pairs + pairs) (firstApart .apart) (secondApart .apart))
+              (listsAt-kept at (at + 6 * pairs) w w₁ left-kept first second (pairs + pairs) (firstApart .apart) (secondApart .apart))
 
           long-lowered : length (pairList (lower m pairs (matrixAt w (tree + size - 4 * (pairs + 1)) (pairs + 1)) (listsAt w first second (pairs + pairs)))) ≡ pairs + pairs
           long-lowered = pairList-length pairs _ (lower-length m pairs (matrixAt w (tree + size - 4 * (pairs + 1)) (pairs + 1)) (listsAt w first second (pairs + pairs)))

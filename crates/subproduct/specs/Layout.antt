@@ -3,6 +3,7 @@
 --   treeList f l t    the stored tree: the left half's, the right half's, then the four lists of the node
 --   nodePlace l       where the node's lists begin in it; each has span l + 1 numbers
 --   matrixAt w at n, pairAt w at n    the matrix, the pair, whose lists of n numbers lie in w side by side from place at on
+--   listsAt w p q n   the pair of the n numbers from place p and of those from place q on
 --   Level level pairs the level of a tree over that many pairs of rows, 7 at most
 -- The tree is stored from place 0 on; vectors and scratch lie behind it, from 9,212 on, and take 6 spans at most, so that all of it
 -- fits the 16,384 numbers. Proved: lengths and places; that a stored tree holds its halves and its node; entries below m.
@@ -14,7 +15,7 @@ use Prim.Native.Nat.{ℕ, zero, suc, _+_, _*_, _-_, _/_, _^_, _≤_, _<_}
 use native.Mathlib.Decide.{le-ind}
 use native.Mathlib.Nat.{add-zero, le-refl, mul-suc, add-mul}
 use native.Mathlib.Omega.{arith}
-use lib.ListN.{length, getD, length-append}
+use lib.ListN.{length, length-append}
 use Rattle.definitions.specs.Family.{Family, rowAt}
 use Rattle.theory.specs.Level.{span, span-zero, span-suc, span-two, span-power}
 use Rattle.theory.specs.Regions.{part, Apart, KeptOutside, part-left, part-right, kept-part}
@@ -46,6 +47,9 @@ matrixAt w at n = record { e00 = part w at n; e01 = part w (at + n) n; e10 = par
 
 unfoldable pub pairAt : List ℕ → ℕ → ℕ → Pair
 pairAt w at n = record { v0 = part w at n; v1 = part w (at + n) n }
+
+unfoldable pub listsAt : List ℕ → ℕ → ℕ → ℕ → Pair
+listsAt w p q n = record { v0 = part w p n; v1 = part w q n }
 
 pub record Level (level pairs : ℕ) : Type 0 where
   pub most : level ≤ 7
@@ -97,6 +101,12 @@ treeSize-value (suc l) =
     doubled s k =
         let e : 4 * (s + s) ≡ 4 * s + 4 * s = omega arith in
         ap (λ x. x * suc k) e ∙ mul-suc (4 * s + 4 * s) k ∙ ap (λ x. x + (4 * s + 4 * s)) (add-mul (4 * s) (4 * s) k)
+
+-- the same, as code computes it
+pub size-value : (level pairs : ℕ) → Level level pairs → 8 * pairs * (level + 2) ≡ treeSize level + 4
+size-value level pairs h =
+    let e : 8 * pairs ≡ 4 * span level = omega (arith, h .covers) in
+    ap (λ x. x * (level + 2)) e ∙ sym (treeSize-value level)
 
 pub treeSize-most : (l : ℕ) → l ≤ 7 → treeSize l ≤ 9212
 unfolding treeSize span
@@ -186,6 +196,10 @@ module _ (lo hi : ℕ) (w w′ : List ℕ) (kept : KeptOutside lo hi w w′) (at
     still (4 * n) (at + (n + n)) h (omega arith) (omega arith),
     still (4 * n) (at + (n + n) + n) h (omega arith) (omega arith),
   )
+
+pub listsAt-kept : (lo hi : ℕ) (w w′ : List ℕ) → KeptOutside lo hi w w′ → (p q n : ℕ) → Apart lo hi p n → Apart lo hi q n → listsAt w′ p q n ≡ listsAt w p q n
+unfolding listsAt
+listsAt-kept lo hi w w′ kept p q n a b = rw (kept-part lo hi w w′ kept p n a, kept-part lo hi w w′ kept q n b)
 
 -- ---- entries below m
 append-below : (m : ℕ) (xs ys : List ℕ) → Below m xs → Below m ys → Below m (xs ++ ys)

@@ -1,5 +1,8 @@
 -- What the contracts of this crate cite, and the mathematics of its recursions. Assumes nothing.
 pub mod Layout
+pub mod Leaf
+pub mod Join
 pub mod Build
 pub mod Climb
+pub mod Lower
 pub mod Descend

@@ -3,30 +3,29 @@
 --   TreeOutput    what they leave before the working list is cleared;  Output  after it
 -- The tree lies from place 0 on, the vectors from place 9,212 on. Proved: each step is handed what it requires, and the model's list comes
 -- out. For n = 1 there is no tree, and the answer is that of F_0. Assumes nothing.
-use mathlib.Core.Path.{_≡_, refl, sym, _∙_, ap, ap₂}
+use mathlib.Core.Path.{_≡_, sym, _∙_, ap, ap₂}
 use mathlib.Core.List.{List, [], _∷_, _++_}
-use mathlib.Core.Logic.{inl, inr}
+use mathlib.Core.Logic.{inl}
 use Prim.Native.Nat.{ℕ, zero, suc, _+_, _*_, _-_, _%_, _≤_, _<_}
 use native.Mathlib.Decide.{decLt}
-use native.Mathlib.Nat.{mod-lt}
 use native.Mathlib.Omega.{arith}
 use lib.ListN.{length, getD, take, drop, set, replicate, List·getD-eq-default}
 use lib.Seq.{length-take-le, getD-take, set-split}
-use Rattle.definitions.specs.Family.{Family, Row, Modulus, greatestModulus, rows, size, rowAt}
+use Rattle.definitions.specs.Family.{Modulus, rows, size, rowAt}
 use Rattle.definitions.specs.Refusals.{workLength}
 use Rattle.definitions.specs.Answers.{cleared}
-use Rattle.theory.specs.Level.{span, span-two, levelFor, level-covers, level-least, level-most}
+use Rattle.theory.specs.Level.{span, levelFor, level-covers, level-least, level-most}
 use Rattle.theory.specs.Regions.{part, written, ResiduesIn, KeptOutside, part-take, part-residues, part-written, written-kept, kept-wider, kept-then, kept-part, kept-residues, kept-drop}
-use Rattle.theory.specs.Products.{Below, plusProduct, transposed-below}
-use Rattle.theory.specs.Tree.{Pair, F₀, F₁, padded, up, expandAt, treeExpand, down, rootPair, adjointAt, treeAdjoint}
+use Rattle.theory.specs.Products.{Below, plusProduct}
+use Rattle.theory.specs.Tree.{F₁, padded, up, expandAt, treeExpand, down, rootPair, adjointAt, treeAdjoint}
 use Rattle.theory.specs.TreeClauses.{treeExpand-tree, treeExpand-alone, treeAdjoint-tree, treeAdjoint-alone}
 use Rattle.theory.specs.TreeLengths.{PairLength, rootPair-length}
 use Rattle.theory.specs.TreeBelow.{RowBelow, rootPair-below}
-use Rattle.products.specs.Places.{Source, Aside}
-use Rattle.subproduct.specs.Layout.{Level, treeSize, treeList, pairList, pairAt, treeSize-most, treeList-length, treeList-below, pairList-length, pairList-below, pair-reads}
-use Rattle.subproduct.specs.Build.{familyOf, rowOf, RowsInput, BuildInput}
+use Rattle.subproduct.specs.Layout.{treeSize, treeList, pairList, pairAt, listsAt, treeSize-most, treeList-length, treeList-below, pairList-length, pairList-below, pair-reads}
+use Rattle.subproduct.specs.Leaf.{familyOf, rowOf}
+use Rattle.subproduct.specs.Build.{RowsInput, BuildInput}
 use Rattle.subproduct.specs.Climb.{ClimbInput, ClimbOutput, climbed, climbed-up, climbed-length, climbed-below}
-use Rattle.subproduct.specs.Descend.{DescendInput, DescendOutput, descended, descended-down, listsAt}
+use Rattle.subproduct.specs.Descend.{DescendInput, DescendOutput, descended-down}
 use Rattle.tree.specs.Root.{RootInput, PairInput, rootLists}
 
 pub record Input (m : ℕ) (a b c curve : List ℕ) (n : ℕ) (output work : List ℕ) : Type 0 where

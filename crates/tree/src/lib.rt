@@ -1,8 +1,8 @@
 // Expand and Adjoint by the subproduct tree, on input that is already checked. Both work in the first 16,384 numbers of the working list and
 // leave zeros there: the tree from place 0 on, the vectors and their scratch from place 9,212 on.
 ghost use mathlib.Core.Path.{_≡_};
-ghost use mathlib.Core.List.{[], _∷_, _++_};
-ghost use Prim.Native.Nat.{ℕ, _+_, _*_, _-_, _%_, _≤_, _<_};
+ghost use mathlib.Core.List.{_++_};
+ghost use Prim.Native.Nat.{_+_, _-_, _%_, _≤_, _<_};
 ghost use lib.ListN.{length, getD, take, drop};
 ghost use Rattle.definitions.specs.Answers.{cleared};
 ghost use Rattle.theory.specs.Level.{span, levelFor};
@@ -10,7 +10,7 @@ ghost use Rattle.theory.specs.Regions.{part, written};
 ghost use Rattle.theory.specs.Products.{productAt, plusProduct};
 ghost use Rattle.theory.specs.Tree.{treeExpand, treeAdjoint};
 ghost use Rattle.subproduct.specs.Layout.{pairList};
-ghost use Rattle.subproduct.specs.Build.{familyOf};
+ghost use Rattle.subproduct.specs.Leaf.{familyOf};
 ghost use Rattle.tree.specs.Root.{RootInput, CoefficientInput, PairInput, rootLists};
 ghost use Rattle.tree.specs.Core.{Input, TreeOutput, Output};
 use products::product_at;

@@ -1,58 +1,43 @@
+-- `tree::adjoint` meets its contract: with one entry there is no tree; otherwise the tree's answer stands, and the working list is cleared behind it. Assumes nothing.
 use mathlib.Core.Path.{refl}
 use Rattle.tree.specs.Core.{alone-adjoint, wiped-output}
 use borrow.Author.Needs.{needs}
 use Rattle.tree.proofs.adjoint.Statement.{statement}
 use Rattle.tree.proofs.adjoint.Tie as tie
-use Rattle.tree.proofs.adjoint.Reads as reads
-use Rattle.tree.proofs.adjoint.Lts as lts
-use Rattle.tree.proofs.adjoint_tree.Reads as adjoint-tree-reads
-use Rattle.tree.proofs.clear.Reads as clear-reads
 
--- src/lib.rt:188:21
 shared-slice-read-output : tie.Need-shared-slice-read-output
 shared-slice-read-output c = search needs
 
--- src/lib.rt:188:21
 rem-output : tie.Need-rem-output
 rem-output c = search needs
 
--- src/lib.rt:188:9
 slice-write-output : tie.Need-slice-write-output
 slice-write-output c = search needs
 
--- src/lib.rt:189:9
 clear-requires : tie.Need-clear-requires
 clear-requires c κs = search needs
 
--- src/lib.rt:190:9
 same-length : tie.Need-same-length
 same-length c = search needs
 
--- src/lib.rt:190:9
 same-length-2 : tie.Need-same-length-2
 same-length-2 c = search needs
 
--- src/lib.rt:190:9
 returns : tie.Need-returns
 returns c = alone-adjoint _ _ _ _ _ _ _ _ (c .before .before .before .before .before .before .before .before .before .before .before .before .pre) (c .before .before .before .before .before .if1 .taken) _ _ refl (c .before .before .clear .ensures)
 
--- src/lib.rt:192:5
 adjoint-tree-requires : tie.Need-adjoint-tree-requires
 adjoint-tree-requires c κs = search needs
 
--- src/lib.rt:193:5
 clear-requires-2 : tie.Need-clear-requires-2
 clear-requires-2 c κs = search needs
 
--- src/lib.rt:174:1
 same-length-3 : tie.Need-same-length-3
 same-length-3 c = search needs
 
--- src/lib.rt:174:1
 same-length-4 : tie.Need-same-length-4
 same-length-4 c = search needs
 
--- src/lib.rt:174:1
 returns-2 : tie.Need-returns-2
 returns-2 c = wiped-output _ _ _ _ _ _ _ (c .before .before .before .before .before .before .before .before .adjoint-tree .ensures) (c .before .before .clear2 .ensures)
 

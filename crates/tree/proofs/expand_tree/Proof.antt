@@ -1,65 +1,46 @@
+-- `tree::expand_tree` meets its contract: each step is handed what it requires, and the last leaves the model's list (`core-expand`). Assumes nothing.
 use native.Mathlib.Omega.{arith}
 use Rattle.tree.specs.Core.{level-fits, span-covers, core-build, core-climb, core-root, core-expand}
 use borrow.Author.Needs.{needs}
 use Rattle.tree.proofs.expand_tree.Statement.{statement}
 use Rattle.tree.proofs.expand_tree.Tie as tie
-use Rattle.tree.proofs.expand_tree.Reads as reads
-use Rattle.tree.proofs.expand_tree.Lts as lts
-use Rattle.subproduct.proofs.build.Reads as build-reads
-use Rattle.subproduct.proofs.climb.Reads as climb-reads
-use Rattle.tree.proofs.expand_root.Reads as expand-root-reads
-use Rattle.tree.proofs.level_for.Reads as level-for-reads
-use Rattle.tree.proofs.pairs_for.Reads as pairs-for-reads
 
--- src/lib.rt:118:9
 level-for-requires : tie.Need-level-for-requires
 level-for-requires c κs = search needs
 
--- src/lib.rt:119:9
 pairs-for-requires : tie.Need-pairs-for-requires
 pairs-for-requires c κs = level-fits _ _ _ _ _ _ _ _ (c .before .before .before .before .before .before .before .pre .0) (c .before .before .before .before .before .before .before .pre .1) _ (c .level-for .ensures)
 
--- src/lib.rt:120:18
 shared-slice-read-t13 : tie.Need-shared-slice-read-t13
 shared-slice-read-t13 c = search needs
 
--- src/lib.rt:120:24
 shared-slice-read-t15 : tie.Need-shared-slice-read-t15
 shared-slice-read-t15 c = search needs
 
--- src/lib.rt:121:23
 sub-build : tie.Need-sub-build
 sub-build c = search needs
 
--- src/lib.rt:121:5
 build-requires : tie.Need-build-requires
 build-requires c κs = core-build _ _ _ _ _ _ _ _ (c .before .before .before .before .before .before .before .before .before .before .before .pre .0) (c .before .before .before .before .before .before .before .before .before .before .before .pre .1) _ (c .before .before .before .before .level-for .ensures) _ (c .before .before .before .pairs-for .ensures)
 
--- src/lib.rt:122:5
 climb-requires : tie.Need-climb-requires
 climb-requires c κs = core-climb _ _ _ _ _ _ _ _ (c .before .before .before .before .before .before .before .before .before .before .before .before .before .before .before .pre .0) (c .before .before .before .before .before .before .before .before .before .before .before .before .before .before .before .pre .1) _ (c .before .before .before .before .before .before .before .before .level-for .ensures) _ (c .before .before .before .before .before .before .before .pairs-for .ensures) _ (c .before .before .before .build .ensures)
 
--- src/lib.rt:123:32
 add-expand-root : tie.Need-add-expand-root
 add-expand-root c = omega (arith, span-covers _ _ _ _ _ _ _ _ (c .before .before .before .before .before .before .before .before .before .before .before .before .before .before .before .before .before .before .before .pre .0) (c .before .before .before .before .before .before .before .before .before .before .before .before .before .before .before .before .before .before .before .pre .1) _ (c .before .before .before .before .before .before .before .before .before .before .before .before .level-for .ensures) _ (c .before .before .before .before .before .before .before .before .before .before .before .pairs-for .ensures))
 
--- src/lib.rt:123:47
 slice-aggregate-expand-root : tie.Need-slice-aggregate-expand-root
 slice-aggregate-expand-root c = search needs
 
--- src/lib.rt:123:5
 expand-root-requires : tie.Need-expand-root-requires
 expand-root-requires c κs = core-root _ _ _ _ _ _ _ _ (c .before .before .before .before .before .before .before .before .before .before .before .before .before .before .before .before .before .before .before .before .before .pre .0) (c .before .before .before .before .before .before .before .before .before .before .before .before .before .before .before .before .before .before .before .before .before .pre .1) _ (c .before .before .before .before .before .before .before .before .before .before .before .before .before .before .level-for .ensures) _ (c .before .before .before .before .before .before .before .before .before .before .before .before .before .pairs-for .ensures) _ (c .before .before .before .before .before .before .before .before .before .build .ensures) _ (c .before .before .before .before .before .climb .ensures)
 
--- src/lib.rt:105:1
 same-length : tie.Need-same-length
 same-length c = search needs
 
--- src/lib.rt:105:1
 same-length-2 : tie.Need-same-length-2
 same-length-2 c = search needs
 
--- src/lib.rt:105:1
 returns : tie.Need-returns
 returns c = core-expand _ _ _ _ _ _ _ _ (c .before .before .before .before .before .before .before .before .before .before .before .before .before .before .before .before .before .before .before .before .before .before .before .before .pre .0) (c .before .before .before .before .before .before .before .before .before .before .before .before .before .before .before .before .before .before .before .before .before .before .before .before .pre .1) _ (c .before .before .before .before .before .before .before .before .before .before .before .before .before .before .before .before .before .level-for .ensures) _ (c .before .before .before .before .before .before .before .before .before .before .before .before .before .before .before .before .pairs-for .ensures) _ (c .before .before .before .before .before .before .before .before .before .before .before .before .build .ensures) _ (c .before .before .before .before .before .before .before .before .climb .ensures) _ (c .before .before .expand-root .ensures)
 
