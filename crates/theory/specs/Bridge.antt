@@ -3,26 +3,25 @@
 --   ringRows m pos row   rows of numbers as rows of residues
 --   rowsOf f pos         the rows of a family, the closing row from row n on
 -- Proves that the residues of F_j and G_j are the terms of the recurrence over the ring, that the entries of Expand and
--- Adjoint are sums in it, and that these lists are curves, so that their residues settle them.
+-- Adjoint are sums in it, and that these lists are curves, which their residues settle.
 -- pos, that m is not zero, is all that is needed: no inverse, and nothing of the rows or of the curve. Assumes nothing.
 use mathlib.Core.Path.{_≡_, refl, sym, _∙_, ap, fun-ext}
 use mathlib.Core.List.{List}
 use Prim.Native.Nat.{ℕ, zero, suc, _+_, _*_, _%_, _<_}
 use native.Mathlib.Nat.{mod-lt}
-use native.Mathlib.Omega.{arith}
-use lib.ListN.{length, getD}
-use lib.Seq.{ext-getD}
-use Rattle.algebra.specs.Residues.{Zmod, res, res-zero, res-one, res-add, res-mul, res-mod, res-injective}
-use Rattle.algebra.specs.Residues as Residues
+use lib.ListN.{getD}
+use Rattle.algebra.specs.Residues.{Zmod, res, res-zero, res-one, res-add, res-mul, res-mod}
 use Rattle.algebra.specs.Ring.{CommRing}
 use Rattle.algebra.specs.Sum as Sum
 use Rattle.algebra.specs.Variable.{shift}
 use Rattle.definitions.specs.Conversion.{expand, adjoint}
 use Rattle.definitions.specs.Family as Family
 use Rattle.definitions.specs.Family.{Family, Row, Curve, size, rowAt, timesX, F, G}
-use Rattle.definitions.specs.Number.{sum, table}
-use Rattle.theory.specs.Lists.{table-length, table-entry, table-below}
+use Rattle.definitions.specs.Number.{sum}
+use Rattle.theory.specs.Curves.{table-curve}
+use Rattle.theory.specs.Lists.{table-entry}
 use Rattle.theory.specs.Recurrence.{Rows, later, term, term-step}
+use Rattle.theory.specs.Residue.{residue-sum}
 
 module _ (m : ℕ) (pos : 0 < m) where
   abbrev R : CommRing
@@ -37,10 +36,6 @@ module _ (m : ℕ) (pos : 0 < m) where
 
   abbrev pub ringRows : (ℕ → Row) → Rows R
   ringRows row = record { a = λ i. res m pos (row i .a); b = λ i. res m pos (row i .b); c = λ i. res m pos (row i .c) }
-
-  pub res-sum : (n : ℕ) (f : ℕ → ℕ) → res m pos (sum n f) ≡ Sum.sum R n (λ i. res m pos (f i))
-  unfolding sum
-  res-sum n f = Residues.res-sum m pos (λ n. sum n f) f refl (λ n. refl) n
 
   res-timesX : (p : ℕ → ℕ) (i : ℕ) → res m pos (timesX p i) ≡ shift R (λ j. res m pos (p j)) i
   unfolding timesX
@@ -90,27 +85,19 @@ module _ (f : Family) (pos : 0 < f .m) where
       → entries (f .m) pos (expand f u) i ≡ Sum.sum Q (size f) (λ j. entries (f .m) pos u j ⊗ term Q rowsOf (suc j) i)
   unfolding expand
   entries-expand u i h = ap (res (f .m) pos) (table-entry (size f) (λ i. sum (size f) (λ j. getD u j 0 * F f j i) % f .m) i 0 h)
-      ∙ simp (res-mod (f .m) pos, res-sum (f .m) pos, res-mul (f .m) pos, res-F)
+      ∙ simp (res-mod (f .m) pos, residue-sum (f .m) pos, res-mul (f .m) pos, res-F)
 
   pub entries-adjoint : (u : List ℕ) (j : ℕ) → j < size f
       → entries (f .m) pos (adjoint f u) j ≡ Sum.sum Q (size f) (λ i. entries (f .m) pos u i ⊗ term Q rowsOf (suc j) i)
   unfolding adjoint
   entries-adjoint u j h = ap (res (f .m) pos) (table-entry (size f) (λ j. sum (size f) (λ i. getD u i 0 * F f j i) % f .m) j 0 h)
-      ∙ simp (res-mod (f .m) pos, res-sum (f .m) pos, res-mul (f .m) pos, res-F)
+      ∙ simp (res-mod (f .m) pos, residue-sum (f .m) pos, res-mul (f .m) pos, res-F)
 
   -- ---- curves
-  pub table-curve : (g : ℕ → ℕ) → ((i : ℕ) → i < size f → g i < f .m) → Curve f (table (size f) g)
-  table-curve g h = record { long = table-length (size f) g; below = table-below (f .m) (size f) g h }
-
   pub expand-curve : (u : List ℕ) → Curve f (expand f u)
   unfolding expand
-  expand-curve u = table-curve _ (λ i h. mod-lt _ pos)
+  expand-curve u = table-curve f _ (λ i h. mod-lt _ pos)
 
   pub adjoint-curve : (u : List ℕ) → Curve f (adjoint f u)
   unfolding adjoint
-  adjoint-curve u = table-curve _ (λ i h. mod-lt _ pos)
-
-  -- two curves are equal if their residues are
-  pub curve-equal : (u v : List ℕ) → Curve f u → Curve f v → ((i : ℕ) → i < size f → entries (f .m) pos u i ≡ entries (f .m) pos v i) → u ≡ v
-  curve-equal u v cu cv e = let lu : length u ≡ size f = cu .long in let lv : length v ≡ size f = cv .long in
-      ext-getD 0 u v (omega arith) (λ i h. res-injective (f .m) pos (getD u i 0) (getD v i 0) (cu .below i (omega arith)) (cv .below i (omega arith)) (e i (omega arith)))
+  adjoint-curve u = table-curve f _ (λ i h. mod-lt _ pos)

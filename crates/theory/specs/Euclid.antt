@@ -21,8 +21,8 @@ pub record GreatestFactor (g x m : ℕ) : Type 0 where
   pub dividesSecond : g ∣ m
   pub greatest : (d : ℕ) → d ∣ x → d ∣ m → d ∣ g
 
-pub greatest-factor-unique : (g g′ x m : ℕ) → GreatestFactor g x m → GreatestFactor g′ x m → g ≡ g′
-greatest-factor-unique g g′ x m p q =
+pub greatest-factor-unique : {g g′ x m : ℕ} → GreatestFactor g x m → GreatestFactor g′ x m → g ≡ g′
+greatest-factor-unique {g} {g′} p q =
     dvd-antisymm (q .greatest g (p .dividesFirst) (p .dividesSecond)) (p .greatest g′ (q .dividesFirst) (q .dividesSecond))
 
 pub greatest-factor-zero : (x : ℕ) → GreatestFactor x x 0

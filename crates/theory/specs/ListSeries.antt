@@ -14,7 +14,7 @@ use Rattle.algebra.specs.Ring.{CommRing}
 use Rattle.algebra.specs.Series.{Ser, gen, co, co-gen, co-zero, co-add, co-mul-sum, ser-ext}
 use Rattle.algebra.specs.Solver.{ring, reify}
 use Rattle.algebra.specs.Sum.{sum-vanish}
-use Rattle.algebra.specs.Variable.{C, X, ser-cons}
+use Rattle.algebra.specs.Variable.{C, X, C-zero, ser-cons}
 use Rattle.definitions.specs.Number.{table}
 use Rattle.theory.specs.Lists.{table-entry, table-past}
 use Rattle.theory.specs.Products.{productAt, plusProduct, plusProducts}
@@ -48,6 +48,10 @@ module _ (m : ℕ) (pos : 0 < m) where
 
   pub series-one : (x : ℕ) → series (x ∷ []) ≡ C R (res m pos x)
   series-one x = series-cons x [] ∙ ap (λ s. C R (res m pos x) + X R * s) series-nil ∙ ring A (C R (res m pos x) ∷ X R ∷ []) (search reify depth 20) tt
+
+  pub series-one-zero : (x : ℕ) → series (x ∷ 0 ∷ []) ≡ C R (res m pos x)
+  series-one-zero x = series-cons x (0 ∷ []) ∙ ap (λ s. C R (res m pos x) + X R * s) (series-one 0 ∙ ap (C R) (res-zero m pos) ∙ C-zero R)
+      ∙ ring A (C R (res m pos x) ∷ X R ∷ []) (search reify depth 20) tt
 
   -- ---- tables
   pub series-table : (n : ℕ) (f : ℕ → ℕ) (s : Series) → ((k : ℕ) → k < n → res m pos (f k) ≡ co R s k) → ((k : ℕ) → n ≤ k → co R s k ≡ 𝟘) → series (table n f) ≡ s

@@ -1,8 +1,9 @@
 -- Lists that are written entry by entry, and lists that a loop fills from the front.
---   filled f k old   old with f 0, .., f (k - 1) in the place of its first k entries
+--   Each P xs d           every entry of xs has P; d is the default by which entries are read
+--   filled f k old        old with f 0, .., f (k - 1) in the place of its first k entries
+--   Filling f k old out   the invariant of a loop that fills a list, at the entry k: out is filled, and as long as old
 -- Proved: length and entries of a table, of a list with one entry more at its end, and of a filled list; a table is settled by its
--- entries and every list is the table of its own; and the three laws of a loop that fills a list: where it begins, one entry more,
--- where it ends.
+-- entries and every list is the table of its own; where such a loop begins, one entry more, and where it ends.
 -- Assumes nothing.
 use mathlib.Core.Path.{_≡_, refl, sym, _∙_, ap}
 use mathlib.Core.List.{List, [], _∷_, _++_, append-assoc, append-nil}
@@ -10,9 +11,12 @@ use Prim.Native.Nat.{ℕ, zero, suc, _+_, _-_, _<_, _≤_}
 use native.Mathlib.Nat.{le-of-suc-le-suc}
 use native.Mathlib.Numerals.{add-one}
 use native.Mathlib.Omega.{arith}
-use lib.ListN.{length, getD, drop, set, length-append, length-drop, drop-of-length-le, List·getD-append, List·getD-eq-default}
+use lib.ListN.{length, getD, drop, set, length-append, length-drop, length-set, drop-of-length-le, List·getD-append, List·getD-eq-default}
 use lib.Seq.{drop-cons, getD-append-add, getD-at, getD-drop, set-at}
 use Rattle.definitions.specs.Number.{table}
+
+abbrev pub Each : (ℕ → Type 0) → List ℕ → ℕ → Type 0
+Each P xs d = (i : ℕ) → i < length xs → P (getD xs i d)
 
 -- below its length an entry does not depend on the default
 pub getD-default : (xs : List ℕ) (i d e : ℕ) → i < length xs → getD xs i d ≡ getD xs i e
@@ -105,3 +109,28 @@ module _ (f : ℕ → ℕ) (old : List ℕ) where
       let e : i ≡ length (table k f) + (i - k) = simp table-length (omega arith) in
       let g : k + (i - k) ≡ i = omega arith in
       ap (λ j. getD (table k f ++ drop k old) j d) e ∙ rw (getD-append-add, getD-drop, g)
+
+-- the invariant of such a loop: out is filled, and as long as old
+pub record Filling (f : ℕ → ℕ) (k : ℕ) (old out : List ℕ) : Type 0 where
+  pub written : out ≡ filled f k old
+  pub sameLength : length out ≡ length old
+
+pub filling-start : {f : ℕ → ℕ} {old : List ℕ} → Filling f 0 old old
+filling-start {f} {old} = record { written = sym (filled-none f old); sameLength = refl }
+
+module _ {f : ℕ → ℕ} {k : ℕ} {old out : List ℕ} (now : Filling f k old out) where
+  pub filling-next : {r : ℕ} → k < length old → r ≡ f k → Filling f (k + 1) old (set out k r)
+  filling-next {r} h e =
+      record { written = rw (now .written, e) (filled-more f old k h); sameLength = length-set out k r ∙ now .sameLength }
+
+  pub filling-stop : (n : ℕ) → k ≡ n → out ≡ filled f n old
+  filling-stop n e = now .written ∙ ap (λ i. filled f i old) e
+
+  pub filling-end : (n : ℕ) → k ≡ n → length old ≡ n → out ≡ table n f
+  filling-end n e l = now .written ∙ rw e (filled-all f old n l)
+
+  pub filling-below : (i d : ℕ) → i < k → getD out i d ≡ f i
+  filling-below i d h = rw (now .written) (filled-below f old k i d h)
+
+  pub filling-from : (i d : ℕ) → k ≤ i → getD out i d ≡ getD old i d
+  filling-from i d h = rw (now .written) (filled-from f old k i d h)

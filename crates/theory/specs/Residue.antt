@@ -8,7 +8,8 @@
 use mathlib.Core.Path.{_≡_, refl, sym, _∙_, ap}
 use mathlib.Core.List.{List}
 use mathlib.Core.Logic.{_↔_}
-use Prim.Native.Nat.{ℕ, _*_, _%_, _<_}
+use Prim.Native.Nat.{ℕ, _*_, _-_, _%_, _<_}
+use native.Mathlib.Nat.{mod-mod}
 use lib.ListN.{length, getD}
 use lib.Seq.{ext-getD}
 use Rattle.algebra.specs.Residues.{Zmod, res, res-zero, res-one, res-add, res-mul, res-mod, res-neg, res-sum, res-injective, inverse-of-unit}
@@ -16,7 +17,12 @@ use Rattle.algebra.specs.Sum as Sum
 use Rattle.algebra.specs.Unit.{IsUnit}
 use Rattle.definitions.specs.Number.{sum, negative, HasInverse, inverse}
 use Rattle.theory.specs.Inverse.{inverse-right}
-use Rattle.theory.specs.Verdicts.{Each}
+use Rattle.theory.specs.Lists.{Each}
+
+-- the negative depends on the remainder only
+pub negative-mod : (m x : ℕ) → negative m (x % m) ≡ negative m x
+unfolding negative
+negative-mod m x = ap (λ t. m - t) (mod-mod x m)
 
 module _ (m : ℕ) (pos : 0 < m) where
   pub residue-sum : (n : ℕ) (f : ℕ → ℕ) → res m pos (sum n f) ≡ Sum.sum (Zmod m pos) n (λ i. res m pos (f i))

@@ -1,6 +1,7 @@
 -- The entries of the tree's lists are below m.
 --   MatrixBelow m x, PairBelow m v   the entries of the matrix x, of the pair v, are below m
 --   RowBelow m row                   the three numbers of a row are
+--   RowsBelow f                      every row's are, and the three lists are equally long
 -- Most entries are remainders. A leaf copies entries of a row, the pair of a leaf copies entries of the curve and `down` those of
 -- its pair, so these must be below m to begin with; of an accepted family and a curve they are, the padding rows too.
 -- Assumes nothing.
@@ -10,16 +11,24 @@ use native.Mathlib.Decide.{decLt}
 use native.Mathlib.Nat.{mod-lt}
 use native.Mathlib.Omega.{arith}
 use lib.ListN.{length, getD, take, List·getD-eq-default}
-use Rattle.definitions.specs.Family.{Family, Row, Accepted, Curve, size, rowAt}
+use Rattle.definitions.specs.Family.{Family, Row, Accepted, Curve, rows, size, rowAt}
+use Rattle.theory.specs.Closing.{EqualLengths, accepted-lengths}
 use Rattle.theory.specs.Level.{span, levelFor}
 use Rattle.theory.specs.Lists.{getD-default}
 use Rattle.theory.specs.Products.{Below, plusProduct-below, plusProducts-below, transposed-below, transposedSum-below}
-use Rattle.theory.specs.Tree.{padded, Matrix, Pair, F₀, F₁, withTree-cases, leaf, join, node, raise, up, expandAt, treeExpand, firstTerms, lower, down, rootPair, adjointAt, treeAdjoint}
+use Rattle.theory.specs.Tree.{padded, Matrix, Pair, F₀, F₁, leaf, join, node, raise, up, expandAt, treeExpand, firstTerms, lower, down, rootPair, adjointAt, treeAdjoint}
+use Rattle.theory.specs.TreeClauses.{withTree-cases}
 
 pub record RowBelow (m : ℕ) (row : Row) : Type 0 where
   pub aBelow : row .a < m
   pub bBelow : row .b < m
   pub cBelow : row .c < m
+
+-- what the tree asks of a family
+pub record RowsBelow (f : Family) : Type 0 where
+  pub positive : 0 < f .m
+  pub lengths : EqualLengths f
+  pub row : (i : ℕ) → i < rows f → RowBelow (f .m) (rowAt f i)
 
 pub record MatrixBelow (m : ℕ) (x : Matrix) : Type 0 where
   pub b00 : Below m (x .e00)
@@ -56,7 +65,7 @@ take-below m (suc n) (x ∷ xs) h zero = h 0
 take-below m (suc n) (x ∷ xs) h (suc i) = take-below m n xs (λ j. h (suc j)) i
 
 -- an entry is below m if it is so inside the list, by whichever default it is read
-inside-below : (m d i : ℕ) (xs : List ℕ) → 0 < m → (i < length xs → getD xs i d < m) → getD xs i 0 < m
+pub inside-below : (m d i : ℕ) (xs : List ℕ) → 0 < m → (i < length xs → getD xs i d < m) → getD xs i 0 < m
 inside-below m d i xs pos h = at (decLt i (length xs))
   where
     at : Dec (i < length xs) → getD xs i 0 < m
@@ -64,15 +73,20 @@ inside-below m d i xs pos h = at (decLt i (length xs))
     at (no p) = rw (List·getD-eq-default xs 0 {n = i} (omega arith)) pos
 
 -- ---- where it begins
-pub padded-below : (f : Family) → Accepted f → (i : ℕ) → RowBelow (f .m) (rowAt (padded f) i)
+pub accepted-below : (f : Family) → Accepted f → RowsBelow f
+accepted-below f acc = record {
+  positive = omega (arith, acc .modulus .least);
+  lengths = accepted-lengths f acc;
+  row = λ i h. let r = acc .row i h in record { aBelow = r .aBelow; bBelow = r .bBelow; cBelow = r .cBelow };
+}
+
+pub padded-below : (f : Family) → RowsBelow f → (i : ℕ) → RowBelow (f .m) (rowAt (padded f) i)
 unfolding rowAt
-padded-below f acc i =
-    let pos : 0 < f .m = omega (arith, acc .modulus .least) in
-    record {
-      aBelow = inside-below (f .m) (f .close .a) i (f .a) pos (λ h. acc .row i h .aBelow);
-      bBelow = inside-below (f .m) (f .close .b) i (f .b) pos (λ h. acc .row i (omega (arith, acc .bLength)) .bBelow);
-      cBelow = inside-below (f .m) (f .close .c) i (f .c) pos (λ h. acc .row i (omega (arith, acc .cLength)) .cBelow);
-    }
+padded-below f h i = record {
+  aBelow = inside-below (f .m) (f .close .a) i (f .a) (h .positive) (λ p. h .row i p .aBelow);
+  bBelow = inside-below (f .m) (f .close .b) i (f .b) (h .positive) (λ p. h .row i (omega (arith, h .lengths .bLength)) .bBelow);
+  cBelow = inside-below (f .m) (f .close .c) i (f .c) (h .positive) (λ p. h .row i (omega (arith, h .lengths .cLength)) .cBelow);
+}
 
 pub curve-below : (f : Family) (u : List ℕ) → 0 < f .m → Curve f u → Below (f .m) u
 curve-below f u pos curve i = inside-below (f .m) 0 i u pos (λ h. curve .below i (omega (arith, curve .long)))
@@ -104,7 +118,7 @@ join-below m n pos right left =
 pub node-below : (f : Family) → ((i : ℕ) → RowBelow (f .m) (rowAt f i)) → (l t : ℕ) → MatrixBelow (f .m) (node f l t)
 unfolding node
 node-below f row zero t = leaf-below (f .m) (rowAt f (suc t)) (rowAt f (suc (suc t))) (row (suc t))
-node-below f row (suc l) t = join-below (f .m) (suc (span (suc l))) (omega (arith, row 0 .aBelow)) (node f l (t + span l)) (node f l t)
+node-below f row (suc l) t = join-below (f .m) (suc (span (suc l))) (omega (arith, row 0 .aBelow)) _ _
 
 -- ---- up the tree
 pub raise-below : (m n : ℕ) → 0 < m → (left right : Pair) (x : Matrix) → PairBelow m (raise m n left right x)
@@ -114,7 +128,7 @@ raise-below m n pos left right x = record { b0 = plusProducts-below m n pos _ _ 
 pub up-below : (f : Family) (u : List ℕ) → Below (f .m) u → (l t : ℕ) → PairBelow (f .m) (up f u l t)
 unfolding up
 up-below f u h zero t = record { b0 = two-below (f .m) _ _ (h t) (omega (arith, h 0)); b1 = two-below (f .m) _ _ (h (suc t)) (omega (arith, h 0)) }
-up-below f u h (suc l) t = raise-below (f .m) (span (suc l)) (omega (arith, h 0)) (up f u l t) (up f u l (t + span l)) (node f l t)
+up-below f u h (suc l) t = raise-below (f .m) (span (suc l)) (omega (arith, h 0)) _ _ _
 
 pub expandAt-below : (f : Family) → 0 < f .m → (l : ℕ) (u : List ℕ) → Below (f .m) (expandAt f l u)
 unfolding expandAt

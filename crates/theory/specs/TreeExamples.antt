@@ -4,8 +4,9 @@
 --   four    n = 5, of `definitions`: halves of four rows, three rows of padding; the least n at which the halves' order shows
 --   seven   n = 8, with no padding
 --   eight   n = 9: halves of eight rows, of which the left is joined from two joined quarters
--- expand-examples, adjoint-examples: the definitions give those lists. tree-expand-examples, tree-adjoint-examples: so does the
--- tree. All by computation, so that a wrong tree is refused here, too. Assumes nothing.
+-- expand-examples, adjoint-examples: the definitions give those lists; tree-expand-examples, tree-adjoint-examples: so does the
+-- tree; tree-F-example, tree-G-example: F_5 and G_4 of `four`; span-examples: sizes of trees. All by computation, so that a wrong
+-- tree is refused here, too. Assumes nothing.
 use mathlib.Core.Path.{_≡_, refl}
 use mathlib.Core.List.{List, [], _∷_, map}
 use Prim.Native.Nat.{ℕ}
@@ -13,6 +14,7 @@ use Rattle.definitions.specs.Number.{sum, table}
 use Rattle.definitions.specs.Family.{Family, family, rowAt, timesX, term, F}
 use Rattle.definitions.specs.Conversion.{expand, adjoint}
 use Rattle.definitions.specs.Figures.{four}
+use Rattle.theory.specs.Extended.{extended, fromSecond, lastUnit}
 use Rattle.theory.specs.Level.{span, levelFrom, levelFor}
 use Rattle.theory.specs.Products.{productAt, plusProduct, plusProducts, transposedAt, transposed, transposedSum}
 use Rattle.theory.specs.Tree.{withTree, leaf, join, node, raise, up, expandAt, treeExpand, firstTerms, lower, down, rootPair, adjointAt, treeAdjoint}
@@ -59,3 +61,17 @@ tree-expand-examples = refl
 pub tree-adjoint-examples : map (λ x. treeAdjoint (x .family) (x .input)) examples ≡ map (λ x. x .adjoined) examples
 unfolding sum table rowAt span levelFrom levelFor productAt plusProducts transposedAt transposed transposedSum withTree leaf join node firstTerms lower down rootPair adjointAt treeAdjoint
 tree-adjoint-examples = refl
+
+-- F_5 of `four` from its rows and the closing row 1 1 1, and G_4 from row 2 on
+pub tree-F-example : treeExpand (extended four) (lastUnit 5) ≡ 24 ∷ 29 ∷ 28 ∷ 33 ∷ 20 ∷ 4 ∷ []
+unfolding sum table rowAt span levelFrom levelFor productAt plusProduct plusProducts withTree leaf join node raise up expandAt treeExpand extended lastUnit
+tree-F-example = refl
+
+pub tree-G-example : treeExpand (fromSecond (extended four)) (lastUnit 4) ≡ 19 ∷ 9 ∷ 21 ∷ 9 ∷ 2 ∷ []
+unfolding sum table rowAt span levelFrom levelFor productAt plusProduct plusProducts withTree leaf join node raise up expandAt treeExpand extended fromSecond lastUnit
+tree-G-example = refl
+
+-- the spans of the least trees: 129 coefficients of F_n at 127 rows need 256
+pub span-examples : map (λ n. span (levelFor n)) (2 ∷ 3 ∷ 4 ∷ 5 ∷ 8 ∷ 9 ∷ 64 ∷ 65 ∷ 128 ∷ 129 ∷ 256 ∷ []) ≡ 2 ∷ 4 ∷ 4 ∷ 8 ∷ 8 ∷ 16 ∷ 64 ∷ 128 ∷ 128 ∷ 256 ∷ 256 ∷ []
+unfolding span levelFrom levelFor
+span-examples = refl

@@ -11,7 +11,8 @@ use lib.Seq.{length-take-le}
 use Rattle.definitions.specs.Family.{Family, Row, size, rowAt}
 use Rattle.theory.specs.Level.{span, levelFor, level-covers}
 use Rattle.theory.specs.Products.{plusProduct-length, plusProducts-length, transposed-length, transposedSum-length}
-use Rattle.theory.specs.Tree.{padded, Matrix, Pair, F₀, F₁, withTree-cases, leaf, join, node, raise, up, expandAt, treeExpand, firstTerms, lower, down, rootPair, adjointAt, treeAdjoint}
+use Rattle.theory.specs.Tree.{padded, Matrix, Pair, F₀, F₁, leaf, join, node, raise, up, expandAt, treeExpand, firstTerms, lower, down, rootPair, adjointAt, treeAdjoint}
+use Rattle.theory.specs.TreeClauses.{withTree-cases}
 
 pub record MatrixLength (n : ℕ) (x : Matrix) : Type 0 where
   pub l00 : length (x .e00) ≡ n
@@ -36,7 +37,7 @@ join-length m n right left =
 pub node-length : (f : Family) (l t : ℕ) → MatrixLength (suc (span l)) (node f l t)
 unfolding node span
 node-length f zero t = leaf-length (f .m) (rowAt f (suc t)) (rowAt f (suc (suc t)))
-node-length f (suc l) t = join-length (f .m) (suc (span (suc l))) (node f l (t + span l)) (node f l t)
+node-length f (suc l) t = join-length (f .m) (suc (span (suc l))) _ _
 
 -- ---- up the tree
 pub raise-length : (m n : ℕ) (left right : Pair) (x : Matrix) → PairLength n (raise m n left right x)
@@ -46,7 +47,7 @@ raise-length m n left right x = record { l0 = plusProducts-length m n _ _ _ _ _;
 pub up-length : (f : Family) (u : List ℕ) (l t : ℕ) → PairLength (span l) (up f u l t)
 unfolding up span
 up-length f u zero t = record { l0 = refl; l1 = refl }
-up-length f u (suc l) t = raise-length (f .m) (span (suc l)) (up f u l t) (up f u l (t + span l)) (node f l t)
+up-length f u (suc l) t = raise-length (f .m) (span (suc l)) _ _ _
 
 pub expandAt-length : (f : Family) (l : ℕ) (u : List ℕ) → length (expandAt f l u) ≡ size f
 unfolding expandAt

@@ -8,18 +8,18 @@ use mathlib.Core.List.{List, [], _∷_}
 use Prim.Native.Nat.{ℕ, zero, suc, _<_, _+_ as _+ℕ_}
 use native.Mathlib.Omega.{arith}
 use lib.ListN.{length}
-use Rattle.algebra.specs.Residues.{Zmod, res, res-zero, res-add, res-mul, res-mod}
+use Rattle.algebra.specs.Residues.{Zmod, res, res-zero, res-one, res-add, res-mul, res-mod}
 use Rattle.algebra.specs.Ring.{CommRing}
 use Rattle.algebra.specs.Series.{Ser}
 use Rattle.algebra.specs.Solver.{ring, reify}
-use Rattle.algebra.specs.Variable.{C, X, C-zero, C-add, C-mul}
+use Rattle.algebra.specs.Variable.{C, X, C-zero, C-one, C-add, C-mul}
 use Rattle.definitions.specs.Family.{Family, Row, rowAt}
 use Rattle.theory.specs.Bridge.{rowsOf}
 use Rattle.theory.specs.Level.{span}
 use Rattle.theory.specs.ListSeries.{series, series-cons, series-one, series-products}
 use Rattle.theory.specs.Products.{plusProducts}
-use Rattle.theory.specs.Recurrence.{poly, poly-step}
-use Rattle.theory.specs.Tree.{Matrix, leaf, join, node}
+use Rattle.theory.specs.Recurrence.{poly, poly-zero, poly-one, poly-step}
+use Rattle.theory.specs.Tree.{F₀, F₁, Matrix, leaf, join, node}
 use Rattle.theory.specs.TreeLengths.{MatrixLength, node-length}
 
 -- ---- the entries of a leaf as polynomials
@@ -129,3 +129,13 @@ module _ (f : Family) (pos : 0 < f .m) where
   unfolding node span
   node-transition zero t = leaf-transition t
   node-transition (suc l) t = join-transition (span l) t (node f l (t +ℕ span l)) (node f l t) (node-length f l (t +ℕ span l)) (node-length f l t) (node-transition l t) (node-transition l (t +ℕ span l))
+
+  -- ---- F_0 and F_1 as the tree has them
+  pub first-series : P 1 ≡ S F₀
+  first-series = poly-one Q (rowsOf f pos) ∙ sym (C-one Q) ∙ ap (C Q) (sym (res-one (f .m) pos)) ∙ sym (series-one (f .m) pos 1)
+
+  pub second-series : P 2 ≡ S (F₁ f)
+  second-series = poly-step Q (rowsOf f pos) 0
+      ∙ ap₂ (λ x y. K (f .m) pos (rowAt f 0 .a) * (X Q * x) + K (f .m) pos (rowAt f 0 .b) * x + K (f .m) pos (rowAt f 0 .c) * y) (poly-one Q (rowsOf f pos)) (poly-zero Q (rowsOf f pos))
+      ∙ ring B (K (f .m) pos (rowAt f 0 .a) ∷ K (f .m) pos (rowAt f 0 .b) ∷ K (f .m) pos (rowAt f 0 .c) ∷ X Q ∷ []) (search reify depth 20) tt
+      ∙ sym (series-cons (f .m) pos (rowAt f 0 .b) (rowAt f 0 .a ∷ []) ∙ ap (λ s. K (f .m) pos (rowAt f 0 .b) + X Q * s) (series-one (f .m) pos (rowAt f 0 .a)))

@@ -1,11 +1,10 @@
 -- Verdicts, and each test of the refusals as a plain fact.
---   None ts       no test of ts holds
---   Each P xs d   every entry of xs has P; d is the default by which entries are read
+--   None ts   no test of ts holds
 -- Proved: a verdict is finished if and only if no test holds, and a verdict is settled test by test; of each test, that it does
 -- not hold is a plain fact about lengths, entries or inverses, and the fact is that it does not hold.
 -- Assumes nothing.
 use mathlib.Core.Path.{_≡_, refl, sym, _∙_, ap}
-use mathlib.Core.Bool.{Bool, true, false, not, _||_, true≢false}
+use mathlib.Core.Bool.{Bool, true, false, not, _||_, not-eq-not, true≢false}
 use mathlib.Core.List.{List, [], _∷_, _++_}
 use mathlib.Core.Logic.{_↔_, Iff·rfl, Iff·trans}
 use Prim.Native.Nat.{ℕ, zero, suc, _*_, _%_, _<_, _≤_}
@@ -18,6 +17,7 @@ use Rattle.definitions.specs.Number.{HasInverse, inverse}
 use Rattle.definitions.specs.Family.{Family, Modulus, mostRows, rows, size}
 use Rattle.definitions.specs.Refusals.{Test, finished, refused, verdict, some, differ, notBelow, noInverse, workLength, modulusTest, lengthsTest, rowCountTest, curveLengthTest, outputTest, workTest, entriesTest, aInverseTest, cInverseTest, curveEntriesTest, numberTest, numberInverseTest}
 use Rattle.theory.specs.Inverse.{inverse-right}
+use Rattle.theory.specs.Lists.{Each}
 
 abbrev pub None : List Test → Type 0
 None [] = Unit {0}
@@ -82,10 +82,13 @@ pub noInverse-false : (m x : ℕ) → 0 < m → (noInverse m x ≡ false) ↔ Ha
 unfolding noInverse differ HasInverse
 noInverse-false m x h = Iff·trans (differ-false (x * inverse m x % m) 1) (λ e. (inverse m x, e), inverse-right m x h)
 
--- the tests of every entry of a list
-abbrev pub Each : (ℕ → Type 0) → List ℕ → ℕ → Type 0
-Each P xs d = (i : ℕ) → i < length xs → P (getD xs i d)
+pub noInverse-true : (m x : ℕ) → 0 < m → (noInverse m x ≡ true) ↔ (HasInverse m x → ⊥)
+noInverse-true m x h = (
+  λ e i. true≢false (sym e ∙ noInverse-false m x h .1 i),
+  λ n. not-eq-not {a = noInverse m x} {b = true} .0 (λ e. n (noInverse-false m x h .0 e)),
+)
 
+-- the tests of every entry of a list
 some-here : (passes : ℕ → Bool) (x : ℕ) (xs : List ℕ) → passes x ≡ true → some passes (x ∷ xs) ≡ true
 unfolding some
 some-here passes x xs e = rw (e, some)
@@ -110,11 +113,7 @@ some-false passes (x ∷ xs) d = split (passes x) refl (some-false passes xs d)
         to e (suc i) h = rest .0 e i (le-of-suc-le-suc h)
 
 pub some-true : (passes : ℕ → Bool) (xs : List ℕ) (i d : ℕ) → i < length xs → passes (getD xs i d) ≡ true → some passes xs ≡ true
-some-true passes xs i d h e = decide (some passes xs) (λ none. true≢false (sym e ∙ some-false passes xs d .0 none i h))
-  where
-    decide : (b : Bool) → (b ≡ false → ⊥) → b ≡ true
-    decide true n = refl
-    decide false n = absurd (n refl)
+some-true passes xs i d h e = not-eq-not {a = some passes xs} {b = true} .0 (λ none. true≢false (sym e ∙ some-false passes xs d .0 none i h))
 
 module _ (m : ℕ) (xs : List ℕ) (d : ℕ) where
   pub some-notBelow-false : (some (notBelow m) xs ≡ false) ↔ Each (λ x. x < m) xs d

@@ -1,0 +1,74 @@
+-- `invertible` finds the first entry without an inverse, and whether it is zero or shares a factor with m. The loop's invariant: each
+-- of those passed has an inverse. Assumes nothing.
+use Prim.Native.Nat.{_-_}
+use native.Mathlib.Omega.{arith}
+use lib.ListN.{length}
+use borrow.Author.Needs.{needs}
+use Rattle.definitions.specs.Refusals.{noInverse}
+use Rattle.residue.specs.Inversion.{inverted-found, inverted-absent, found-passes, absent-fails}
+use Rattle.checks.specs.Passes.{Passed, passed-starts, passed-next, passed-first, passed-ends}
+use Rattle.checks.proofs.invertible.Statement.{statement}
+use Rattle.checks.proofs.invertible.Tie as tie
+
+abbrev Inv-loop : tie.InvT-loop
+Inv-loop m list i₀ i = Passed (noInverse m) list i
+
+abbrev μ-loop : tie.MeasureT-loop
+μ-loop m list i₀ i = length list - i
+
+loop-holds : tie.Need-loop-holds Inv-loop μ-loop
+loop-holds c = passed-starts _ _
+
+mul-x : tie.Need-mul-x Inv-loop μ-loop
+mul-x c = omega arith
+
+shared-slice-read-x : tie.Need-shared-slice-read-x Inv-loop μ-loop
+shared-slice-read-x c = omega arith
+
+invert-requires : tie.Need-invert-requires Inv-loop μ-loop
+invert-requires c κs = tt
+
+enum-known-inversion : tie.Need-enum-known-inversion Inv-loop μ-loop
+enum-known-inversion c = search needs
+
+returns : tie.Need-returns Inv-loop μ-loop
+returns c = (passed-first _ _ _ (c .before .before .before .before .before .before .before .loop .inv) (c .before .before .before .before .before .before .loop-test .taken) (absent-fails _ _ _ (c .before .before .before .before .before .before .before .before .before .pre) (inverted-absent _ _ (c .before .before .before .before .invert .ensures) (c .before .before .inversion .given .1))), c .if1 .taken)
+
+returns-2 : tie.Need-returns-2 Inv-loop μ-loop
+returns-2 c =
+    let absent = inverted-absent _ _ (c .before .before .before .before .invert .ensures) (c .before .before .inversion .given .1) in
+    (passed-first _ _ _ (c .before .before .before .before .before .before .before .loop .inv) (c .before .before .before .before .before .before .loop-test .taken) (absent-fails _ _ _ (c .before .before .before .before .before .before .before .before .before .pre) absent), record { notZero = c .if1 .left; factor = absent .factor })
+
+enum-told : tie.Need-enum-told Inv-loop μ-loop
+enum-told c = search needs
+
+add-i : tie.Need-add-i Inv-loop μ-loop
+add-i c = omega arith
+
+loop-less : tie.Need-loop-less Inv-loop μ-loop
+loop-less c = omega arith
+
+loop-again : tie.Need-loop-again Inv-loop μ-loop
+loop-again c = passed-next _ _ _ (c .before .before .before .before .before .loop .inv) (c .before .before .before .before .loop-test .taken) (found-passes _ _ _ (inverted-found _ _ (c .before .before .invert .ensures) (c .enum-told .given .1)))
+
+returns-3 : tie.Need-returns-3 Inv-loop μ-loop
+returns-3 c = passed-ends _ _ _ (c .before .loop .inv) (c .loop-test .left)
+
+pub invertible-spec : {M : Type 1} → statement M
+invertible-spec =
+    tie.close
+    (tie.spec
+    Inv-loop
+    μ-loop
+    loop-holds
+    mul-x
+    shared-slice-read-x
+    invert-requires
+    enum-known-inversion
+    returns
+    returns-2
+    enum-told
+    add-i
+    loop-less
+    loop-again
+    returns-3)

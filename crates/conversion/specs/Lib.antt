@@ -1,0 +1,5 @@
+-- How a call's verdict settles its answer, and how its core meets the definition. Assumes nothing.
+pub mod Inverting
+pub mod PlainCall
+pub mod PlainCore
+pub mod InversesCore

@@ -1,0 +1,233 @@
+// The scope paper's figures through the public calls, one line each: the figure, the answer, and what the output then holds. Each
+// output is lent full of fours, so that a refusal is seen to leave it.
+use definitions::Answer;
+use definitions::Valued;
+
+fn text(bytes: &[u8]) {
+    io::write_all(libc::STDOUT_FILENO, bytes);
+}
+
+fn number(x: u32) {
+    text(b" ");
+    io::print_decimal(libc::STDOUT_FILENO, x as u64);
+}
+
+fn list(xs: &[u32]) {
+    let mut i: usize = 0;
+    while i < xs.len() {
+        number(xs[i]);
+        i += 1;
+    }
+}
+
+fn show(label: &[u8], answer: Answer, output: &[u32]) {
+    text(label);
+    match answer {
+        Answer::Finished => text(b" finished:"),
+        Answer::Refused(k) => {
+            text(b" refused");
+            number(k);
+            text(b":");
+        }
+    }
+    list(output);
+    text(b"\n");
+}
+
+fn show_value(label: &[u8], answer: Valued) {
+    text(label);
+    match answer {
+        Valued::Value(x) => {
+            text(b" value:");
+            number(x);
+        }
+        Valued::Refused(k) => {
+            text(b" refused");
+            number(k);
+        }
+    }
+    text(b"\n");
+}
+
+// The calls, each shown with what its output then holds.
+fn expand(
+    label: &[u8],
+    m: u32,
+    a: &[u32],
+    b: &[u32],
+    c: &[u32],
+    curve: &[u32],
+    output: &mut [u32],
+) {
+    let answer = conversion::plain_expand(m, a, b, c, curve, output);
+    show(label, answer, output);
+}
+
+fn adjoint(
+    label: &[u8],
+    m: u32,
+    a: &[u32],
+    b: &[u32],
+    c: &[u32],
+    curve: &[u32],
+    output: &mut [u32],
+) {
+    let answer = conversion::plain_adjoint(m, a, b, c, curve, output);
+    show(label, answer, output);
+}
+
+fn decompose(
+    label: &[u8],
+    m: u32,
+    a: &[u32],
+    b: &[u32],
+    c: &[u32],
+    coefficients: &[u32],
+    output: &mut [u32],
+) {
+    let answer = conversion::plain_decompose(m, a, b, c, coefficients, output);
+    show(label, answer, output);
+}
+
+fn norms(label: &[u8], m: u32, a: &[u32], b: &[u32], c: &[u32], output: &mut [u32]) {
+    let answer = conversion::norms(m, a, b, c, output);
+    show(label, answer, output);
+}
+
+// R: m = 7, a = 1 2, b = 0 3, c = 1 5.
+fn on_r() {
+    expand(b"P1", 7, &[1, 2], &[0, 3], &[1, 5], &[3, 0, 1], &mut [4; 3]);
+    adjoint(b"P2", 7, &[1, 2], &[0, 3], &[1, 5], &[1, 3, 2], &mut [4; 3]);
+    decompose(b"P3", 7, &[1, 2], &[0, 3], &[1, 5], &[1, 3, 2], &mut [4; 3]);
+    norms(b"P5", 7, &[1, 2], &[0, 3], &[1, 5], &mut [4; 3]);
+}
+
+// Families of one row or none.
+fn on_small_families() {
+    expand(b"P6", 2, &[], &[], &[], &[1], &mut [4; 1]);
+    expand(b"P7", 2, &[1], &[1], &[1], &[1, 1], &mut [4; 2]);
+    expand(b"P10", 15, &[3], &[0], &[5], &[1, 1], &mut [4; 2]);
+    norms(b"P11", 7, &[], &[], &[], &mut [4; 1]);
+    norms(b"P12", 15, &[2], &[1], &[4], &mut [4; 2]);
+}
+
+fn on_inverses() {
+    show_value(b"P8", conversion::invert(15, 4));
+    show_value(b"P9", conversion::invert(15, 6));
+}
+
+// The limits of the modulus, of the number of rows and of an entry.
+fn on_limits() {
+    expand(b"m = 1", 1, &[], &[], &[], &[0], &mut [4; 1]);
+    expand(
+        b"m = 2147483647",
+        2147483647,
+        &[],
+        &[],
+        &[],
+        &[2147483646],
+        &mut [4; 1],
+    );
+    expand(
+        b"m = 2147483648",
+        2147483648,
+        &[],
+        &[],
+        &[],
+        &[0],
+        &mut [4; 1],
+    );
+    decompose(b"entry 6, m = 7", 7, &[], &[], &[], &[6], &mut [4; 1]);
+    decompose(b"entry 7, m = 7", 7, &[], &[], &[], &[7], &mut [4; 1]);
+}
+
+fn most_rows() -> [u32; 127] {
+    [1; 127]
+}
+
+fn too_many_rows() -> [u32; 128] {
+    [1; 128]
+}
+
+fn fours() -> [u32; 128] {
+    [4; 128]
+}
+
+fn on_most_rows() {
+    let rows = most_rows();
+    let mut output = fours();
+    norms(b"127 rows", 7, &rows, &rows, &rows, &mut output);
+}
+
+fn on_too_many_rows() {
+    let rows = too_many_rows();
+    norms(b"128 rows", 7, &rows, &rows, &rows, &mut [4; 3]);
+}
+
+// The row factor of last autumn: zero, m itself, or one that shares a factor with m, in a and in c.
+fn on_row_factors() {
+    decompose(
+        b"a = 0 2",
+        15,
+        &[0, 2],
+        &[0, 3],
+        &[1, 4],
+        &[1, 2, 3],
+        &mut [4; 3],
+    );
+    decompose(
+        b"a = 1 6",
+        15,
+        &[1, 6],
+        &[0, 3],
+        &[1, 4],
+        &[1, 2, 3],
+        &mut [4; 3],
+    );
+    decompose(
+        b"a = 1 15",
+        15,
+        &[1, 15],
+        &[0, 3],
+        &[1, 4],
+        &[1, 2, 3],
+        &mut [4; 3],
+    );
+    decompose(
+        b"c = 0 4",
+        15,
+        &[1, 2],
+        &[0, 3],
+        &[0, 4],
+        &[1, 2, 3],
+        &mut [4; 3],
+    );
+    decompose(
+        b"c = 1 10",
+        15,
+        &[1, 2],
+        &[0, 3],
+        &[1, 10],
+        &[1, 2, 3],
+        &mut [4; 3],
+    );
+    decompose(
+        b"c = 15 4",
+        15,
+        &[1, 2],
+        &[0, 3],
+        &[15, 4],
+        &[1, 2, 3],
+        &mut [4; 3],
+    );
+}
+
+fn main() {
+    on_r();
+    on_small_families();
+    on_inverses();
+    on_limits();
+    on_most_rows();
+    on_too_many_rows();
+    on_row_factors();
+}

@@ -1,0 +1,108 @@
+-- `adjoint` meets its contract: the laws of `Adjoining` at the loop. The measure is what is left of the rows.
+-- Assumes nothing.
+use mathlib.Core.Path.{ap}
+use Prim.Native.Nat.{_-_}
+use native.Mathlib.Omega.{arith}
+use borrow.Author.Needs.{needs}
+use lib.ListN.{length, take}
+use Rattle.plain.specs.Adjoining.{Adjoining, adjoint-starts, adjoint-step-input, adjoint-step, adjoint-ends}
+use Rattle.plain.specs.Input.{firstRows}
+use Rattle.plain.proofs.adjoint.Statement.{statement}
+use Rattle.plain.proofs.adjoint.Tie as tie
+
+abbrev Inv-loop : tie.InvT-loop
+Inv-loop m a b c curve n output₀ rows current₀ older₀ j₀ output current older j = Adjoining (firstRows m n a b c) (take n curve) n output₀ current older output j
+
+abbrev μ-loop : tie.MeasureT-loop
+μ-loop m a b c curve n output₀ rows current₀ older₀ j₀ output current older j = n - j
+
+sub-rows : tie.Need-sub-rows Inv-loop μ-loop
+sub-rows c = omega arith
+
+zeros-requires : tie.Need-zeros-requires Inv-loop μ-loop
+zeros-requires c κs = search needs
+
+zeros-requires-2 : tie.Need-zeros-requires-2 Inv-loop μ-loop
+zeros-requires-2 c κs = search needs
+
+slice-aggregate-copy : tie.Need-slice-aggregate-copy Inv-loop μ-loop
+slice-aggregate-copy c = omega arith
+
+copy-requires : tie.Need-copy-requires Inv-loop μ-loop
+copy-requires c κs = omega (arith, ap length (c .before .before .zeros .ensures))
+
+loop-holds : tie.Need-loop-holds Inv-loop μ-loop
+loop-holds c = adjoint-starts (c .before .before .before .before .before .before .before .before .before .before .pre) (c .before .before .before .before .zeros .ensures) (c .before .before .before .zeros2 .ensures) (c .before .copy .ensures)
+
+array-read-output : tie.Need-array-read-output Inv-loop μ-loop
+array-read-output c = omega arith
+
+mul-output : tie.Need-mul-output Inv-loop μ-loop
+mul-output c = omega arith
+
+slice-write-output : tie.Need-slice-write-output Inv-loop μ-loop
+slice-write-output c = omega arith
+
+row-entry-requires : tie.Need-row-entry-requires Inv-loop μ-loop
+row-entry-requires c κs = omega arith
+
+row-entry-requires-2 : tie.Need-row-entry-requires-2 Inv-loop μ-loop
+row-entry-requires-2 c κs = omega arith
+
+row-entry-requires-3 : tie.Need-row-entry-requires-3 Inv-loop μ-loop
+row-entry-requires-3 c κs = omega arith
+
+slice-aggregate-raise-row : tie.Need-slice-aggregate-raise-row Inv-loop μ-loop
+slice-aggregate-raise-row c = omega arith
+
+slice-aggregate-raise-row-2 : tie.Need-slice-aggregate-raise-row-2 Inv-loop μ-loop
+slice-aggregate-raise-row-2 c = omega arith
+
+sub-raise-row : tie.Need-sub-raise-row Inv-loop μ-loop
+sub-raise-row c = omega arith
+
+raise-row-requires : tie.Need-raise-row-requires Inv-loop μ-loop
+raise-row-requires c κs = adjoint-step-input (c .before .before .before .before .before .before .before .before .before .before .before .before .before .before .before .before .before .pre) (c .before .before .before .before .before .loop-test .taken) (c .before .before .before .before .before .before .loop .inv) (c .before .before .before .before .row-entry .ensures) (c .before .before .before .row-entry2 .ensures) (c .before .before .row-entry3 .ensures)
+
+add-j : tie.Need-add-j Inv-loop μ-loop
+add-j c = omega arith
+
+loop-less : tie.Need-loop-less Inv-loop μ-loop
+loop-less c = omega arith
+
+loop-again : tie.Need-loop-again Inv-loop μ-loop
+loop-again c = adjoint-step (c .before .before .before .before .before .before .before .before .before .before .before .before .before .before .before .before .before .before .before .before .pre) (c .before .before .before .before .before .before .before .before .loop-test .taken) (c .before .before .before .before .before .before .before .before .before .loop .inv) (c .before .before .before .before .before .before .before .row-entry .ensures) (c .before .before .before .before .before .before .row-entry2 .ensures) (c .before .before .before .before .before .row-entry3 .ensures) (c .before .before .raise-row .ensures)
+
+same-length : tie.Need-same-length Inv-loop μ-loop
+same-length c = c .before .loop .inv .written .sameLength
+
+returns : tie.Need-returns Inv-loop μ-loop
+returns c = adjoint-ends (c .before .before .before .before .before .before .before .before .before .before .before .before .pre) (c .loop-test .left) (c .before .loop .inv)
+
+pub adjoint-spec : {M : Type 1} → statement M
+adjoint-spec =
+    tie.close
+    (tie.spec
+    Inv-loop
+    μ-loop
+    sub-rows
+    zeros-requires
+    zeros-requires-2
+    slice-aggregate-copy
+    copy-requires
+    loop-holds
+    array-read-output
+    mul-output
+    slice-write-output
+    row-entry-requires
+    row-entry-requires-2
+    row-entry-requires-3
+    slice-aggregate-raise-row
+    slice-aggregate-raise-row-2
+    sub-raise-row
+    raise-row-requires
+    add-j
+    loop-less
+    loop-again
+    same-length
+    returns)

@@ -1,0 +1,174 @@
+// The plain ways, on input that is already checked: row by row, one remainder for each coefficient, in local arrays. Lists are
+// lent whole, with n: the first n - 1 entries of the rows' lists take part, the first n of the curve, and the first n of the
+// output are written.
+ghost use mathlib.Core.Path.{_≡_};
+ghost use mathlib.Core.List.{List, _++_};
+ghost use Prim.Native.Nat.{ℕ, _-_, _<_, _≤_};
+ghost use lib.ListN.{length, getD, take, drop};
+ghost use Rattle.definitions.specs.Conversion.{expand, adjoint, decompose};
+ghost use Rattle.definitions.specs.Family.{Row};
+ghost use Rattle.definitions.specs.Number.{inverse};
+ghost use Rattle.definitions.specs.Orthogonality.{norms};
+ghost use Rattle.theory.specs.Lists.{filled};
+ghost use Rattle.plain.specs.Decomposing.{oppositeProduct};
+ghost use Rattle.plain.specs.Input.{firstRows, closedRows, ConvertInput, InversesOf, NormsInput, Closes};
+use polynomial::copy;
+use polynomial::horner_row;
+use polynomial::lower_row;
+use polynomial::raise_row;
+use polynomial::zeros;
+use residue::Inversion;
+use residue::invert;
+use residue::opposite;
+use residue::product;
+
+// The entry at i of the first rows entries, and that of the closing row from there on.
+fn row_entry(list: &[u32], rows: usize, i: usize, close: u32) -> u32
+    requires { ⌜ rows ≤ length (now list) ⌝ }
+    ensures { λ r. ⌜ r ≡ getD (take rows (now (list .entry))) i close ⌝ }
+{
+    if i < rows { list[i] } else { close }
+}
+
+// The coefficients in powers of x, downwards (Clenshaw): after i steps current is B_{n-i}, of i coefficients, and older
+// B_{n-i+1}, where B_k = u_k + (a_{k+1} x + b_{k+1}) B_{k+1} + c_{k+2} B_{k+2}. The closing row multiplies zeros.
+pub fn expand(m: u32, a: &[u32], b: &[u32], c: &[u32], curve: &[u32], n: usize, output: &mut [u32])
+    requires { ⌜ ConvertInput m (now a) (now b) (now c) (now curve) n (now output) ⌝ }
+    ensures { λ _. ⌜ now (output .exit) ≡ expand (firstRows m n (now (a .entry)) (now (b .entry)) (now (c .entry))) (take n (now (curve .entry))) ++ drop n (now (output .entry)) ⌝ }
+{
+    let rows = n - 1;
+    let mut current = zeros();
+    let mut older = zeros();
+    let mut i: usize = 0;
+    while i < n {
+        let k = rows - i;
+        let x = curve[k];
+        let p = row_entry(a, rows, k, 1);
+        let q = row_entry(b, rows, k, 1);
+        let r = row_entry(c, rows, k + 1, 1);
+        lower_row(m, x, p, q, r, &mut current, &mut older, i + 1);
+        i += 1;
+    }
+    copy(&current, n, output);
+}
+
+// The transposed of expand, upwards: after j rows current[t] is the sum of u_i times the coefficient of x^i in x^t F_j, for t below
+// n - j, and older the same of F_{j-1}. Entry j of the output is the first of them.
+pub fn adjoint(m: u32, a: &[u32], b: &[u32], c: &[u32], curve: &[u32], n: usize, output: &mut [u32])
+    requires { ⌜ ConvertInput m (now a) (now b) (now c) (now curve) n (now output) ⌝ }
+    ensures { λ _. ⌜ now (output .exit) ≡ adjoint (firstRows m n (now (a .entry)) (now (b .entry)) (now (c .entry))) (take n (now (curve .entry))) ++ drop n (now (output .entry)) ⌝ }
+{
+    let rows = n - 1;
+    let mut current = zeros();
+    let mut older = zeros();
+    copy(curve, n, &mut current);
+    let mut j: usize = 0;
+    while j < n {
+        output[j] = current[0];
+        let p = row_entry(a, rows, j, 1);
+        let q = row_entry(b, rows, j, 1);
+        let r = row_entry(c, rows, j, 1);
+        raise_row(m, p, q, r, &mut current, &mut older, rows - j);
+        j += 1;
+    }
+}
+
+// Each of the first count entries times the factor beside it, with the opposite sign.
+fn opposite_products(m: u32, list: &[u32], factors: &[u32], count: usize, output: &mut [u32])
+    requires { ⌜ (0 < m) × (count ≤ length (now list)) × (count ≤ length (now factors)) × (count ≤ length (now output)) ⌝ }
+    ensures { λ _. ⌜ now (output .exit) ≡ filled (oppositeProduct m (now (list .entry)) (now (factors .entry))) count (now (output .entry)) ⌝ }
+{
+    let mut i: usize = 0;
+    while i < count {
+        output[i] = product(m, opposite(m, list[i]), factors[i]);
+        i += 1;
+    }
+}
+
+// The curve of coefficients in powers of x, from the top power down (Horner in the basis F): after i steps current is the curve
+// of the i top powers, each lowered by n - i, and the next is x times that and a coefficient more. In the basis
+// x F_i = (F_{i+1} - b_{i+1} F_i - c_{i+1} F_{i-1}) / a_{i+1}; inverses[i] is the inverse of a_{i+1}.
+pub fn decompose(
+    m: u32,
+    inverses: &[u32],
+    b: &[u32],
+    c: &[u32],
+    coefficients: &[u32],
+    n: usize,
+    output: &mut [u32],
+)
+    requires { ⌜ ConvertInput m (now inverses) (now b) (now c) (now coefficients) n (now output) ⌝ }
+    ensures { λ _. ⌜ ((a : List ℕ) → InversesOf m (n - 1) (now (inverses .entry)) a → now (output .exit) ≡ decompose (firstRows m n a (now (b .entry)) (now (c .entry))) (take n (now (coefficients .entry))) ++ drop n (now (output .entry))) ⌝ }
+{
+    let rows = n - 1;
+    let mut rise = zeros();
+    let mut stay = zeros();
+    let mut fall = zeros();
+    let mut current = zeros();
+    copy(inverses, rows, &mut rise);
+    opposite_products(m, b, inverses, rows, &mut stay);
+    opposite_products(m, c, inverses, rows, &mut fall);
+    let mut i: usize = 0;
+    while i < n {
+        horner_row(
+            m,
+            coefficients[rows - i],
+            &rise,
+            &stay,
+            &fall,
+            &mut current,
+            i + 1,
+        );
+        i += 1;
+    }
+    copy(&current, n, output);
+}
+
+// The norms (-1)^i c_2 .. c_{i+1} / a_{i+1}; inverses[i] is the inverse of a_{i+1}. Of the closing row inverse is the inverse of its a,
+// and close its c.
+pub fn norms(
+    m: u32,
+    inverses: &[u32],
+    c: &[u32],
+    inverse: u32,
+    close: u32,
+    n: usize,
+    output: &mut [u32],
+)
+    requires { ⌜ NormsInput m (now inverses) (now c) inverse n (now output) ⌝ }
+    ensures { λ _. ⌜ ((a b : List ℕ) (row : Row) → InversesOf m (n - 1) (now (inverses .entry)) a → Closes m inverse close row → now (output .exit) ≡ norms (closedRows m n a b (now (c .entry)) row) ++ drop n (now (output .entry))) ⌝ }
+{
+    let rows = n - 1;
+    let mut signed: u32 = 1;
+    let mut i: usize = 0;
+    while i < n {
+        let p = row_entry(inverses, rows, i, inverse);
+        output[i] = product(m, signed, p);
+        let r = row_entry(c, rows, i + 1, close);
+        signed = product(m, signed, opposite(m, r));
+        i += 1;
+    }
+}
+
+// The inverse of x modulo m, and 0 where there is none.
+fn inverse_or_zero(m: u32, x: u32) -> u32
+    ensures { λ r. ⌜ r ≡ inverse m x ⌝ }
+{
+    let answer = invert(m, x);
+    match answer {
+        Inversion::Found(y) => y,
+        Inversion::Absent(_) => 0,
+    }
+}
+
+// The inverses of the first n entries, each 0 where there is none.
+pub fn inverses(m: u32, list: &[u32], n: usize, output: &mut [u32])
+    requires { ⌜ (n ≤ length (now list)) × (n ≤ length (now output)) ⌝ }
+    ensures { λ _. ⌜ now (output .exit) ≡ filled (λ i. inverse m (getD (now (list .entry)) i 0)) n (now (output .entry)) ⌝ }
+{
+    let mut i: usize = 0;
+    while i < n {
+        output[i] = inverse_or_zero(m, list[i]);
+        i += 1;
+    }
+}

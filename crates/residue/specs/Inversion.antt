@@ -1,0 +1,53 @@
+-- What `invert` answers, on every input.
+--   IsInverse m x y      y is the inverse of x modulo m
+--   SharesFactor m x g   no number below m is an inverse of x, and g is the greatest common factor of x and m
+--   Inverted m x r       what the answer r says of x and m: the one or the other
+-- Proved: this settles the answer; and which of the two it is says whether `definitions`' test for an inverse holds.
+-- Assumes nothing.
+use mathlib.Core.Path.{_≡_, sym, _∙_, ap, subst}
+use mathlib.Core.Bool.{true, false}
+use Prim.Native.Nat.{ℕ, _*_, _%_, _<_}
+use native.Mathlib.Omega.{arith}
+use Rattle.definitions.specs.Number.{HasInverse, inverse}
+use Rattle.definitions.specs.Refusals.{noInverse}
+use Rattle.theory.specs.Euclid.{GreatestFactor, greatest-factor-unique}
+use Rattle.theory.specs.Inverse.{inverse-right, inverse-below}
+use Rattle.theory.specs.Verdicts.{noInverse-false, noInverse-true}
+use Rattle.residue.specs.declared.Inversion.{Inversion}
+
+pub record IsInverse (m x y : ℕ) : Type 0 where
+  pub below : y < m
+  pub product : x * y % m ≡ 1
+  pub value : y ≡ inverse m x
+
+pub record SharesFactor (m x g : ℕ) : Type 0 where
+  pub none : (y : ℕ) → y < m → x * y % m ≡ 1 → ⊥
+  pub factor : GreatestFactor g x m
+
+abbrev pub Inverted : ℕ → ℕ → Inversion → Type 0
+Inverted m x (Inversion.Found y) = IsInverse m x y
+Inverted m x (Inversion.Absent g) = SharesFactor m x g
+
+pub inverted-unique : (m x : ℕ) (r r′ : Inversion) → Inverted m x r → Inverted m x r′ → r ≡ r′
+inverted-unique m x (Inversion.Found y) (Inversion.Found y′) p q = ap Inversion.Found (p .value ∙ sym (q .value))
+inverted-unique m x (Inversion.Found y) (Inversion.Absent g) p q = absurd (q .none y (p .below) (p .product))
+inverted-unique m x (Inversion.Absent g) (Inversion.Found y) p q = absurd (p .none y (q .below) (q .product))
+inverted-unique m x (Inversion.Absent g) (Inversion.Absent g′) p q = ap Inversion.Absent (greatest-factor-unique (p .factor) (q .factor))
+
+-- an answer that is matched on, and the answer against the test of the refusals
+module _ (m x : ℕ) where
+  pub inverted-found : {r : Inversion} {y : ℕ} → Inverted m x r → r ≡ Inversion.Found y → IsInverse m x y
+  inverted-found answer e = subst (Inverted m x) e answer
+
+  pub inverted-absent : {r : Inversion} {g : ℕ} → Inverted m x r → r ≡ Inversion.Absent g → SharesFactor m x g
+  inverted-absent answer e = subst (Inverted m x) e answer
+
+  pub found-passes : (y : ℕ) → IsInverse m x y → noInverse m x ≡ false
+  unfolding HasInverse
+  found-passes y found =
+      let below : y < m = found .below in
+      noInverse-false m x (omega arith) .1 (y, found .product)
+
+  pub absent-fails : (g : ℕ) → 0 < m → SharesFactor m x g → noInverse m x ≡ true
+  absent-fails g pos absent =
+      noInverse-true m x pos .1 (λ i. absent .none (inverse m x) (inverse-below m x pos) (inverse-right m x pos i))

@@ -1,0 +1,4 @@
+-- What the contracts of `residue` cite beside `definitions`.
+--   Inversion   what invert answers, on every input
+-- Assumes nothing.
+pub mod Inversion

@@ -1,0 +1,83 @@
+// Arithmetic modulo m on words of 32 bits, for every modulus from 1 on, and the inverse, for every modulus.
+// Arguments need not be below m; the results of sum, product and difference are.
+ghost use mathlib.Core.Path.{_≡_};
+ghost use Prim.Native.Nat.{_+_, _*_, _%_, _<_};
+ghost use Rattle.definitions.specs.Number.{negative};
+ghost use Rattle.residue.specs.Inversion.{Inverted};
+
+// The remainder of x, of 64 bits.
+fn remainder(m: u32, x: u64) -> u32
+    requires { ⌜ 0 < m ⌝ }
+    ensures { λ r. ⌜ r ≡ x % m ⌝ }
+{
+    (x % (m as u64)) as u32
+}
+
+// The remainder of x + y.
+pub fn sum(m: u32, x: u32, y: u32) -> u32
+    requires { ⌜ 0 < m ⌝ }
+    ensures { λ r. ⌜ r ≡ (x + y) % m ⌝ }
+{
+    remainder(m, x as u64 + y as u64)
+}
+
+// The remainder of x y.
+pub fn product(m: u32, x: u32, y: u32) -> u32
+    requires { ⌜ 0 < m ⌝ }
+    ensures { λ r. ⌜ r ≡ x * y % m ⌝ }
+{
+    remainder(m, (x as u64) * (y as u64))
+}
+
+// What with x adds up to a multiple of m: from 1 to m, and m where x is a multiple of m.
+pub fn opposite(m: u32, x: u32) -> u32
+    requires { ⌜ 0 < m ⌝ }
+    ensures { λ r. ⌜ r ≡ negative m x ⌝ }
+{
+    m - x % m
+}
+
+// The remainder of x - y.
+pub fn difference(m: u32, x: u32, y: u32) -> u32
+    requires { ⌜ 0 < m ⌝ }
+    ensures { λ r. ⌜ r ≡ (x + negative m y) % m ⌝ }
+{
+    sum(m, x, opposite(m, y))
+}
+
+// The answer of invert: the inverse, or the greatest common factor that is in its way.
+pub enum Inversion {
+    Found(u32),
+    Absent(u32),
+}
+
+// The inverse of x modulo m, by Euclid's algorithm with residues as cofactors: it keeps r = t x and s = u x modulo m.
+// Absent: no number times x leaves 1, and the greatest common factor of x and m is told. No number has an inverse modulo 0 or 1.
+pub fn invert(m: u32, x: u32) -> Inversion
+    ensures { λ r. ⌜ Inverted m x r ⌝ }
+{
+    if m == 0 {
+        return Inversion::Absent(x);
+    }
+    if m == 1 {
+        return Inversion::Absent(1);
+    }
+    let mut r = m;
+    let mut s = x;
+    let mut t: u32 = 0;
+    let mut u: u32 = 1;
+    while 0 < s {
+        let q = r / s;
+        let rest = r % s;
+        let next = difference(m, t, product(m, q, u));
+        r = s;
+        s = rest;
+        t = u;
+        u = next;
+    }
+    if r == 1 {
+        Inversion::Found(t)
+    } else {
+        Inversion::Absent(r)
+    }
+}
