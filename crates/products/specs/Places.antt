@@ -8,7 +8,7 @@
 -- Assumes nothing.
 use mathlib.Core.Path.{_≡_, sym, _∙_, ap, ap₂}
 use mathlib.Core.List.{List}
-use Prim.Native.Nat.{ℕ, zero, suc, _+_, _*_, _-_, _%_, _≤_, _<_}
+use Prim.Native.Nat.{ℕ, _+_, _*_, _-_, _%_, _≤_, _<_}
 use native.Mathlib.Nat.{mul-le-mul-left, mul-one, zero-add, mod-lt, mod-add-mod}
 use native.Mathlib.Omega.{arith}
 use lib.ListN.{length, getD, take, drop, set}
@@ -170,9 +170,6 @@ module _ (m : ℕ) (w₀ : List ℕ) (target n : ℕ) (f : ℕ → ℕ) (w : Lis
   }
 
 module _ (m : ℕ) (w₀ : List ℕ) (target n t tn p r pn q s qn : ℕ) (places : ProductPlaces m w₀ target n t tn p r pn q s qn) (w : List ℕ) (k : ℕ) (l : k < n) (h : Writing w₀ target n (productEntry m w₀ t tn p r pn q s qn) w k) where
-  pub product-entry-inside : t + tn ≤ length w
-  product-entry-inside = aside-source m w₀ target n (productEntry m w₀ t tn p r pn q s qn) w k h t tn (places .tAside) .inside
-
   source : (at c : ℕ) → Aside m w₀ target (target + n) at c → Source m w at c
   source = aside-source m w₀ target n (productEntry m w₀ t tn p r pn q s qn) w k h
 

@@ -1,12 +1,12 @@
 // Products of polynomials and transposed products, one remainder for each coefficient. A sum of products of residues is kept
 // below m m: a product is added, and m m taken off when the sum has reached it. Both fit 64 bits, since m has 31.
 ghost use mathlib.Core.Path.{_≡_};
-ghost use Prim.Native.Nat.{ℕ, _+_, _*_, _-_, _%_, _≤_, _<_};
+ghost use Prim.Native.Nat.{_+_, _*_, _-_, _%_, _≤_, _<_};
 ghost use lib.ListN.{length, getD};
 ghost use Rattle.theory.specs.Regions.{part, written};
 ghost use Rattle.theory.specs.Products.{productAt, plusProducts, transposedAt, transposed, transposedSum};
 ghost use Rattle.products.specs.Sums.{Summand, Congruent, Lesser, ProductInput, TransposedInput};
-ghost use Rattle.products.specs.Places.{Source, CoefficientInput, ProductPlaces, TermInput, TransposedPlaces, transposedEntry, ListInput};
+ghost use Rattle.products.specs.Places.{CoefficientInput, ProductPlaces, TermInput, TransposedPlaces, transposedEntry, ListInput};
 
 // s + x y, less m m if that has been reached.
 fn accumulate(m: u32, s: u64, x: u32, y: u32) -> u64

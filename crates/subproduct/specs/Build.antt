@@ -6,20 +6,20 @@
 use mathlib.Core.Path.{_≡_, refl, sym, _∙_, ap, ap₂}
 use mathlib.Core.List.{List, [], _∷_, _++_}
 use mathlib.Core.Logic.{inl, inr}
-use Prim.Native.Nat.{ℕ, zero, suc, _+_, _*_, _-_, _/_, _%_, _≤_, _<_}
+use Prim.Native.Nat.{ℕ, suc, _+_, _*_, _-_, _/_, _%_, _≤_, _<_}
 use native.Mathlib.Nat.{add-zero, zero-add, mul-le-mul, mod-lt}
 use native.Mathlib.Omega.{arith}
-use lib.ListN.{length, getD, take, set, length-set, length-append, List·getD-eq-default}
+use lib.ListN.{length, getD, take, set, length-append, List·getD-eq-default}
 use lib.Seq.{getD-take, length-take-le}
 use Rattle.definitions.specs.Number.{table}
 use Rattle.definitions.specs.Family.{Family, Row, family, greatestModulus, rowAt}
 use Rattle.theory.specs.Level.{span, span-zero, span-suc, span-two}
 use Rattle.theory.specs.Regions.{part, written, Apart, KeptOutside, part-left, part-right, part-residues, part-written, written-length, written-one, written-more, written-then, written-kept, kept-wider, kept-part, kept-residues}
 use Rattle.theory.specs.Products.{plusProducts, plusProducts-length}
-use Rattle.theory.specs.Tree.{Matrix, Pair, padded, leaf, join, node, raise}
+use Rattle.theory.specs.Tree.{padded, leaf, join, node, raise}
 use Rattle.theory.specs.TreeLengths.{raise-length}
 use Rattle.theory.specs.TreeBelow.{RowBelow, node-below}
-use Rattle.products.specs.Places.{Source, Aside, ProductPlaces}
+use Rattle.products.specs.Places.{Aside, ProductPlaces}
 use Rattle.subproduct.specs.Layout.{Level, Halves, treeSize, treeList, nodePlace, matrixList, pairList, matrixAt, pairAt, level-halves, level-one, treeSize-value, treeSize-suc, treeSize-node, treeList-length, nodeList-length, pairList-length, tree-node, tree-matrix, pairAt-kept, matrixAt-kept, matrixList-below}
 
 abbrev pub familyOf : ℕ → ℕ → List ℕ → List ℕ → List ℕ → Family

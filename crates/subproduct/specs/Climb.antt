@@ -5,20 +5,19 @@
 -- Proved: by a stored tree of a family it is the model's pair; it rests on nothing but the stored tree; and the recursion's steps.
 -- Assumes nothing.
 use mathlib.Core.Path.{_≡_, refl, sym, _∙_, ap, ap₂}
-use mathlib.Core.List.{List, [], _∷_, _++_}
+use mathlib.Core.List.{List, [], _∷_}
 use mathlib.Core.Logic.{inl, inr}
 use Prim.Native.Nat.{ℕ, zero, suc, _+_, _*_, _-_, _/_, _≤_, _<_}
 use native.Mathlib.Numerals.{add-one}
 use native.Mathlib.Omega.{arith}
 use lib.ListN.{length, getD, take, set}
 use Rattle.definitions.specs.Family.{Family, family, greatestModulus}
-use Rattle.theory.specs.Level.{span, span-zero, span-suc, span-two}
+use Rattle.theory.specs.Level.{span, span-suc, span-two}
 use Rattle.theory.specs.Regions.{part, written, Apart, ResiduesIn, KeptOutside, part-residues, part-written, written-one, written-more, written-kept, kept-wider, kept-then, kept-part, kept-residues}
 use Rattle.theory.specs.Products.{Below}
-use Rattle.theory.specs.Tree.{Matrix, Pair, node, raise, up}
+use Rattle.theory.specs.Tree.{Pair, raise, up}
 use Rattle.theory.specs.TreeLengths.{PairLength, raise-length}
 use Rattle.theory.specs.TreeBelow.{PairBelow, raise-below, up-below}
-use Rattle.products.specs.Places.{Source, Aside}
 use Rattle.subproduct.specs.Layout.{Level, Halves, treeSize, treeList, nodePlace, pairList, matrixAt, pairAt, level-halves, level-one, treeSize-suc, treeSize-node, pairList-length, pair-reads, tree-left, tree-right, tree-matrix, matrixAt-kept, pairList-below}
 use Rattle.subproduct.specs.Build.{RaisePlaces}
 

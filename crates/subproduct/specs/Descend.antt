@@ -12,15 +12,15 @@ use mathlib.Core.Logic.{inl, inr}
 use Prim.Native.Nat.{ℕ, zero, suc, _+_, _*_, _-_, _/_, _≤_, _<_}
 use native.Mathlib.Nat.{add-zero}
 use native.Mathlib.Omega.{arith}
-use lib.ListN.{length, getD, take, set, length-append}
+use lib.ListN.{length, getD, set, length-append}
 use Rattle.definitions.specs.Family.{Family, greatestModulus}
-use Rattle.theory.specs.Level.{span, span-zero, span-suc, span-two}
+use Rattle.theory.specs.Level.{span}
 use Rattle.theory.specs.Regions.{part, written, Apart, ResiduesIn, KeptOutside, part-entry, part-take, part-both, part-residues, part-written, written-one, written-more, written-then, written-kept, kept-wider, kept-then, kept-part, kept-residues}
-use Rattle.theory.specs.Products.{Below, transposedSum, transposedSum-length}
+use Rattle.theory.specs.Products.{transposedSum, transposedSum-length}
 use Rattle.theory.specs.Tree.{Pair, node, firstTerms, lower, down}
-use Rattle.theory.specs.TreeLengths.{PairLength, lower-length}
+use Rattle.theory.specs.TreeLengths.{lower-length}
 use Rattle.theory.specs.TreeBelow.{lower-below}
-use Rattle.products.specs.Places.{Source, Aside, TransposedPlaces}
+use Rattle.products.specs.Places.{Aside, TransposedPlaces}
 use Rattle.subproduct.specs.Layout.{Level, Halves, treeSize, treeList, nodePlace, pairList, matrixAt, pairAt, level-halves, level-one, treeSize-suc, treeSize-node, pairList-length, pair-reads, tree-left, tree-right, tree-matrix, matrixAt-kept, pairList-below}
 use Rattle.subproduct.specs.Build.{aside-within, aside-kept}
 

@@ -14,7 +14,7 @@ use Prim.Native.Nat.{ℕ, zero, suc, _+_, _*_, _-_, _/_, _^_, _≤_, _<_}
 use native.Mathlib.Decide.{le-ind}
 use native.Mathlib.Nat.{add-zero, le-refl, mul-suc, add-mul}
 use native.Mathlib.Omega.{arith}
-use lib.ListN.{length, getD, length-append}
+use lib.ListN.{length, length-append}
 use Rattle.definitions.specs.Family.{Family, rowAt}
 use Rattle.theory.specs.Level.{span, span-zero, span-suc, span-two, span-power}
 use Rattle.theory.specs.Regions.{part, Apart, KeptOutside, part-left, part-right, kept-part}

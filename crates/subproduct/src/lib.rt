@@ -2,12 +2,12 @@
 // (specs/Layout.antt). All recursions go by the number of pairs of rows, which is halved at each level.
 ghost use mathlib.Core.Path.{_≡_};
 ghost use mathlib.Core.List.{[], _∷_};
-ghost use Prim.Native.Nat.{ℕ, zero, _+_, _*_, _-_, _%_, _≤_, _<_};
+ghost use Prim.Native.Nat.{_+_, _*_, _-_, _%_, _≤_, _<_};
 ghost use lib.ListN.{length, getD, take};
-ghost use Rattle.theory.specs.Regions.{part, written};
-ghost use Rattle.theory.specs.Tree.{padded, leaf, join, node, raise, lower};
+ghost use Rattle.theory.specs.Regions.{written};
+ghost use Rattle.theory.specs.Tree.{padded, leaf, join, raise, lower};
 ghost use Rattle.subproduct.specs.Layout.{Level, treeSize, treeList, matrixList, pairList, matrixAt, pairAt};
-ghost use Rattle.subproduct.specs.Build.{familyOf, rowOf, Residues, LeafInput, RaisePlaces, JoinPlaces, RowsInput, BuildInput};
+ghost use Rattle.subproduct.specs.Build.{familyOf, rowOf, Residues, LeafInput, RaisePlaces, JoinPlaces, BuildInput};
 ghost use Rattle.subproduct.specs.Climb.{ClimbInput, ClimbOutput};
 ghost use Rattle.subproduct.specs.Descend.{LeafPlaces, LowerPlaces, DescendInput, DescendOutput, listsAt};
 use products::add_products;

@@ -9,7 +9,7 @@
 -- side, one entry more, a table written entry by entry; what lies outside is kept, also by several steps one after the other.
 -- Assumes nothing.
 use mathlib.Core.Path.{_≡_, refl, sym, _∙_, ap, ap₂}
-use mathlib.Core.List.{List, [], _∷_, _++_, append-assoc}
+use mathlib.Core.List.{List, [], _∷_, _++_}
 use mathlib.Core.Logic.{_⊎_, inl, inr}
 use Prim.Native.Nat.{ℕ, suc, _+_, _-_, _<_, _≤_}
 use native.Mathlib.Decide.{decLt}
@@ -60,11 +60,6 @@ part-equal w v at n e = table-equal n _ _ (λ i h. e (at + i) (omega arith) (ome
 pub part-unique : (w : List ℕ) (at : ℕ) (xs : List ℕ) → ((i : ℕ) → i < length xs → getD w (at + i) 0 ≡ getD xs i 0) → part w at (length xs) ≡ xs
 unfolding part
 part-unique w at xs e = sym (table-unique xs (length xs) _ refl (λ i h. sym (e i h)))
-
--- a part of a part
-pub part-part : (w : List ℕ) (at n p k : ℕ) → p + k ≤ n → part (part w at n) p k ≡ part w (at + p) k
-unfolding part
-part-part w at n p k h = table-equal k _ _ (λ i l. table-entry n _ (p + i) 0 (omega arith) ∙ ap (λ j. getD w j 0) (sym (add-assoc at p i)))
 
 -- the numbers that a slice lends
 pub part-slice : (w : List ℕ) (at n : ℕ) → at + n ≤ length w → take n (drop at w) ≡ part w at n
@@ -178,9 +173,6 @@ written-unique w at xs w′ room kept holds =
     reads i (no p) (no q) = kept .behind i (omega arith) ∙ sym (written-behind w at xs room i (omega arith))
 
 -- ---- what is kept
-pub kept-all : (lo hi : ℕ) (w : List ℕ) → KeptOutside lo hi w w
-kept-all lo hi w = record { long = refl; before = λ i h. refl; behind = λ i h. refl }
-
 pub kept-wider : (lo hi lo′ hi′ : ℕ) (w w′ : List ℕ) → lo′ ≤ lo → hi ≤ hi′ → KeptOutside lo hi w w′ → KeptOutside lo′ hi′ w w′
 kept-wider lo hi lo′ hi′ w w′ p q k = record { long = k .long; before = λ i h. k .before i (omega arith); behind = λ i h. k .behind i (omega arith) }
 
@@ -253,10 +245,6 @@ written-table w at f k h =
     let e : length (table k f) ≡ k = table-length k f in
     ap (λ n. set (written w at (table k f)) (at + n) (f k)) (sym e) ∙ written-more w at (table k f) (f k) (rw e (omega arith))
     ∙ rw (add-one, table-snoc)
-
-pub written-front : (w : List ℕ) (xs : List ℕ) → written w 0 xs ≡ xs ++ drop (length xs) w
-unfolding written
-written-front w xs = rw zero-add
 
 -- ---- a loop that writes the n numbers f 0, .., f (n - 1) from place at on; k of them stand
 pub record Writing (w₀ : List ℕ) (at n : ℕ) (f : ℕ → ℕ) (w : List ℕ) (k : ℕ) : Type 0 where

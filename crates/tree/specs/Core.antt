@@ -1,3 +1,287 @@
--- Expand and Adjoint by the tree, whole.
--- Assumes nothing.
-use Prim.Native.Nat.{ℕ}
+-- Expand and Adjoint by the tree, from the lent lists to the answer.
+--   Input         what the cores are handed: n - 1 rows and n entries of a curve, all below m, and room
+--   TreeOutput    what they leave before the working list is cleared;  Output  after it
+-- The tree lies from place 0 on, the vectors from place 9,212 on. Proved: each step is handed what it requires, and the model's list comes
+-- out. For n = 1 there is no tree, and the answer is that of F_0. Assumes nothing.
+use mathlib.Core.Path.{_≡_, sym, _∙_, ap, ap₂}
+use mathlib.Core.List.{List, [], _∷_, _++_}
+use mathlib.Core.Logic.{inl}
+use Prim.Native.Nat.{ℕ, zero, suc, _+_, _*_, _-_, _%_, _≤_, _<_}
+use native.Mathlib.Decide.{decLt}
+use native.Mathlib.Omega.{arith}
+use lib.ListN.{length, getD, take, drop, set, replicate, List·getD-eq-default}
+use lib.Seq.{length-take-le, getD-take, set-split}
+use Rattle.definitions.specs.Family.{Modulus, rows, size, rowAt}
+use Rattle.definitions.specs.Refusals.{workLength}
+use Rattle.definitions.specs.Answers.{cleared}
+use Rattle.theory.specs.Level.{span, levelFor, level-covers, level-least, level-most}
+use Rattle.theory.specs.Regions.{part, written, ResiduesIn, KeptOutside, part-take, part-residues, part-written, written-kept, kept-wider, kept-then, kept-part, kept-residues, kept-drop}
+use Rattle.theory.specs.Products.{Below, plusProduct}
+use Rattle.theory.specs.Tree.{F₁, padded, up, expandAt, treeExpand, treeExpand-tree, treeExpand-alone, down, rootPair, adjointAt, treeAdjoint, treeAdjoint-tree, treeAdjoint-alone}
+use Rattle.theory.specs.TreeLengths.{PairLength, rootPair-length}
+use Rattle.theory.specs.TreeBelow.{RowBelow, rootPair-below}
+use Rattle.subproduct.specs.Layout.{treeSize, treeList, pairList, pairAt, treeSize-most, treeList-length, treeList-below, pairList-length, pairList-below, pair-reads}
+use Rattle.subproduct.specs.Build.{familyOf, rowOf, RowsInput, BuildInput}
+use Rattle.subproduct.specs.Climb.{ClimbInput, ClimbOutput, climbed, climbed-up, climbed-length, climbed-below}
+use Rattle.subproduct.specs.Descend.{DescendInput, DescendOutput, descended-down, listsAt}
+use Rattle.tree.specs.Root.{RootInput, PairInput, rootLists}
+
+pub record Input (m : ℕ) (a b c curve : List ℕ) (n : ℕ) (output work : List ℕ) : Type 0 where
+  pub modulus : Modulus m
+  pub least : 1 ≤ n
+  pub most : n ≤ 256
+  pub aLong : n - 1 ≤ length a
+  pub bLong : n - 1 ≤ length b
+  pub cLong : n - 1 ≤ length c
+  pub curveLong : n ≤ length curve
+  pub outputLong : n ≤ length output
+  pub workLong : workLength ≤ length work
+  pub rowsBelow : (i : ℕ) → i < n - 1 → RowBelow m (rowOf (getD a i 0) (getD b i 0) (getD c i 0))
+  pub curveBelow : (i : ℕ) → i < n → getD curve i 0 < m
+
+pub record TreeOutput (result : List ℕ) (n : ℕ) (output output′ work work′ : List ℕ) : Type 0 where
+  pub written : output′ ≡ result ++ drop n output
+  pub kept : KeptOutside 0 workLength work work′
+
+pub record Output (result : List ℕ) (n : ℕ) (output output′ work work′ : List ℕ) : Type 0 where
+  pub written : output′ ≡ result ++ drop n output
+  pub wiped : work′ ≡ cleared work
+
+-- ---- what is handed in
+-- the first n of entries that are below m, with zeros behind them
+take-all-below : (m n : ℕ) (xs : List ℕ) → 0 < m → n ≤ length xs → ((i : ℕ) → i < n → getD xs i 0 < m) → Below m (take n xs)
+take-all-below m n xs pos long below i = reads (decLt i n)
+  where
+    reads : Dec (i < n) → getD (take n xs) i 0 < m
+    reads (yes h) = rw (getD-take n xs i 0 h) (below i h)
+    reads (no h) = rw (List·getD-eq-default (take n xs) 0 {n = i} (rw (length-take-le n xs long) (omega arith))) pos
+
+module _ (m : ℕ) (a b c curve : List ℕ) (n : ℕ) (output work : List ℕ) (h : Input m a b c curve n output work) where
+  positive : 0 < m
+  positive = omega (arith, h .modulus .least)
+
+  pub rows-input : RowsInput m a b c (n - 1)
+  unfolding rowAt
+  rows-input = record {
+    least = positive;
+    most = h .modulus .greatest;
+    aLong = h .aLong;
+    bLong = h .bLong;
+    cLong = h .cLong;
+    rows = λ i. record {
+      aBelow = take-all-below m (n - 1) a positive (h .aLong) (λ j l. h .rowsBelow j l .aBelow) i;
+      bBelow = take-all-below m (n - 1) b positive (h .bLong) (λ j l. h .rowsBelow j l .bBelow) i;
+      cBelow = take-all-below m (n - 1) c positive (h .cLong) (λ j l. h .rowsBelow j l .cBelow) i;
+    };
+  }
+
+  pub curve-below : Below m (take n curve)
+  curve-below = take-all-below m n curve positive (h .curveLong) (h .curveBelow)
+
+  size-is : size (familyOf m (n - 1) a b c) ≡ n
+  size-is = let e : length (take (n - 1) a) ≡ n - 1 = length-take-le (n - 1) a (h .aLong) in omega (arith, h .least)
+
+  -- ---- the tree
+  module _ (two : 2 ≤ n) (level : ℕ) (deep : level ≡ levelFor n) where
+    pub level-fits : level ≤ 7
+    unfolding span
+    level-fits = rw deep (level-least n 7 (h .most))
+
+    module _ (pairs : ℕ) (covers : pairs + pairs ≡ span level) where
+      pub span-covers : (n ≤ pairs + pairs) × (pairs + pairs ≤ 256)
+      span-covers =
+          let low : n ≤ span level = rw deep (level-covers n) in
+          let high : span level ≤ 256 = rw deep (level-most n (h .most)) in
+          (omega arith, omega arith)
+
+      -- F_1, the lowest power first
+      pub first-is : F₁ (padded (familyOf m (n - 1) a b c)) ≡ getD b 0 0 ∷ getD a 0 0 ∷ []
+      unfolding rowAt
+      first-is = ap₂ (λ x y. x ∷ y ∷ []) (getD-take (n - 1) b 0 0 (omega arith)) (getD-take (n - 1) a 0 0 (omega arith))
+
+      pub first-below : Below m (getD b 0 0 ∷ getD a 0 0 ∷ [])
+      first-below zero = h .rowsBelow 0 (omega arith) .bBelow
+      first-below (suc zero) = h .rowsBelow 0 (omega arith) .aBelow
+      first-below (suc (suc i)) = positive
+
+      pub core-build : BuildInput m a b c (n - 1) work 0 level pairs 0
+      core-build = record {
+        input = rows-input;
+        depth = record { most = level-fits; covers = covers };
+        room = omega (arith, treeSize-most level level-fits, h .workLong);
+        last = omega (arith, span-covers);
+      }
+
+      module _ (w₁ : List ℕ) (e₁ : w₁ ≡ written work 0 (treeList (padded (familyOf m (n - 1) a b c)) level 0)) where
+        tree-long : length (treeList (padded (familyOf m (n - 1) a b c)) level 0) ≡ treeSize level
+        tree-long = treeList-length (padded (familyOf m (n - 1) a b c)) level 0
+
+        tree-room : 0 + length (treeList (padded (familyOf m (n - 1) a b c)) level 0) ≤ length work
+        tree-room = omega (arith, tree-long, treeSize-most level level-fits, h .workLong)
+
+        tree-holds : part w₁ 0 (treeSize level) ≡ treeList (padded (familyOf m (n - 1) a b c)) level 0
+        tree-holds = ap₂ (λ v k. part v 0 k) e₁ (sym tree-long) ∙ part-written work 0 (treeList (padded (familyOf m (n - 1) a b c)) level 0) tree-room
+
+        tree-below : ResiduesIn m w₁ 0 (0 + treeSize level)
+        tree-below = part-residues m w₁ 0 (treeSize level) (treeList (padded (familyOf m (n - 1) a b c)) level 0) tree-holds (treeList-below (padded (familyOf m (n - 1) a b c)) (rows-input .rows) level 0)
+
+        tree-kept : KeptOutside 0 workLength work w₁
+        tree-kept = rw e₁ (kept-wider 0 (0 + length (treeList (padded (familyOf m (n - 1) a b c)) level 0)) 0 workLength work (written work 0 (treeList (padded (familyOf m (n - 1) a b c)) level 0))
+            (omega arith) (omega (arith, tree-long, treeSize-most level level-fits)) (written-kept work 0 (treeList (padded (familyOf m (n - 1) a b c)) level 0) tree-room))
+
+        -- ---- Expand
+        pub core-climb : ClimbInput m curve n w₁ 0 9212 level pairs 0
+        core-climb = record {
+          most = h .modulus .greatest;
+          curveLong = h .curveLong;
+          curveBelow = curve-below;
+          depth = record { most = level-fits; covers = covers };
+          last = omega (arith, span-covers);
+          treeBefore = omega (arith, treeSize-most level level-fits);
+          treeBelow = tree-below;
+          room = omega (arith, span-covers, h .workLong, tree-kept .long);
+        }
+
+        module _ (w₂ : List ℕ) (climbs : ClimbOutput m (take n curve) w₁ 0 9212 level 0 w₂) where
+          climbed-is : climbed m w₁ 0 (take n curve) level 0 ≡ up (padded (familyOf m (n - 1) a b c)) (take n curve) level 0
+          climbed-is = climbed-up (padded (familyOf m (n - 1) a b c)) w₁ 0 (take n curve) level 0 tree-holds
+
+          pair-holds : part w₂ 9212 (pairs + pairs + (pairs + pairs)) ≡ pairList (climbed m w₁ 0 (take n curve) level 0)
+          pair-holds = ap (λ s. part w₂ 9212 (s + s)) covers ∙ climbs .holds
+
+          pub core-root : RootInput m w₂ 9212 (pairs + pairs) (getD b 0 0 ∷ getD a 0 0 ∷ []) n output
+          core-root = record {
+            most = h .modulus .greatest;
+            inside = omega (arith, span-covers, h .workLong, tree-kept .long, climbs .kept .long);
+            below = part-residues m w₂ 9212 (pairs + pairs + (pairs + pairs)) (pairList (climbed m w₁ 0 (take n curve) level 0)) pair-holds (pairList-below m _ (climbed-below m w₁ 0 (take n curve) level 0 curve-below));
+            firstBelow = first-below;
+            covers = span-covers .0;
+            room = h .outputLong;
+          }
+
+          pub core-expand : (output′ : List ℕ) → output′ ≡ plusProduct m n (part w₂ 9212 (pairs + pairs)) (part w₂ (9212 + (pairs + pairs)) (pairs + pairs)) (getD b 0 0 ∷ getD a 0 0 ∷ []) ++ drop n output
+              → TreeOutput (treeExpand (familyOf m (n - 1) a b c) (take n curve)) n output output′ work w₂
+          unfolding expandAt pairAt
+          core-expand output′ e =
+              let long : PairLength (pairs + pairs) (climbed m w₁ 0 (take n curve) level 0) = rw covers (climbed-length m w₁ 0 (take n curve) level 0) in
+              let pair : pairAt w₂ 9212 (pairs + pairs) ≡ up (padded (familyOf m (n - 1) a b c)) (take n curve) level 0
+              = pair-reads w₂ 9212 (pairs + pairs) (climbed m w₁ 0 (take n curve) level 0) long pair-holds ∙ climbed-is in
+              let deeper : levelFor (size (familyOf m (n - 1) a b c)) ≡ level = ap levelFor size-is ∙ sym deep in
+              let some : 0 < rows (familyOf m (n - 1) a b c) = omega (arith, size-is) in
+              let model : plusProduct m n (part w₂ 9212 (pairs + pairs)) (part w₂ (9212 + (pairs + pairs)) (pairs + pairs)) (getD b 0 0 ∷ getD a 0 0 ∷ []) ≡ treeExpand (familyOf m (n - 1) a b c) (take n curve)
+              = ap₂ (λ v first. plusProduct m n (v .v0) (v .v1) first) pair (sym first-is)
+              ∙ ap₂ (λ k l. plusProduct m k (up (padded (familyOf m (n - 1) a b c)) (take n curve) l 0 .v0) (up (padded (familyOf m (n - 1) a b c)) (take n curve) l 0 .v1) (F₁ (padded (familyOf m (n - 1) a b c)))) (sym size-is) (sym deeper)
+              ∙ sym (treeExpand-tree (familyOf m (n - 1) a b c) (take n curve) some) in
+              record {
+                written = e ∙ ap (λ t. t ++ drop n output) model;
+                kept = kept-then 0 workLength work w₁ w₂ tree-kept
+                    (kept-wider 9212 (9212 + 6 * span level) 0 workLength w₁ w₂ (omega arith) (omega (arith, span-covers)) (climbs .kept));
+              }
+
+        -- ---- Adjoint
+        pub core-pair : PairInput m (getD b 0 0 ∷ getD a 0 0 ∷ []) curve n w₁ 9212 (pairs + pairs)
+        core-pair = record {
+          least = h .modulus .least;
+          most = h .modulus .greatest;
+          firstBelow = first-below;
+          curveLong = h .curveLong;
+          curveBelow = curve-below;
+          room = omega (arith, span-covers, h .workLong, tree-kept .long);
+        }
+
+        root-is : rootLists m (pairs + pairs) (getD b 0 0 ∷ getD a 0 0 ∷ []) (take n curve) ≡ rootPair (padded (familyOf m (n - 1) a b c)) level (take n curve)
+        unfolding rootLists rootPair
+        root-is = rw (covers, ← first-is)
+
+        module _ (w₂ : List ℕ) (e₂ : w₂ ≡ written w₁ 9212 (pairList (rootLists m (pairs + pairs) (getD b 0 0 ∷ getD a 0 0 ∷ []) (take n curve)))) where
+          pair-long : PairLength (pairs + pairs) (rootPair (padded (familyOf m (n - 1) a b c)) level (take n curve))
+          pair-long = rw covers (rootPair-length (padded (familyOf m (n - 1) a b c)) level (take n curve))
+
+          pair-written : w₂ ≡ written w₁ 9212 (pairList (rootPair (padded (familyOf m (n - 1) a b c)) level (take n curve)))
+          pair-written = e₂ ∙ ap (λ v. written w₁ 9212 (pairList v)) root-is
+
+          list-long : length (pairList (rootPair (padded (familyOf m (n - 1) a b c)) level (take n curve))) ≡ pairs + pairs + (pairs + pairs)
+          list-long = pairList-length (pairs + pairs) _ pair-long
+
+          list-room : 9212 + length (pairList (rootPair (padded (familyOf m (n - 1) a b c)) level (take n curve))) ≤ length w₁
+          list-room = omega (arith, list-long, span-covers, h .workLong, tree-kept .long)
+
+          pair-kept : KeptOutside 9212 workLength w₁ w₂
+          pair-kept = rw pair-written (kept-wider 9212 (9212 + length (pairList (rootPair (padded (familyOf m (n - 1) a b c)) level (take n curve)))) 9212 workLength w₁ _
+              (omega arith) (omega (arith, list-long, span-covers)) (written-kept w₁ 9212 _ list-room))
+
+          root-holds : part w₂ 9212 (pairs + pairs + (pairs + pairs)) ≡ pairList (rootPair (padded (familyOf m (n - 1) a b c)) level (take n curve))
+          root-holds = ap₂ (λ v k. part v 9212 k) pair-written (sym list-long) ∙ part-written w₁ 9212 _ list-room
+
+          root-below : ResiduesIn m w₂ 9212 (9212 + (pairs + pairs + (pairs + pairs)))
+          root-below = part-residues m w₂ 9212 (pairs + pairs + (pairs + pairs)) _ root-holds (pairList-below m _ (rootPair-below (padded (familyOf m (n - 1) a b c)) positive level (take n curve)))
+
+          still-holds : part w₂ 0 (treeSize level) ≡ treeList (padded (familyOf m (n - 1) a b c)) level 0
+          still-holds = kept-part 9212 workLength w₁ w₂ pair-kept 0 (treeSize level) (inl (omega (arith, treeSize-most level level-fits))) ∙ tree-holds
+
+          pub core-descend : DescendInput m w₂ 0 9212 (9212 + (pairs + pairs)) (9212 + (pairs + pairs) + (pairs + pairs)) level pairs
+          core-descend =
+              let long : length w₂ ≡ length work = pair-kept .long ∙ tree-kept .long in
+              record {
+                least = positive;
+                most = h .modulus .greatest;
+                depth = record { most = level-fits; covers = covers };
+                treeBefore = omega (arith, treeSize-most level level-fits);
+                treeBelow = kept-residues 9212 workLength w₁ w₂ pair-kept m 0 (treeSize level) (inl (omega (arith, treeSize-most level level-fits))) tree-below;
+                room = omega (arith, span-covers, h .workLong);
+                firstAside = record { source = record { inside = omega (arith, span-covers, h .workLong); below = λ i p q. root-below i p (omega arith) }; apart = inl (omega arith) };
+                secondAside = record { source = record { inside = omega (arith, span-covers, h .workLong); below = λ i p q. root-below i (omega arith) (omega arith) }; apart = inl (omega arith) };
+              }
+
+          module _ (w₃ : List ℕ) (descends : DescendOutput m w₂ 0 9212 (9212 + (pairs + pairs)) (9212 + (pairs + pairs) + (pairs + pairs)) level w₃) where
+            pub core-copy : (9212 + (pairs + pairs) + (pairs + pairs) + n ≤ length w₃) × (n ≤ length output)
+            core-copy = (omega (arith, span-covers, h .workLong, tree-kept .long, pair-kept .long, descends .kept .long), h .outputLong)
+
+            entries : part w₃ (9212 + (pairs + pairs) + (pairs + pairs)) (span level) ≡ down (padded (familyOf m (n - 1) a b c)) level 0 (rootPair (padded (familyOf m (n - 1) a b c)) level (take n curve))
+            unfolding listsAt pairAt
+            entries =
+                descends .holds
+                ∙ descended-down (padded (familyOf m (n - 1) a b c)) w₂ 0 level 0 (listsAt w₂ 9212 (9212 + (pairs + pairs)) (span level)) still-holds
+                ∙ ap (λ s. down (padded (familyOf m (n - 1) a b c)) level 0 (listsAt w₂ 9212 (9212 + (pairs + pairs)) s)) (sym covers)
+                ∙ ap (down (padded (familyOf m (n - 1) a b c)) level 0) (pair-reads w₂ 9212 (pairs + pairs) _ pair-long root-holds)
+
+            pub core-adjoint : (output′ : List ℕ) → output′ ≡ part w₃ (9212 + (pairs + pairs) + (pairs + pairs)) n ++ drop n output
+                → TreeOutput (treeAdjoint (familyOf m (n - 1) a b c) (take n curve)) n output output′ work w₃
+            unfolding adjointAt
+            core-adjoint output′ e =
+                let deeper : levelFor (size (familyOf m (n - 1) a b c)) ≡ level = ap levelFor size-is ∙ sym deep in
+                let some : 0 < rows (familyOf m (n - 1) a b c) = omega (arith, size-is) in
+                let model : part w₃ (9212 + (pairs + pairs) + (pairs + pairs)) n ≡ treeAdjoint (familyOf m (n - 1) a b c) (take n curve)
+                = sym (part-take w₃ (span level) n (9212 + (pairs + pairs) + (pairs + pairs)) (omega (arith, span-covers)))
+                ∙ ap (take n) entries
+                ∙ ap₂ (λ k l. take k (down (padded (familyOf m (n - 1) a b c)) l 0 (rootPair (padded (familyOf m (n - 1) a b c)) l (take n curve)))) (sym size-is) (sym deeper)
+                ∙ sym (treeAdjoint-tree (familyOf m (n - 1) a b c) (take n curve) some) in
+                record {
+                  written = e ∙ ap (λ t. t ++ drop n output) model;
+                  kept = kept-then 0 workLength work w₂ w₃
+                      (kept-then 0 workLength work w₁ w₂ tree-kept (kept-wider 9212 workLength 0 workLength w₁ w₂ (omega arith) (omega arith) pair-kept))
+                      (kept-wider (9212 + (pairs + pairs) + (pairs + pairs)) (9212 + (pairs + pairs) + (pairs + pairs) + 3 * span level) 0 workLength w₂ w₃ (omega arith) (omega (arith, span-covers)) (descends .kept));
+                }
+
+  -- ---- no tree
+  alone-is : n ≡ 1 → (output′ : List ℕ) (result : List ℕ) → result ≡ getD (take n curve) 0 0 % m ∷ [] → output′ ≡ set output 0 (getD curve 0 0 % m) → output′ ≡ result ++ drop n output
+  alone-is e output′ result r g =
+      g ∙ set-split output 0 (getD curve 0 0 % m) (omega (arith, h .outputLong))
+      ∙ ap₂ (λ x k. x % m ∷ drop k output) (sym (getD-take n curve 0 0 (omega arith))) (sym e) ∙ ap (λ t. t ++ drop n output) (sym r)
+
+  none : n ≡ 1 → rows (familyOf m (n - 1) a b c) ≡ 0
+  none e = omega (arith, size-is)
+
+  pub alone-expand : n ≡ 1 → (output′ work′ : List ℕ) → output′ ≡ set output 0 (getD curve 0 0 % m) → work′ ≡ cleared work → Output (treeExpand (familyOf m (n - 1) a b c) (take n curve)) n output output′ work work′
+  alone-expand e output′ work′ g w = record { written = alone-is e output′ _ (treeExpand-alone (familyOf m (n - 1) a b c) (take n curve) (none e)) g; wiped = w }
+
+  pub alone-adjoint : n ≡ 1 → (output′ work′ : List ℕ) → output′ ≡ set output 0 (getD curve 0 0 % m) → work′ ≡ cleared work → Output (treeAdjoint (familyOf m (n - 1) a b c) (take n curve)) n output output′ work work′
+  alone-adjoint e output′ work′ g w = record { written = alone-is e output′ _ (treeAdjoint-alone (familyOf m (n - 1) a b c) (take n curve) (none e)) g; wiped = w }
+
+-- ---- the working list wiped
+pub wiped-output : (result : List ℕ) (n : ℕ) (output output′ work work′ work″ : List ℕ) → TreeOutput result n output output′ work work′ → work″ ≡ cleared work′ → Output result n output output′ work work″
+unfolding cleared
+wiped-output result n output output′ work work′ work″ t e = record {
+  written = t .written;
+  wiped = e ∙ ap (λ d. replicate workLength 0 ++ d) (kept-drop 0 workLength work work′ (t .kept) workLength (omega arith));
+}

@@ -3,7 +3,7 @@
 --   PairInput, rootLists           of the first step of Adjoint: the pair of the transposed products with F_0 and F_1
 -- Proved: what the leading zeros of n - 1 say of the level; a product entry by entry; zeros written entry by entry. Assumes nothing.
 use mathlib.Core.Path.{_≡_, refl, sym, _∙_, ap, ap₂}
-use mathlib.Core.List.{List, [], _∷_, _++_}
+use mathlib.Core.List.{List, _∷_, _++_}
 use Prim.Native.Nat.{ℕ, zero, suc, _+_, _*_, _-_, _%_, _^_, _≤_, _<_}
 use native.Mathlib.Nat.{one-mul, mod-lt, mod-eq-of-lt, two-pow-succ}
 use native.Mathlib.Omega.{arith}

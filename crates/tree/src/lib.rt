@@ -1,8 +1,8 @@
 // Expand and Adjoint by the subproduct tree, on input that is already checked. Both work in the first 16,384 numbers of the working list and
 // leave zeros there: the tree from place 0 on, the vectors and their scratch from place 9,212 on.
 ghost use mathlib.Core.Path.{_≡_};
-ghost use mathlib.Core.List.{[], _∷_, _++_};
-ghost use Prim.Native.Nat.{ℕ, _+_, _*_, _-_, _%_, _≤_, _<_};
+ghost use mathlib.Core.List.{_++_};
+ghost use Prim.Native.Nat.{_+_, _-_, _%_, _≤_, _<_};
 ghost use lib.ListN.{length, getD, take, drop};
 ghost use Rattle.definitions.specs.Answers.{cleared};
 ghost use Rattle.theory.specs.Level.{span, levelFor};
@@ -12,8 +12,12 @@ ghost use Rattle.theory.specs.Tree.{treeExpand, treeAdjoint};
 ghost use Rattle.subproduct.specs.Layout.{pairList};
 ghost use Rattle.subproduct.specs.Build.{familyOf};
 ghost use Rattle.tree.specs.Root.{RootInput, CoefficientInput, PairInput, rootLists};
+ghost use Rattle.tree.specs.Core.{Input, TreeOutput, Output};
 use products::product_at;
 use products::transposed;
+use subproduct::build;
+use subproduct::climb;
+use subproduct::descend;
 
 // The level of the least tree that covers n rows.
 fn level_for(n: usize) -> usize
@@ -96,4 +100,95 @@ fn clear(work: &mut [u32])
         work[i] = 0;
         i += 1;
     }
+}
+
+fn expand_tree(
+    m: u32,
+    a: &[u32],
+    b: &[u32],
+    c: &[u32],
+    curve: &[u32],
+    n: usize,
+    output: &mut [u32],
+    work: &mut [u32],
+)
+    requires { ⌜ Input m (now a) (now b) (now c) (now curve) n (now output) (now work) × (2 ≤ n) ⌝ }
+    ensures { λ _. ⌜ TreeOutput (treeExpand (familyOf m (n - 1) (now (a .entry)) (now (b .entry)) (now (c .entry))) (take n (now (curve .entry)))) n (now (output .entry)) (now (output .exit)) (now (work .entry)) (now (work .exit)) ⌝ }
+{
+    let level = level_for(n);
+    let pairs = pairs_for(level);
+    let first = [b[0], a[0]];
+    build(m, a, b, c, n - 1, work, 0, level, pairs, 0);
+    climb(m, curve, n, work, 0, 9212, level, pairs, 0);
+    expand_root(m, work, 9212, pairs + pairs, &first, n, output);
+}
+
+fn adjoint_tree(
+    m: u32,
+    a: &[u32],
+    b: &[u32],
+    c: &[u32],
+    curve: &[u32],
+    n: usize,
+    output: &mut [u32],
+    work: &mut [u32],
+)
+    requires { ⌜ Input m (now a) (now b) (now c) (now curve) n (now output) (now work) × (2 ≤ n) ⌝ }
+    ensures { λ _. ⌜ TreeOutput (treeAdjoint (familyOf m (n - 1) (now (a .entry)) (now (b .entry)) (now (c .entry))) (take n (now (curve .entry)))) n (now (output .entry)) (now (output .exit)) (now (work .entry)) (now (work .exit)) ⌝ }
+{
+    let level = level_for(n);
+    let pairs = pairs_for(level);
+    let first = [b[0], a[0]];
+    let second = 9212 + (pairs + pairs);
+    let at = second + (pairs + pairs);
+    build(m, a, b, c, n - 1, work, 0, level, pairs, 0);
+    root_pair(m, &first, curve, n, work, 9212, pairs + pairs);
+    descend(m, work, 0, 9212, second, at, level, pairs);
+    copy_out(work, at, n, output);
+}
+
+// Expand: the n first coefficients of the sum of the u_j F_j, from n - 1 rows and n entries of a curve. Up to n = 256 the tree fits.
+pub fn expand(
+    m: u32,
+    a: &[u32],
+    b: &[u32],
+    c: &[u32],
+    curve: &[u32],
+    n: usize,
+    output: &mut [u32],
+    work: &mut [u32],
+)
+    requires { ⌜ Input m (now a) (now b) (now c) (now curve) n (now output) (now work) ⌝ }
+    ensures { λ _. ⌜ Output (treeExpand (familyOf m (n - 1) (now (a .entry)) (now (b .entry)) (now (c .entry))) (take n (now (curve .entry)))) n (now (output .entry)) (now (output .exit)) (now (work .entry)) (now (work .exit)) ⌝ }
+{
+    if n == 1 {
+        output[0] = curve[0] % m;
+        clear(work);
+        return;
+    }
+    expand_tree(m, a, b, c, curve, n, output, work);
+    clear(work);
+}
+
+// Adjoint: entry j is the sum over i of u_i times the coefficient of x^i in F_j, for j below n.
+pub fn adjoint(
+    m: u32,
+    a: &[u32],
+    b: &[u32],
+    c: &[u32],
+    curve: &[u32],
+    n: usize,
+    output: &mut [u32],
+    work: &mut [u32],
+)
+    requires { ⌜ Input m (now a) (now b) (now c) (now curve) n (now output) (now work) ⌝ }
+    ensures { λ _. ⌜ Output (treeAdjoint (familyOf m (n - 1) (now (a .entry)) (now (b .entry)) (now (c .entry))) (take n (now (curve .entry)))) n (now (output .entry)) (now (output .exit)) (now (work .entry)) (now (work .exit)) ⌝ }
+{
+    if n == 1 {
+        output[0] = curve[0] % m;
+        clear(work);
+        return;
+    }
+    adjoint_tree(m, a, b, c, curve, n, output, work);
+    clear(work);
 }

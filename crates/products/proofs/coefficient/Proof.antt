@@ -1,109 +1,82 @@
+-- `products::coefficient` meets its contract: what the slices lend are the parts, and the second sum begins with the first. Assumes nothing.
 use native.Mathlib.Omega.{arith}
 use Rattle.products.specs.Places.{coefficient-remainder, coefficient-first, coefficient-second, coefficient-both}
 use borrow.Author.Needs.{needs}
 use Rattle.products.proofs.coefficient.Statement.{statement}
 use Rattle.products.proofs.coefficient.Tie as tie
-use Rattle.products.proofs.coefficient.Reads as reads
-use Rattle.products.proofs.coefficient.Lts as lts
-use Rattle.products.proofs.product_at.Reads as product-at-reads
 
--- src/lib.rt:109:49
 add-product-at : tie.Need-add-product-at
 add-product-at c = search needs
 
--- src/lib.rt:109:43
 mul-product-at : tie.Need-mul-product-at
 mul-product-at c = search needs
 
--- src/lib.rt:109:43
 sub-product-at : tie.Need-sub-product-at
 sub-product-at c = search needs
 
--- src/lib.rt:109:43
 part-product-at-start : tie.Need-part-product-at-start
 part-product-at-start c = search needs
 
--- src/lib.rt:109:43
 part-product-at-end : tie.Need-part-product-at-end
 part-product-at-end c = search needs
 
--- src/lib.rt:109:64
 add-product-at-2 : tie.Need-add-product-at-2
 add-product-at-2 c = search needs
 
--- src/lib.rt:109:58
 mul-product-at-2 : tie.Need-mul-product-at-2
 mul-product-at-2 c = search needs
 
--- src/lib.rt:109:58
 sub-product-at-2 : tie.Need-sub-product-at-2
 sub-product-at-2 c = search needs
 
--- src/lib.rt:109:58
 part-product-at-start-2 : tie.Need-part-product-at-start-2
 part-product-at-start-2 c = search needs
 
--- src/lib.rt:109:58
 part-product-at-end-2 : tie.Need-part-product-at-end-2
 part-product-at-end-2 c = search needs
 
--- src/lib.rt:109:9
 product-at-requires : tie.Need-product-at-requires
 product-at-requires c κs = coefficient-first _ _ _ _ _ _ _ _ _ _ (c .before .before .before .pre)
 
--- src/lib.rt:110:41
 add-product-at-3 : tie.Need-add-product-at-3
 add-product-at-3 c = search needs
 
--- src/lib.rt:110:35
 mul-product-at-3 : tie.Need-mul-product-at-3
 mul-product-at-3 c = search needs
 
--- src/lib.rt:110:35
 sub-product-at-3 : tie.Need-sub-product-at-3
 sub-product-at-3 c = search needs
 
--- src/lib.rt:110:35
 part-product-at-start-3 : tie.Need-part-product-at-start-3
 part-product-at-start-3 c = search needs
 
--- src/lib.rt:110:35
 part-product-at-end-3 : tie.Need-part-product-at-end-3
 part-product-at-end-3 c = search needs
 
--- src/lib.rt:110:56
 add-product-at-4 : tie.Need-add-product-at-4
 add-product-at-4 c = search needs
 
--- src/lib.rt:110:50
 mul-product-at-4 : tie.Need-mul-product-at-4
 mul-product-at-4 c = search needs
 
--- src/lib.rt:110:50
 sub-product-at-4 : tie.Need-sub-product-at-4
 sub-product-at-4 c = search needs
 
--- src/lib.rt:110:50
 part-product-at-start-4 : tie.Need-part-product-at-start-4
 part-product-at-start-4 c = search needs
 
--- src/lib.rt:110:50
 part-product-at-end-4 : tie.Need-part-product-at-end-4
 part-product-at-end-4 c = search needs
 
--- src/lib.rt:110:9
 product-at-requires-2 : tie.Need-product-at-requires-2
 product-at-requires-2 c κs = coefficient-second _ _ _ _ _ _ _ _ _ _ (c .before .before .before .before .before .before .pre) _ (c .before .before .product-at .ensures)
 
--- src/lib.rt:111:6
 rem-result : tie.Need-rem-result
 rem-result c = search needs
 
--- src/lib.rt:111:5
 cast-result : tie.Need-cast-result
 cast-result c = omega (arith, coefficient-remainder _ _ _ _ _ _ _ _ _ _ (c .before .before .before .before .before .before .before .pre) (c .product-at2 .result))
 
--- src/lib.rt:94:1
 returns : tie.Need-returns
 returns c = coefficient-both _ _ _ _ _ _ _ _ _ _ (c .before .before .before .before .before .before .before .pre) _ (c .before .before .before .product-at .ensures) _ (c .product-at2 .ensures)
 

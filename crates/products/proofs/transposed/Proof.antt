@@ -1,12 +1,11 @@
+-- `products::transposed` meets its contract: the loop's invariant is that i terms stand from place target on (`Writing`) and the rest is as it was; the
+-- measure is what is left of them. Assumes nothing.
 use Prim.Native.Nat.{_-_}
 use native.Mathlib.Omega.{arith}
 use Rattle.theory.specs.Regions.{Writing, writing-starts}
 use Rattle.products.specs.Places.{listEntry, list-remainder, list-input, list-next, list-ends}
 use Rattle.products.proofs.transposed.Statement.{statement}
 use Rattle.products.proofs.transposed.Tie as tie
-use Rattle.products.proofs.transposed.Reads as reads
-use Rattle.products.proofs.transposed.Lts as lts
-use Rattle.products.proofs.transposed_at.Reads as transposed-at-reads
 
 abbrev Inv-loop : tie.InvT-loop
 Inv-loop m p u w₀ target n i₀ w i = Writing w₀ target n (listEntry m p u) w i
@@ -14,51 +13,39 @@ Inv-loop m p u w₀ target n i₀ w i = Writing w₀ target n (listEntry m p u) 
 abbrev μ-loop : tie.MeasureT-loop
 μ-loop m p u w₀ target n i₀ w i = n - i
 
--- src/lib.rt:196:5
 loop-holds : tie.Need-loop-holds Inv-loop μ-loop
 loop-holds c = writing-starts _ _ _ _ (c .before .before .before .pre .room)
 
--- src/lib.rt:197:13
 transposed-at-requires : tie.Need-transposed-at-requires Inv-loop μ-loop
 transposed-at-requires c κs = list-input _ _ _ _ _ _ (c .before .before .before .before .before .pre)
 
--- src/lib.rt:198:21
 add-place : tie.Need-add-place Inv-loop μ-loop
 add-place c = omega arith
 
--- src/lib.rt:199:21
 rem-w : tie.Need-rem-w Inv-loop μ-loop
 rem-w c = omega arith
 
--- src/lib.rt:199:20
 cast-w : tie.Need-cast-w Inv-loop μ-loop
 cast-w c = omega (arith, list-remainder _ _ _ _ _ _ (c .before .before .before .before .before .before .pre) (c .transposed-at .result))
 
--- src/lib.rt:199:9
 mul-w : tie.Need-mul-w Inv-loop μ-loop
 mul-w c = omega arith
 
--- src/lib.rt:199:9
 slice-write-w : tie.Need-slice-write-w Inv-loop μ-loop
 slice-write-w c = omega arith
 
--- src/lib.rt:200:9
 add-i : tie.Need-add-i Inv-loop μ-loop
 add-i c = omega arith
 
--- src/lib.rt:196:5
 loop-less : tie.Need-loop-less Inv-loop μ-loop
 loop-less c = omega arith
 
--- src/lib.rt:196:5
 loop-again : tie.Need-loop-again Inv-loop μ-loop
 loop-again c = list-next _ _ _ _ _ _ (c .before .before .before .before .before .before .pre) _ _ _ (c .before .loop-test .taken) (c .before .before .loop .inv) (c .transposed-at .ensures)
 
--- src/lib.rt:191:1
 same-length : tie.Need-same-length Inv-loop μ-loop
 same-length c = omega arith
 
--- src/lib.rt:191:1
 returns : tie.Need-returns Inv-loop μ-loop
 returns c = list-ends _ _ _ _ _ _ (c .before .before .before .before .before .pre) _ _ (c .loop-test .left) (c .before .loop .inv)
 

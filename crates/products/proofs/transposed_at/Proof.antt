@@ -1,14 +1,10 @@
+-- `products::transposed_at` meets its contract: the loop's invariant is that the terms before j are in (`Transposing`); the measure is what is left of them. Assumes nothing.
 use Prim.Native.Nat.{_-_}
 use native.Mathlib.Omega.{arith}
 use borrow.Author.Needs.{needs}
 use Rattle.products.specs.Sums.{Transposing, transposing-starts, transposing-summand, transposing-next, transposing-ends}
 use Rattle.products.proofs.transposed_at.Statement.{statement}
 use Rattle.products.proofs.transposed_at.Tie as tie
-use Rattle.products.proofs.transposed_at.Reads as reads
-use Rattle.products.proofs.transposed_at.Lts as lts
-use Rattle.products.proofs.accumulate.Reads as accumulate-reads
-use Rattle.products.proofs.excess.Reads as excess-reads
-use Rattle.products.proofs.lesser.Reads as lesser-reads
 
 abbrev Inv-loop : tie.InvT-loop
 Inv-loop m start p w i room end sum₀ j₀ sum j = Transposing m start p w i end j sum
@@ -16,55 +12,42 @@ Inv-loop m start p w i room end sum₀ j₀ sum j = Transposing m start p w i en
 abbrev μ-loop : tie.MeasureT-loop
 μ-loop m start p w i room end sum₀ j₀ sum j = end - j
 
--- src/lib.rt:67:9
 excess-requires : tie.Need-excess-requires Inv-loop μ-loop
 excess-requires c κs = search needs
 
--- src/lib.rt:68:9
 lesser-requires : tie.Need-lesser-requires Inv-loop μ-loop
 lesser-requires c κs = search needs
 
--- src/lib.rt:71:5
 loop-holds : tie.Need-loop-holds Inv-loop μ-loop
 loop-holds c = transposing-starts _ _ _ _ (c .before .before .before .before .pre) _ _ _ (c .before .excess .ensures) (c .lesser .ensures)
 
--- src/lib.rt:72:17
 add-k : tie.Need-add-k Inv-loop μ-loop
 add-k c = omega arith
 
--- src/lib.rt:73:34
 mul-accumulate : tie.Need-mul-accumulate Inv-loop μ-loop
 mul-accumulate c = omega arith
 
--- src/lib.rt:73:34
 shared-slice-read-accumulate : tie.Need-shared-slice-read-accumulate Inv-loop μ-loop
 shared-slice-read-accumulate c = omega arith
 
--- src/lib.rt:73:40
 mul-accumulate-2 : tie.Need-mul-accumulate-2 Inv-loop μ-loop
 mul-accumulate-2 c = omega arith
 
--- src/lib.rt:73:40
 shared-slice-read-accumulate-2 : tie.Need-shared-slice-read-accumulate-2 Inv-loop μ-loop
 shared-slice-read-accumulate-2 c = omega arith
 
--- src/lib.rt:73:9
 accumulate-requires : tie.Need-accumulate-requires Inv-loop μ-loop
 accumulate-requires c κs = transposing-summand _ _ _ _ (c .before .before .before .before .before .before .before .before .pre) _ _ _ _ (c .before .before .before .loop .inv) (c .before .before .loop-test .taken)
 
--- src/lib.rt:74:9
 add-j : tie.Need-add-j Inv-loop μ-loop
 add-j c = omega arith
 
--- src/lib.rt:71:5
 loop-less : tie.Need-loop-less Inv-loop μ-loop
 loop-less c = omega arith
 
--- src/lib.rt:71:5
 loop-again : tie.Need-loop-again Inv-loop μ-loop
 loop-again c = transposing-next _ _ _ _ (c .before .before .before .before .before .before .before .before .before .pre) _ _ _ _ (c .before .before .before .before .loop .inv) (c .before .before .before .loop-test .taken) _ (c .accumulate .ensures)
 
--- src/lib.rt:63:1
 returns : tie.Need-returns Inv-loop μ-loop
 returns c = transposing-ends _ _ _ _ (c .before .before .before .before .before .before .pre) _ _ _ _ (c .before .loop .inv) (c .loop-test .left)
 

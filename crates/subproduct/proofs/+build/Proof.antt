@@ -1,3 +1,5 @@
+-- `subproduct::build` meets its contract: the measure is the number of pairs of rows. The halves are stored side by side, and what is joined of them
+-- behind (`build-stored`). Assumes nothing.
 use native.Mathlib.Omega.{arith}
 use mathlib.Core.Path.{_∙_}
 use Rattle.subproduct.specs.Build.{build-one, build-one-stored, build-halves, build-sizes, build-left, build-right, build-join, build-stored}
@@ -22,7 +24,6 @@ build-at t = and 4 build-kinds.ps (is 4 build-kinds.ps μ-build t) build.Pre
 abbrev build-below : ℕ → In 4 build-kinds.ps
 build-below t = and 4 build-kinds.ps (falls 4 build-kinds.ps _<_ μ-build t) build.Pre
 
--- src/lib.rt:144:9
 build-build-leaf-requires : (t : ℕ) → build-lts.Need-build-leaf-requires (
   build-leaf-reads.Asked,
   build-leaf-reads.Learnt,
@@ -35,7 +36,6 @@ build-build-leaf-requires : (t : ℕ) → build-lts.Need-build-leaf-requires (
 ) (build-at t) build.Post
 build-build-leaf-requires t c κs = build-one _ _ _ _ _ _ _ _ _ _ (c .before .before .before .before .before .before .pre .1) (c .before .if1 .taken)
 
--- src/lib.rt:145:9
 build-same-length : (t : ℕ) → build-lts.Need-same-length (
   build-leaf-reads.Asked,
   build-leaf-reads.Learnt,
@@ -48,7 +48,6 @@ build-same-length : (t : ℕ) → build-lts.Need-same-length (
 ) (build-at t) build.Post
 build-same-length t c = c .before .before .build-leaf .kept .1 .1 .1 .1 .1 .0
 
--- src/lib.rt:145:9
 build-returns : (t : ℕ) → build-lts.Need-returns (
   build-leaf-reads.Asked,
   build-leaf-reads.Learnt,
@@ -61,7 +60,6 @@ build-returns : (t : ℕ) → build-lts.Need-returns (
 ) (build-at t) build.Post
 build-returns t c = build-one-stored _ _ _ _ _ _ _ _ _ _ (c .before .before .before .before .before .before .before .before .before .pre .1) (c .before .before .before .before .if1 .taken) _ (c .before .before .build-leaf .ensures)
 
--- src/lib.rt:148:26
 build-sub-tree-size : (t : ℕ) → build-lts.Need-sub-tree-size (
   build-leaf-reads.Asked,
   build-leaf-reads.Learnt,
@@ -74,7 +72,6 @@ build-sub-tree-size : (t : ℕ) → build-lts.Need-sub-tree-size (
 ) (build-at t) build.Post
 build-sub-tree-size t c = omega (arith, build-halves _ _ _ _ _ _ _ _ _ _ (c .before .before .before .before .before .pre .1) (c .if1 .left) .is)
 
--- src/lib.rt:148:9
 build-tree-size-requires : (t : ℕ) → build-lts.Need-tree-size-requires (
   build-leaf-reads.Asked,
   build-leaf-reads.Learnt,
@@ -87,7 +84,6 @@ build-tree-size-requires : (t : ℕ) → build-lts.Need-tree-size-requires (
 ) (build-at t) build.Post
 build-tree-size-requires t c κs = build-halves _ _ _ _ _ _ _ _ _ _ (c .before .before .before .before .before .pre .1) (c .if1 .left) .half
 
--- src/lib.rt:149:17
 build-add-right : (t : ℕ) → build-lts.Need-add-right (
   build-leaf-reads.Asked,
   build-leaf-reads.Learnt,
@@ -100,7 +96,6 @@ build-add-right : (t : ℕ) → build-lts.Need-add-right (
 ) (build-at t) build.Post
 build-add-right t c = omega (arith, build-sizes _ _ _ _ _ _ _ _ _ _ (c .before .before .before .before .before .before .pre .1) (c .before .if1 .left) _ (c .tree-size .ensures))
 
--- src/lib.rt:150:15
 build-add-end : (t : ℕ) → build-lts.Need-add-end (
   build-leaf-reads.Asked,
   build-leaf-reads.Learnt,
@@ -113,7 +108,6 @@ build-add-end : (t : ℕ) → build-lts.Need-add-end (
 ) (build-at t) build.Post
 build-add-end t c = omega (arith, build-sizes _ _ _ _ _ _ _ _ _ _ (c .before .before .before .before .before .before .pre .1) (c .before .if1 .left) _ (c .tree-size .ensures))
 
--- src/lib.rt:151:13
 build-add-k : (t : ℕ) → build-lts.Need-add-k (
   build-leaf-reads.Asked,
   build-leaf-reads.Learnt,
@@ -126,7 +120,6 @@ build-add-k : (t : ℕ) → build-lts.Need-add-k (
 ) (build-at t) build.Post
 build-add-k t c = omega (arith, build-sizes _ _ _ _ _ _ _ _ _ _ (c .before .before .before .before .before .before .pre .1) (c .before .if1 .left) _ (c .tree-size .ensures))
 
--- src/lib.rt:152:17
 build-mul-lists : (t : ℕ) → build-lts.Need-mul-lists (
   build-leaf-reads.Asked,
   build-leaf-reads.Learnt,
@@ -139,7 +132,6 @@ build-mul-lists : (t : ℕ) → build-lts.Need-mul-lists (
 ) (build-at t) build.Post
 build-mul-lists t c = omega (arith, build-sizes _ _ _ _ _ _ _ _ _ _ (c .before .before .before .before .before .before .pre .1) (c .before .if1 .left) _ (c .tree-size .ensures))
 
--- src/lib.rt:153:33
 build-sub-build : (t : ℕ) → build-lts.Need-sub-build (
   build-leaf-reads.Asked,
   build-leaf-reads.Learnt,
@@ -152,7 +144,6 @@ build-sub-build : (t : ℕ) → build-lts.Need-sub-build (
 ) (build-at t) build.Post
 build-sub-build t c = omega (arith, build-sizes _ _ _ _ _ _ _ _ _ _ (c .before .before .before .before .before .before .before .pre .1) (c .before .before .if1 .left) _ (c .before .tree-size .ensures))
 
--- src/lib.rt:153:5
 build-build-requires : (t : ℕ) → build-lts.Need-build-requires (
   build-leaf-reads.Asked,
   build-leaf-reads.Learnt,
@@ -165,7 +156,6 @@ build-build-requires : (t : ℕ) → build-lts.Need-build-requires (
 ) (build-at t) build.Post
 build-build-requires t c κs = (omega (arith, build-sizes _ _ _ _ _ _ _ _ _ _ (c .before .before .before .before .before .before .before .pre .1) (c .before .before .if1 .left) _ (c .before .tree-size .ensures)), build-left _ _ _ _ _ _ _ _ _ _ (c .before .before .before .before .before .before .before .pre .1) (c .before .before .if1 .left) _ (c .before .tree-size .ensures))
 
--- src/lib.rt:154:36
 build-sub-build-2 : (t : ℕ) → build-lts.Need-sub-build-2 (
   build-leaf-reads.Asked,
   build-leaf-reads.Learnt,
@@ -178,7 +168,6 @@ build-sub-build-2 : (t : ℕ) → build-lts.Need-sub-build-2 (
 ) (build-at t) build.Post
 build-sub-build-2 t c = omega (arith, build-sizes _ _ _ _ _ _ _ _ _ _ (c .before .before .before .before .before .before .before .before .before .before .before .pre .1) (c .before .before .before .before .before .before .if1 .left) _ (c .before .before .before .before .before .tree-size .ensures))
 
--- src/lib.rt:154:53
 build-add-build : (t : ℕ) → build-lts.Need-add-build (
   build-leaf-reads.Asked,
   build-leaf-reads.Learnt,
@@ -191,7 +180,6 @@ build-add-build : (t : ℕ) → build-lts.Need-add-build (
 ) (build-at t) build.Post
 build-add-build t c = omega (arith, build-sizes _ _ _ _ _ _ _ _ _ _ (c .before .before .before .before .before .before .before .before .before .before .before .pre .1) (c .before .before .before .before .before .before .if1 .left) _ (c .before .before .before .before .before .tree-size .ensures))
 
--- src/lib.rt:154:5
 build-build-requires-2 : (t : ℕ) → build-lts.Need-build-requires-2 (
   build-leaf-reads.Asked,
   build-leaf-reads.Learnt,
@@ -204,7 +192,6 @@ build-build-requires-2 : (t : ℕ) → build-lts.Need-build-requires-2 (
 ) (build-at t) build.Post
 build-build-requires-2 t c κs = (omega (arith, build-sizes _ _ _ _ _ _ _ _ _ _ (c .before .before .before .before .before .before .before .before .before .before .before .pre .1) (c .before .before .before .before .before .before .if1 .left) _ (c .before .before .before .before .before .tree-size .ensures)), build-right _ _ _ _ _ _ _ _ _ _ (c .before .before .before .before .before .before .before .before .before .before .before .pre .1) (c .before .before .before .before .before .before .if1 .left) _ (c .before .before .before .before .before .tree-size .ensures) _ (c .before .before .before .build .ensures))
 
--- src/lib.rt:155:21
 build-add-join : (t : ℕ) → build-lts.Need-add-join (
   build-leaf-reads.Asked,
   build-leaf-reads.Learnt,
@@ -217,7 +204,6 @@ build-add-join : (t : ℕ) → build-lts.Need-add-join (
 ) (build-at t) build.Post
 build-add-join t c = omega (arith, build-sizes _ _ _ _ _ _ _ _ _ _ (c .before .before .before .before .before .before .before .before .before .before .before .before .before .before .before .pre .1) (c .before .before .before .before .before .before .before .before .before .before .if1 .left) _ (c .before .before .before .before .before .before .before .before .before .tree-size .ensures))
 
--- src/lib.rt:155:32
 build-sub-join : (t : ℕ) → build-lts.Need-sub-join (
   build-leaf-reads.Asked,
   build-leaf-reads.Learnt,
@@ -230,7 +216,6 @@ build-sub-join : (t : ℕ) → build-lts.Need-sub-join (
 ) (build-at t) build.Post
 build-sub-join t c = omega (arith, build-sizes _ _ _ _ _ _ _ _ _ _ (c .before .before .before .before .before .before .before .before .before .before .before .before .before .before .before .pre .1) (c .before .before .before .before .before .before .before .before .before .before .if1 .left) _ (c .before .before .before .before .before .before .before .before .before .tree-size .ensures))
 
--- src/lib.rt:155:45
 build-sub-join-2 : (t : ℕ) → build-lts.Need-sub-join-2 (
   build-leaf-reads.Asked,
   build-leaf-reads.Learnt,
@@ -243,7 +228,6 @@ build-sub-join-2 : (t : ℕ) → build-lts.Need-sub-join-2 (
 ) (build-at t) build.Post
 build-sub-join-2 t c = omega (arith, build-sizes _ _ _ _ _ _ _ _ _ _ (c .before .before .before .before .before .before .before .before .before .before .before .before .before .before .before .pre .1) (c .before .before .before .before .before .before .before .before .before .before .if1 .left) _ (c .before .before .before .before .before .before .before .before .before .tree-size .ensures))
 
--- src/lib.rt:155:5
 build-join-requires : (t : ℕ) → build-lts.Need-join-requires (
   build-leaf-reads.Asked,
   build-leaf-reads.Learnt,
@@ -256,7 +240,6 @@ build-join-requires : (t : ℕ) → build-lts.Need-join-requires (
 ) (build-at t) build.Post
 build-join-requires t c κs = build-join _ _ _ _ _ _ _ _ _ _ (c .before .before .before .before .before .before .before .before .before .before .before .before .before .before .before .pre .1) (c .before .before .before .before .before .before .before .before .before .before .if1 .left) _ (c .before .before .before .before .before .before .before .before .before .tree-size .ensures) _ (c .before .before .before .before .before .before .before .build .ensures) _ (c .before .before .before .build2 .ensures)
 
--- src/lib.rt:128:1
 build-same-length-2 : (t : ℕ) → build-lts.Need-same-length-2 (
   build-leaf-reads.Asked,
   build-leaf-reads.Learnt,
@@ -269,7 +252,6 @@ build-same-length-2 : (t : ℕ) → build-lts.Need-same-length-2 (
 ) (build-at t) build.Post
 build-same-length-2 t c = c .before .before .join .kept .1 .0 ∙ c .before .before .before .before .before .before .build2 .kept .1 .1 .1 .1 .1 .0 ∙ c .before .before .before .before .before .before .before .before .before .before .build .kept .1 .1 .1 .1 .1 .0
 
--- src/lib.rt:128:1
 build-returns-2 : (t : ℕ) → build-lts.Need-returns-2 (
   build-leaf-reads.Asked,
   build-leaf-reads.Learnt,

@@ -1,3 +1,5 @@
+-- `subproduct::climb` meets its contract: the measure is the number of pairs of rows. The halves' pairs stand behind the node's, and nothing else changes
+-- but scratch (`climb-output`). Assumes nothing.
 use native.Mathlib.Omega.{arith}
 use mathlib.Core.Path.{_∙_}
 use Rattle.subproduct.specs.Climb.{climb-one, climb-one-output, climb-halves, climb-sizes, climb-left, climb-right, climb-raise, climb-output}
@@ -23,7 +25,6 @@ climb-at t = and 2 climb-kinds.ps (is 2 climb-kinds.ps μ-climb t) climb.Pre
 abbrev climb-below : ℕ → In 2 climb-kinds.ps
 climb-below t = and 2 climb-kinds.ps (falls 2 climb-kinds.ps _<_ μ-climb t) climb.Pre
 
--- src/lib.rt:210:13
 climb-row-entry-requires : (t : ℕ) → climb-lts.Need-row-entry-requires (
   row-entry-reads.Asked,
   row-entry-reads.Learnt,
@@ -38,7 +39,6 @@ climb-row-entry-requires : (t : ℕ) → climb-lts.Need-row-entry-requires (
 ) (climb-at t) climb.Post
 climb-row-entry-requires t c κs = c .before .before .before .pre .1 .curveLong
 
--- src/lib.rt:211:37
 climb-add-row-entry : (t : ℕ) → climb-lts.Need-add-row-entry (
   row-entry-reads.Asked,
   row-entry-reads.Learnt,
@@ -53,7 +53,6 @@ climb-add-row-entry : (t : ℕ) → climb-lts.Need-add-row-entry (
 ) (climb-at t) climb.Post
 climb-add-row-entry t c = omega (arith, climb-one _ _ _ _ _ _ _ _ _ (c .before .before .before .before .pre .1) (c .before .if1 .taken))
 
--- src/lib.rt:211:13
 climb-row-entry-requires-2 : (t : ℕ) → climb-lts.Need-row-entry-requires-2 (
   row-entry-reads.Asked,
   row-entry-reads.Learnt,
@@ -68,7 +67,6 @@ climb-row-entry-requires-2 : (t : ℕ) → climb-lts.Need-row-entry-requires-2 (
 ) (climb-at t) climb.Post
 climb-row-entry-requires-2 t c κs = c .before .before .before .before .pre .1 .curveLong
 
--- src/lib.rt:212:9
 climb-climb-leaf-requires : (t : ℕ) → climb-lts.Need-climb-leaf-requires (
   row-entry-reads.Asked,
   row-entry-reads.Learnt,
@@ -83,7 +81,6 @@ climb-climb-leaf-requires : (t : ℕ) → climb-lts.Need-climb-leaf-requires (
 ) (climb-at t) climb.Post
 climb-climb-leaf-requires t c κs = climb-one _ _ _ _ _ _ _ _ _ (c .before .before .before .before .before .before .pre .1) (c .before .before .before .if1 .taken) .0
 
--- src/lib.rt:213:9
 climb-same-length : (t : ℕ) → climb-lts.Need-same-length (
   row-entry-reads.Asked,
   row-entry-reads.Learnt,
@@ -98,7 +95,6 @@ climb-same-length : (t : ℕ) → climb-lts.Need-same-length (
 ) (climb-at t) climb.Post
 climb-same-length t c = c .before .before .climb-leaf .kept .0
 
--- src/lib.rt:213:9
 climb-returns : (t : ℕ) → climb-lts.Need-returns (
   row-entry-reads.Asked,
   row-entry-reads.Learnt,
@@ -113,7 +109,6 @@ climb-returns : (t : ℕ) → climb-lts.Need-returns (
 ) (climb-at t) climb.Post
 climb-returns t c = climb-one-output _ _ _ _ _ _ _ _ _ (c .before .before .before .before .before .before .before .before .before .pre .1) (c .before .before .before .before .before .before .if1 .taken) _ _ _ (c .before .before .before .before .before .row-entry .ensures) (c .before .before .before .before .row-entry2 .ensures) (c .before .before .climb-leaf .ensures)
 
--- src/lib.rt:216:26
 climb-sub-tree-size : (t : ℕ) → climb-lts.Need-sub-tree-size (
   row-entry-reads.Asked,
   row-entry-reads.Learnt,
@@ -128,7 +123,6 @@ climb-sub-tree-size : (t : ℕ) → climb-lts.Need-sub-tree-size (
 ) (climb-at t) climb.Post
 climb-sub-tree-size t c = omega (arith, climb-halves _ _ _ _ _ _ _ _ _ (c .before .before .before .pre .1) (c .if1 .left) .is)
 
--- src/lib.rt:216:9
 climb-tree-size-requires : (t : ℕ) → climb-lts.Need-tree-size-requires (
   row-entry-reads.Asked,
   row-entry-reads.Learnt,
@@ -143,7 +137,6 @@ climb-tree-size-requires : (t : ℕ) → climb-lts.Need-tree-size-requires (
 ) (climb-at t) climb.Post
 climb-tree-size-requires t c κs = climb-halves _ _ _ _ _ _ _ _ _ (c .before .before .before .pre .1) (c .if1 .left) .half
 
--- src/lib.rt:217:21
 climb-mul-left : (t : ℕ) → climb-lts.Need-mul-left (
   row-entry-reads.Asked,
   row-entry-reads.Learnt,
@@ -158,7 +151,6 @@ climb-mul-left : (t : ℕ) → climb-lts.Need-mul-left (
 ) (climb-at t) climb.Post
 climb-mul-left t c = omega (arith, climb-sizes _ _ _ _ _ _ _ _ _ (c .before .before .before .before .pre .1) (c .before .if1 .left) _ (c .tree-size .ensures))
 
--- src/lib.rt:217:16
 climb-add-left : (t : ℕ) → climb-lts.Need-add-left (
   row-entry-reads.Asked,
   row-entry-reads.Learnt,
@@ -173,7 +165,6 @@ climb-add-left : (t : ℕ) → climb-lts.Need-add-left (
 ) (climb-at t) climb.Post
 climb-add-left t c = omega (arith, climb-sizes _ _ _ _ _ _ _ _ _ (c .before .before .before .before .pre .1) (c .before .if1 .left) _ (c .tree-size .ensures))
 
--- src/lib.rt:218:24
 climb-mul-right : (t : ℕ) → climb-lts.Need-mul-right (
   row-entry-reads.Asked,
   row-entry-reads.Learnt,
@@ -188,7 +179,6 @@ climb-mul-right : (t : ℕ) → climb-lts.Need-mul-right (
 ) (climb-at t) climb.Post
 climb-mul-right t c = omega (arith, climb-sizes _ _ _ _ _ _ _ _ _ (c .before .before .before .before .pre .1) (c .before .if1 .left) _ (c .tree-size .ensures))
 
--- src/lib.rt:218:17
 climb-add-right : (t : ℕ) → climb-lts.Need-add-right (
   row-entry-reads.Asked,
   row-entry-reads.Learnt,
@@ -203,7 +193,6 @@ climb-add-right : (t : ℕ) → climb-lts.Need-add-right (
 ) (climb-at t) climb.Post
 climb-add-right t c = omega (arith, climb-sizes _ _ _ _ _ _ _ _ _ (c .before .before .before .before .pre .1) (c .before .if1 .left) _ (c .tree-size .ensures))
 
--- src/lib.rt:219:15
 climb-add-end : (t : ℕ) → climb-lts.Need-add-end (
   row-entry-reads.Asked,
   row-entry-reads.Learnt,
@@ -218,7 +207,6 @@ climb-add-end : (t : ℕ) → climb-lts.Need-add-end (
 ) (climb-at t) climb.Post
 climb-add-end t c = omega (arith, climb-sizes _ _ _ _ _ _ _ _ _ (c .before .before .before .before .pre .1) (c .before .if1 .left) _ (c .tree-size .ensures))
 
--- src/lib.rt:220:13
 climb-add-k : (t : ℕ) → climb-lts.Need-add-k (
   row-entry-reads.Asked,
   row-entry-reads.Learnt,
@@ -233,7 +221,6 @@ climb-add-k : (t : ℕ) → climb-lts.Need-add-k (
 ) (climb-at t) climb.Post
 climb-add-k t c = omega (arith, climb-sizes _ _ _ _ _ _ _ _ _ (c .before .before .before .before .pre .1) (c .before .if1 .left) _ (c .tree-size .ensures))
 
--- src/lib.rt:221:39
 climb-sub-climb : (t : ℕ) → climb-lts.Need-sub-climb (
   row-entry-reads.Asked,
   row-entry-reads.Learnt,
@@ -248,7 +235,6 @@ climb-sub-climb : (t : ℕ) → climb-lts.Need-sub-climb (
 ) (climb-at t) climb.Post
 climb-sub-climb t c = omega (arith, climb-sizes _ _ _ _ _ _ _ _ _ (c .before .before .before .before .before .pre .1) (c .before .before .if1 .left) _ (c .before .tree-size .ensures))
 
--- src/lib.rt:221:5
 climb-climb-requires : (t : ℕ) → climb-lts.Need-climb-requires (
   row-entry-reads.Asked,
   row-entry-reads.Learnt,
@@ -263,7 +249,6 @@ climb-climb-requires : (t : ℕ) → climb-lts.Need-climb-requires (
 ) (climb-at t) climb.Post
 climb-climb-requires t c κs = (omega (arith, climb-sizes _ _ _ _ _ _ _ _ _ (c .before .before .before .before .before .pre .1) (c .before .before .if1 .left) _ (c .before .tree-size .ensures)), climb-left _ _ _ _ _ _ _ _ _ (c .before .before .before .before .before .pre .1) (c .before .before .if1 .left) _ (c .before .tree-size .ensures))
 
--- src/lib.rt:222:39
 climb-sub-climb-2 : (t : ℕ) → climb-lts.Need-sub-climb-2 (
   row-entry-reads.Asked,
   row-entry-reads.Learnt,
@@ -278,7 +263,6 @@ climb-sub-climb-2 : (t : ℕ) → climb-lts.Need-sub-climb-2 (
 ) (climb-at t) climb.Post
 climb-sub-climb-2 t c = omega (arith, climb-sizes _ _ _ _ _ _ _ _ _ (c .before .before .before .before .before .before .before .before .before .pre .1) (c .before .before .before .before .before .before .if1 .left) _ (c .before .before .before .before .before .tree-size .ensures))
 
--- src/lib.rt:222:56
 climb-add-climb : (t : ℕ) → climb-lts.Need-add-climb (
   row-entry-reads.Asked,
   row-entry-reads.Learnt,
@@ -293,7 +277,6 @@ climb-add-climb : (t : ℕ) → climb-lts.Need-add-climb (
 ) (climb-at t) climb.Post
 climb-add-climb t c = omega (arith, climb-sizes _ _ _ _ _ _ _ _ _ (c .before .before .before .before .before .before .before .before .before .pre .1) (c .before .before .before .before .before .before .if1 .left) _ (c .before .before .before .before .before .tree-size .ensures))
 
--- src/lib.rt:222:5
 climb-climb-requires-2 : (t : ℕ) → climb-lts.Need-climb-requires-2 (
   row-entry-reads.Asked,
   row-entry-reads.Learnt,
@@ -308,7 +291,6 @@ climb-climb-requires-2 : (t : ℕ) → climb-lts.Need-climb-requires-2 (
 ) (climb-at t) climb.Post
 climb-climb-requires-2 t c κs = (omega (arith, climb-sizes _ _ _ _ _ _ _ _ _ (c .before .before .before .before .before .before .before .before .before .pre .1) (c .before .before .before .before .before .before .if1 .left) _ (c .before .before .before .before .before .tree-size .ensures)), climb-right _ _ _ _ _ _ _ _ _ (c .before .before .before .before .before .before .before .before .before .pre .1) (c .before .before .before .before .before .before .if1 .left) _ (c .before .before .before .before .before .tree-size .ensures) _ (c .before .before .before .climb .ensures))
 
--- src/lib.rt:223:21
 climb-add-raise : (t : ℕ) → climb-lts.Need-add-raise (
   row-entry-reads.Asked,
   row-entry-reads.Learnt,
@@ -323,7 +305,6 @@ climb-add-raise : (t : ℕ) → climb-lts.Need-add-raise (
 ) (climb-at t) climb.Post
 climb-add-raise t c = omega (arith, climb-sizes _ _ _ _ _ _ _ _ _ (c .before .before .before .before .before .before .before .before .before .before .before .before .before .pre .1) (c .before .before .before .before .before .before .before .before .before .before .if1 .left) _ (c .before .before .before .before .before .before .before .before .before .tree-size .ensures))
 
--- src/lib.rt:223:69
 climb-mul-raise : (t : ℕ) → climb-lts.Need-mul-raise (
   row-entry-reads.Asked,
   row-entry-reads.Learnt,
@@ -338,7 +319,6 @@ climb-mul-raise : (t : ℕ) → climb-lts.Need-mul-raise (
 ) (climb-at t) climb.Post
 climb-mul-raise t c = omega (arith, climb-sizes _ _ _ _ _ _ _ _ _ (c .before .before .before .before .before .before .before .before .before .before .before .before .before .pre .1) (c .before .before .before .before .before .before .before .before .before .before .if1 .left) _ (c .before .before .before .before .before .before .before .before .before .tree-size .ensures))
 
--- src/lib.rt:223:63
 climb-sub-raise : (t : ℕ) → climb-lts.Need-sub-raise (
   row-entry-reads.Asked,
   row-entry-reads.Learnt,
@@ -353,7 +333,6 @@ climb-sub-raise : (t : ℕ) → climb-lts.Need-sub-raise (
 ) (climb-at t) climb.Post
 climb-sub-raise t c = omega (arith, climb-sizes _ _ _ _ _ _ _ _ _ (c .before .before .before .before .before .before .before .before .before .before .before .before .before .pre .1) (c .before .before .before .before .before .before .before .before .before .before .if1 .left) _ (c .before .before .before .before .before .before .before .before .before .tree-size .ensures))
 
--- src/lib.rt:223:5
 climb-raise-requires : (t : ℕ) → climb-lts.Need-raise-requires (
   row-entry-reads.Asked,
   row-entry-reads.Learnt,
@@ -368,7 +347,6 @@ climb-raise-requires : (t : ℕ) → climb-lts.Need-raise-requires (
 ) (climb-at t) climb.Post
 climb-raise-requires t c κs = climb-raise _ _ _ _ _ _ _ _ _ (c .before .before .before .before .before .before .before .before .before .before .before .before .before .pre .1) (c .before .before .before .before .before .before .before .before .before .before .if1 .left) _ (c .before .before .before .before .before .before .before .before .before .tree-size .ensures) _ (c .before .before .before .before .before .before .before .climb .ensures) _ (c .before .before .before .climb2 .ensures)
 
--- src/lib.rt:195:1
 climb-same-length-2 : (t : ℕ) → climb-lts.Need-same-length-2 (
   row-entry-reads.Asked,
   row-entry-reads.Learnt,
@@ -383,7 +361,6 @@ climb-same-length-2 : (t : ℕ) → climb-lts.Need-same-length-2 (
 ) (climb-at t) climb.Post
 climb-same-length-2 t c = c .before .before .raise .kept .1 .0 ∙ c .before .before .before .before .before .before .climb2 .kept .1 .1 .1 .0 ∙ c .before .before .before .before .before .before .before .before .before .before .climb .kept .1 .1 .1 .0
 
--- src/lib.rt:195:1
 climb-returns-2 : (t : ℕ) → climb-lts.Need-returns-2 (
   row-entry-reads.Asked,
   row-entry-reads.Learnt,

@@ -1,3 +1,5 @@
+-- `subproduct::descend` meets its contract: the measure is the number of pairs of rows. The halves' entries stand side by side, and nothing else changes but
+-- scratch (`descend-output`). Assumes nothing.
 use native.Mathlib.Omega.{arith}
 use mathlib.Core.Path.{_∙_}
 use Rattle.subproduct.specs.Descend.{descend-one, descend-one-output, descend-halves, descend-sizes, descend-left, descend-lower, descend-right, descend-output}
@@ -22,7 +24,6 @@ descend-at t = and 1 descend-kinds.ps (is 1 descend-kinds.ps μ-descend t) desce
 abbrev descend-below : ℕ → In 1 descend-kinds.ps
 descend-below t = and 1 descend-kinds.ps (falls 1 descend-kinds.ps _<_ μ-descend t) descend.Pre
 
--- src/lib.rt:275:9
 descend-descend-leaf-requires : (t : ℕ) → descend-lts.Need-descend-leaf-requires (
   descend-leaf-reads.Asked,
   descend-leaf-reads.Learnt,
@@ -35,7 +36,6 @@ descend-descend-leaf-requires : (t : ℕ) → descend-lts.Need-descend-leaf-requ
 ) (descend-at t) descend.Post
 descend-descend-leaf-requires t c κs = descend-one _ _ _ _ _ _ _ _ (c .before .before .before .pre .1) (c .before .if1 .taken)
 
--- src/lib.rt:276:9
 descend-same-length : (t : ℕ) → descend-lts.Need-same-length (
   descend-leaf-reads.Asked,
   descend-leaf-reads.Learnt,
@@ -48,7 +48,6 @@ descend-same-length : (t : ℕ) → descend-lts.Need-same-length (
 ) (descend-at t) descend.Post
 descend-same-length t c = c .before .before .descend-leaf .kept .0
 
--- src/lib.rt:276:9
 descend-returns : (t : ℕ) → descend-lts.Need-returns (
   descend-leaf-reads.Asked,
   descend-leaf-reads.Learnt,
@@ -61,7 +60,6 @@ descend-returns : (t : ℕ) → descend-lts.Need-returns (
 ) (descend-at t) descend.Post
 descend-returns t c = descend-one-output _ _ _ _ _ _ _ _ (c .before .before .before .before .before .before .pre .1) (c .before .before .before .before .if1 .taken) _ (c .before .before .descend-leaf .ensures)
 
--- src/lib.rt:279:26
 descend-sub-tree-size : (t : ℕ) → descend-lts.Need-sub-tree-size (
   descend-leaf-reads.Asked,
   descend-leaf-reads.Learnt,
@@ -74,7 +72,6 @@ descend-sub-tree-size : (t : ℕ) → descend-lts.Need-sub-tree-size (
 ) (descend-at t) descend.Post
 descend-sub-tree-size t c = omega (arith, descend-halves _ _ _ _ _ _ _ _ (c .before .before .pre .1) (c .if1 .left) .is)
 
--- src/lib.rt:279:9
 descend-tree-size-requires : (t : ℕ) → descend-lts.Need-tree-size-requires (
   descend-leaf-reads.Asked,
   descend-leaf-reads.Learnt,
@@ -87,7 +84,6 @@ descend-tree-size-requires : (t : ℕ) → descend-lts.Need-tree-size-requires (
 ) (descend-at t) descend.Post
 descend-tree-size-requires t c κs = descend-halves _ _ _ _ _ _ _ _ (c .before .before .pre .1) (c .if1 .left) .half
 
--- src/lib.rt:280:15
 descend-add-end : (t : ℕ) → descend-lts.Need-add-end (
   descend-leaf-reads.Asked,
   descend-leaf-reads.Learnt,
@@ -100,7 +96,6 @@ descend-add-end : (t : ℕ) → descend-lts.Need-add-end (
 ) (descend-at t) descend.Post
 descend-add-end t c = omega (arith, descend-sizes _ _ _ _ _ _ _ _ (c .before .before .before .pre .1) (c .before .if1 .left) _ (c .tree-size .ensures))
 
--- src/lib.rt:281:21
 descend-mul-pair : (t : ℕ) → descend-lts.Need-mul-pair (
   descend-leaf-reads.Asked,
   descend-leaf-reads.Learnt,
@@ -113,7 +108,6 @@ descend-mul-pair : (t : ℕ) → descend-lts.Need-mul-pair (
 ) (descend-at t) descend.Post
 descend-mul-pair t c = omega (arith, descend-sizes _ _ _ _ _ _ _ _ (c .before .before .before .pre .1) (c .before .if1 .left) _ (c .tree-size .ensures))
 
--- src/lib.rt:281:16
 descend-add-pair : (t : ℕ) → descend-lts.Need-add-pair (
   descend-leaf-reads.Asked,
   descend-leaf-reads.Learnt,
@@ -126,7 +120,6 @@ descend-add-pair : (t : ℕ) → descend-lts.Need-add-pair (
 ) (descend-at t) descend.Post
 descend-add-pair t c = omega (arith, descend-sizes _ _ _ _ _ _ _ _ (c .before .before .before .pre .1) (c .before .if1 .left) _ (c .tree-size .ensures))
 
--- src/lib.rt:282:13
 descend-add-k : (t : ℕ) → descend-lts.Need-add-k (
   descend-leaf-reads.Asked,
   descend-leaf-reads.Learnt,
@@ -139,7 +132,6 @@ descend-add-k : (t : ℕ) → descend-lts.Need-add-k (
 ) (descend-at t) descend.Post
 descend-add-k t c = omega (arith, descend-sizes _ _ _ _ _ _ _ _ (c .before .before .before .pre .1) (c .before .if1 .left) _ (c .tree-size .ensures))
 
--- src/lib.rt:283:44
 descend-sub-descend : (t : ℕ) → descend-lts.Need-sub-descend (
   descend-leaf-reads.Asked,
   descend-leaf-reads.Learnt,
@@ -152,7 +144,6 @@ descend-sub-descend : (t : ℕ) → descend-lts.Need-sub-descend (
 ) (descend-at t) descend.Post
 descend-sub-descend t c = omega (arith, descend-sizes _ _ _ _ _ _ _ _ (c .before .before .before .before .pre .1) (c .before .before .if1 .left) _ (c .before .tree-size .ensures))
 
--- src/lib.rt:283:5
 descend-descend-requires : (t : ℕ) → descend-lts.Need-descend-requires (
   descend-leaf-reads.Asked,
   descend-leaf-reads.Learnt,
@@ -165,7 +156,6 @@ descend-descend-requires : (t : ℕ) → descend-lts.Need-descend-requires (
 ) (descend-at t) descend.Post
 descend-descend-requires t c κs = (omega (arith, descend-sizes _ _ _ _ _ _ _ _ (c .before .before .before .before .pre .1) (c .before .before .if1 .left) _ (c .before .tree-size .ensures)), descend-left _ _ _ _ _ _ _ _ (c .before .before .before .before .pre .1) (c .before .before .if1 .left) _ (c .before .tree-size .ensures))
 
--- src/lib.rt:284:36
 descend-mul-lower : (t : ℕ) → descend-lts.Need-mul-lower (
   descend-leaf-reads.Asked,
   descend-leaf-reads.Learnt,
@@ -178,7 +168,6 @@ descend-mul-lower : (t : ℕ) → descend-lts.Need-mul-lower (
 ) (descend-at t) descend.Post
 descend-mul-lower t c = omega (arith, descend-sizes _ _ _ _ _ _ _ _ (c .before .before .before .before .before .before .before .before .pre .1) (c .before .before .before .before .before .before .if1 .left) _ (c .before .before .before .before .before .tree-size .ensures))
 
--- src/lib.rt:284:30
 descend-sub-lower : (t : ℕ) → descend-lts.Need-sub-lower (
   descend-leaf-reads.Asked,
   descend-leaf-reads.Learnt,
@@ -191,7 +180,6 @@ descend-sub-lower : (t : ℕ) → descend-lts.Need-sub-lower (
 ) (descend-at t) descend.Post
 descend-sub-lower t c = omega (arith, descend-sizes _ _ _ _ _ _ _ _ (c .before .before .before .before .before .before .before .before .pre .1) (c .before .before .before .before .before .before .if1 .left) _ (c .before .before .before .before .before .tree-size .ensures))
 
--- src/lib.rt:284:61
 descend-add-lower : (t : ℕ) → descend-lts.Need-add-lower (
   descend-leaf-reads.Asked,
   descend-leaf-reads.Learnt,
@@ -204,7 +192,6 @@ descend-add-lower : (t : ℕ) → descend-lts.Need-add-lower (
 ) (descend-at t) descend.Post
 descend-add-lower t c = omega (arith, descend-sizes _ _ _ _ _ _ _ _ (c .before .before .before .before .before .before .before .before .pre .1) (c .before .before .before .before .before .before .if1 .left) _ (c .before .before .before .before .before .tree-size .ensures))
 
--- src/lib.rt:284:5
 descend-lower-requires : (t : ℕ) → descend-lts.Need-lower-requires (
   descend-leaf-reads.Asked,
   descend-leaf-reads.Learnt,
@@ -217,7 +204,6 @@ descend-lower-requires : (t : ℕ) → descend-lts.Need-lower-requires (
 ) (descend-at t) descend.Post
 descend-lower-requires t c κs = descend-lower _ _ _ _ _ _ _ _ (c .before .before .before .before .before .before .before .before .pre .1) (c .before .before .before .before .before .before .if1 .left) _ (c .before .before .before .before .before .tree-size .ensures) _ (c .before .before .before .descend .ensures)
 
--- src/lib.rt:285:30
 descend-add-descend : (t : ℕ) → descend-lts.Need-add-descend (
   descend-leaf-reads.Asked,
   descend-leaf-reads.Learnt,
@@ -230,7 +216,6 @@ descend-add-descend : (t : ℕ) → descend-lts.Need-add-descend (
 ) (descend-at t) descend.Post
 descend-add-descend t c = omega (arith, descend-sizes _ _ _ _ _ _ _ _ (c .before .before .before .before .before .before .before .before .before .before .before .before .pre .1) (c .before .before .before .before .before .before .before .before .before .before .if1 .left) _ (c .before .before .before .before .before .before .before .before .before .tree-size .ensures))
 
--- src/lib.rt:285:44
 descend-add-descend-2 : (t : ℕ) → descend-lts.Need-add-descend-2 (
   descend-leaf-reads.Asked,
   descend-leaf-reads.Learnt,
@@ -243,7 +228,6 @@ descend-add-descend-2 : (t : ℕ) → descend-lts.Need-add-descend-2 (
 ) (descend-at t) descend.Post
 descend-add-descend-2 t c = omega (arith, descend-sizes _ _ _ _ _ _ _ _ (c .before .before .before .before .before .before .before .before .before .before .before .before .pre .1) (c .before .before .before .before .before .before .before .before .before .before .if1 .left) _ (c .before .before .before .before .before .before .before .before .before .tree-size .ensures))
 
--- src/lib.rt:285:56
 descend-sub-descend-2 : (t : ℕ) → descend-lts.Need-sub-descend-2 (
   descend-leaf-reads.Asked,
   descend-leaf-reads.Learnt,
@@ -256,7 +240,6 @@ descend-sub-descend-2 : (t : ℕ) → descend-lts.Need-sub-descend-2 (
 ) (descend-at t) descend.Post
 descend-sub-descend-2 t c = omega (arith, descend-sizes _ _ _ _ _ _ _ _ (c .before .before .before .before .before .before .before .before .before .before .before .before .pre .1) (c .before .before .before .before .before .before .before .before .before .before .if1 .left) _ (c .before .before .before .before .before .before .before .before .before .tree-size .ensures))
 
--- src/lib.rt:285:5
 descend-descend-requires-2 : (t : ℕ) → descend-lts.Need-descend-requires-2 (
   descend-leaf-reads.Asked,
   descend-leaf-reads.Learnt,
@@ -269,7 +252,6 @@ descend-descend-requires-2 : (t : ℕ) → descend-lts.Need-descend-requires-2 (
 ) (descend-at t) descend.Post
 descend-descend-requires-2 t c κs = (omega (arith, descend-sizes _ _ _ _ _ _ _ _ (c .before .before .before .before .before .before .before .before .before .before .before .before .pre .1) (c .before .before .before .before .before .before .before .before .before .before .if1 .left) _ (c .before .before .before .before .before .before .before .before .before .tree-size .ensures)), descend-right _ _ _ _ _ _ _ _ (c .before .before .before .before .before .before .before .before .before .before .before .before .pre .1) (c .before .before .before .before .before .before .before .before .before .before .if1 .left) _ (c .before .before .before .before .before .before .before .before .before .tree-size .ensures) _ (c .before .before .before .before .before .before .before .descend .ensures) _ (c .before .before .before .lower .ensures))
 
--- src/lib.rt:261:1
 descend-same-length-2 : (t : ℕ) → descend-lts.Need-same-length-2 (
   descend-leaf-reads.Asked,
   descend-leaf-reads.Learnt,
@@ -282,7 +264,6 @@ descend-same-length-2 : (t : ℕ) → descend-lts.Need-same-length-2 (
 ) (descend-at t) descend.Post
 descend-same-length-2 t c = c .before .before .descend2 .kept .1 .0 ∙ c .before .before .before .before .before .before .lower .kept .1 .0 ∙ c .before .before .before .before .before .before .before .before .before .before .descend .kept .1 .0
 
--- src/lib.rt:261:1
 descend-returns-2 : (t : ℕ) → descend-lts.Need-returns-2 (
   descend-leaf-reads.Asked,
   descend-leaf-reads.Learnt,

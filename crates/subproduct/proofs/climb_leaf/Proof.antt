@@ -1,61 +1,47 @@
+-- `subproduct::climb_leaf` meets its contract: four stores side by side write a list of four. Assumes nothing.
 use native.Mathlib.Omega.{arith}
 use lib.ListN.{length-set}
 use Rattle.subproduct.specs.Climb.{four-written}
 use borrow.Author.Needs.{needs}
 use Rattle.subproduct.proofs.climb_leaf.Statement.{statement}
 use Rattle.subproduct.proofs.climb_leaf.Tie as tie
-use Rattle.subproduct.proofs.climb_leaf.Reads as reads
-use Rattle.subproduct.proofs.climb_leaf.Lts as lts
 
--- src/lib.rt:184:18
 add-second : tie.Need-add-second
 add-second c = search needs
 
--- src/lib.rt:185:17
 add-third : tie.Need-add-third
 add-third c = search needs
 
--- src/lib.rt:186:18
 add-fourth : tie.Need-add-fourth
 add-fourth c = search needs
 
--- src/lib.rt:187:5
 mul-w : tie.Need-mul-w
 mul-w c = search needs
 
--- src/lib.rt:187:5
 slice-write-w : tie.Need-slice-write-w
 slice-write-w c = search needs
 
--- src/lib.rt:188:5
 mul-w-2 : tie.Need-mul-w-2
 mul-w-2 c = search needs
 
--- src/lib.rt:188:5
 slice-write-w-2 : tie.Need-slice-write-w-2
 slice-write-w-2 c = simp length-set (omega arith)
 
--- src/lib.rt:189:5
 mul-w-3 : tie.Need-mul-w-3
 mul-w-3 c = search needs
 
--- src/lib.rt:189:5
 slice-write-w-3 : tie.Need-slice-write-w-3
 slice-write-w-3 c = simp length-set (omega arith)
 
--- src/lib.rt:190:5
 mul-w-4 : tie.Need-mul-w-4
 mul-w-4 c = search needs
 
--- src/lib.rt:190:5
 slice-write-w-4 : tie.Need-slice-write-w-4
 slice-write-w-4 c = simp length-set (omega arith)
 
--- src/lib.rt:180:1
 same-length : tie.Need-same-length
 same-length c = search needs
 
--- src/lib.rt:180:1
 returns : tie.Need-returns
 returns c = four-written _ _ _ _ _ _ (c .pre)
 

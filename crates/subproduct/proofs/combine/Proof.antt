@@ -1,37 +1,29 @@
+-- `subproduct::combine` meets its contract: two products of residues and a residue fit 64 bits. Assumes nothing.
 use Prim.Native.Nat.{_+_, _*_}
 use native.Mathlib.Omega.{arith}
 use Rattle.subproduct.specs.Build.{products-small}
 use borrow.Author.Needs.{needs}
 use Rattle.subproduct.proofs.combine.Statement.{statement}
 use Rattle.subproduct.proofs.combine.Tie as tie
-use Rattle.subproduct.proofs.combine.Reads as reads
-use Rattle.subproduct.proofs.combine.Lts as lts
 
--- src/lib.rt:38:20
 mul-result : tie.Need-mul-result
 mul-result c = omega (arith, products-small _ _ _ _ _ _ (c .pre))
 
--- src/lib.rt:38:7
 add-result : tie.Need-add-result
 add-result c = omega (arith, products-small _ _ _ _ _ _ (c .pre))
 
--- src/lib.rt:38:46
 mul-result-2 : tie.Need-mul-result-2
 mul-result-2 c = omega (arith, products-small _ _ _ _ _ _ (c .pre))
 
--- src/lib.rt:38:7
 add-result-2 : tie.Need-add-result-2
 add-result-2 c = omega (arith, products-small _ _ _ _ _ _ (c .pre))
 
--- src/lib.rt:38:6
 rem-result : tie.Need-rem-result
 rem-result c = search needs
 
--- src/lib.rt:38:5
 cast-result : tie.Need-cast-result
 cast-result c = omega (arith, products-small _ _ _ _ _ _ (c .pre) .remainder (c .args .s + c .args .x * c .args .y + c .args .u * c .args .v))
 
--- src/lib.rt:34:1
 returns : tie.Need-returns
 returns c = search needs
 

@@ -1,66 +1,49 @@
+-- `subproduct::write_leaf` meets its contract: four lists of three side by side are the leaf's. Assumes nothing.
 use native.Mathlib.Omega.{arith}
 use Rattle.subproduct.specs.Build.{leaf-written}
 use borrow.Author.Needs.{needs}
 use Rattle.subproduct.proofs.write_leaf.Statement.{statement}
 use Rattle.subproduct.proofs.write_leaf.Tie as tie
-use Rattle.subproduct.proofs.write_leaf.Reads as reads
-use Rattle.subproduct.proofs.write_leaf.Lts as lts
-use Rattle.subproduct.proofs.combine.Reads as combine-reads
-use Rattle.subproduct.proofs.store_three.Reads as store-three-reads
 
--- src/lib.rt:67:9
 combine-requires : tie.Need-combine-requires
 combine-requires c κs = search needs
 
--- src/lib.rt:68:9
 combine-requires-2 : tie.Need-combine-requires-2
 combine-requires-2 c κs = search needs
 
--- src/lib.rt:69:9
 combine-requires-3 : tie.Need-combine-requires-3
 combine-requires-3 c κs = search needs
 
--- src/lib.rt:70:9
 combine-requires-4 : tie.Need-combine-requires-4
 combine-requires-4 c κs = search needs
 
--- src/lib.rt:71:9
 combine-requires-5 : tie.Need-combine-requires-5
 combine-requires-5 c κs = search needs
 
--- src/lib.rt:72:5
 store-three-requires : tie.Need-store-three-requires
 store-three-requires c κs = search needs
 
--- src/lib.rt:73:20
 add-store-three : tie.Need-add-store-three
 add-store-three c = search needs
 
--- src/lib.rt:73:5
 store-three-requires-2 : tie.Need-store-three-requires-2
 store-three-requires-2 c κs = search needs
 
--- src/lib.rt:74:20
 add-store-three-2 : tie.Need-add-store-three-2
 add-store-three-2 c = search needs
 
--- src/lib.rt:74:5
 store-three-requires-3 : tie.Need-store-three-requires-3
 store-three-requires-3 c κs = search needs
 
--- src/lib.rt:75:20
 add-store-three-3 : tie.Need-add-store-three-3
 add-store-three-3 c = omega (arith, c .before .before .before .before .before .before .before .before .before .before .before .before .before .before .before .before .before .before .before .pre .room, c .before .before .before .before .before .before .before .before .before .before .before .before .before .before .before .before .before .before .before .good)
 
--- src/lib.rt:75:5
 store-three-requires-4 : tie.Need-store-three-requires-4
 store-three-requires-4 c κs = search needs
 
--- src/lib.rt:53:1
 same-length : tie.Need-same-length
 same-length c = search needs
 
--- src/lib.rt:53:1
 returns : tie.Need-returns
 returns c = leaf-written _ _ _ _ _ _ _ _ _ (c .before .before .before .before .before .before .before .before .before .before .before .before .before .before .before .before .before .before .before .before .before .before .pre) _ _ _ _ _ _ _ _ _ (c .before .before .before .before .before .before .before .before .before .before .before .before .before .before .before .before .before .before .before .before .combine .ensures) (c .before .before .before .before .before .before .before .before .before .before .before .before .before .before .before .before .before .before .before .combine2 .ensures) (c .before .before .before .before .before .before .before .before .before .before .before .before .before .before .before .before .before .before .combine3 .ensures) (c .before .before .before .before .before .before .before .before .before .before .before .before .before .before .before .before .before .combine4 .ensures) (c .before .before .before .before .before .before .before .before .before .before .before .before .before .before .before .before .combine5 .ensures) (c .before .before .before .before .before .before .before .before .before .before .before .before .before .before .store-three .ensures) (c .before .before .before .before .before .before .before .before .before .before .store-three2 .ensures) (c .before .before .before .before .before .before .store-three3 .ensures) (c .before .before .store-three4 .ensures)
 

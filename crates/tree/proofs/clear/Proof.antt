@@ -1,3 +1,4 @@
+-- `tree::clear` meets its contract: the loop's invariant is that i zeros stand in the working list (`Filling`); the measure is what is left of them. Assumes nothing.
 use Prim.Native.Nat.{_-_}
 use mathlib.Core.Path.{refl}
 use native.Mathlib.Omega.{arith}
@@ -5,8 +6,6 @@ use Rattle.definitions.specs.Refusals.{workLength}
 use Rattle.tree.specs.Root.{Filling, filling-starts, filling-next, clear-ends}
 use Rattle.tree.proofs.clear.Statement.{statement}
 use Rattle.tree.proofs.clear.Tie as tie
-use Rattle.tree.proofs.clear.Reads as reads
-use Rattle.tree.proofs.clear.Lts as lts
 
 abbrev Inv-loop : tie.InvT-loop
 Inv-loop work₀ i₀ work i = Filling (λ _. 0) workLength work₀ work i
@@ -14,35 +13,27 @@ Inv-loop work₀ i₀ work i = Filling (λ _. 0) workLength work₀ work i
 abbrev μ-loop : tie.MeasureT-loop
 μ-loop work₀ i₀ work i = 16384 - i
 
--- src/lib.rt:86:5
 loop-holds : tie.Need-loop-holds Inv-loop μ-loop
 loop-holds c = filling-starts _ _ _ (c .pre)
 
--- src/lib.rt:87:9
 mul-work : tie.Need-mul-work Inv-loop μ-loop
 mul-work c = omega arith
 
--- src/lib.rt:87:9
 slice-write-work : tie.Need-slice-write-work Inv-loop μ-loop
 slice-write-work c = omega arith
 
--- src/lib.rt:88:9
 add-i : tie.Need-add-i Inv-loop μ-loop
 add-i c = omega arith
 
--- src/lib.rt:86:5
 loop-less : tie.Need-loop-less Inv-loop μ-loop
 loop-less c = omega arith
 
--- src/lib.rt:86:5
 loop-again : tie.Need-loop-again Inv-loop μ-loop
 loop-again c = filling-next _ _ _ _ _ (c .before .loop .inv) _ (c .loop-test .taken) refl
 
--- src/lib.rt:81:1
 same-length : tie.Need-same-length Inv-loop μ-loop
 same-length c = omega arith
 
--- src/lib.rt:81:1
 returns : tie.Need-returns Inv-loop μ-loop
 returns c = clear-ends _ _ _ (c .loop-test .left) (c .before .loop .inv)
 

@@ -1,3 +1,4 @@
+-- `tree::copy_out` meets its contract: the loop's invariant is that i numbers stand in the output (`Filling`); the measure is what is left of them. Assumes nothing.
 use Prim.Native.Nat.{_-_, _+_}
 use mathlib.Core.Path.{refl}
 use native.Mathlib.Omega.{arith}
@@ -5,8 +6,6 @@ use lib.ListN.{getD}
 use Rattle.tree.specs.Root.{Filling, filling-starts, filling-next, copy-ends}
 use Rattle.tree.proofs.copy_out.Statement.{statement}
 use Rattle.tree.proofs.copy_out.Tie as tie
-use Rattle.tree.proofs.copy_out.Reads as reads
-use Rattle.tree.proofs.copy_out.Lts as lts
 
 abbrev Inv-loop : tie.InvT-loop
 Inv-loop w at n output₀ i₀ output i = Filling (λ j. getD w (at + j) 0) n output₀ output i
@@ -14,47 +13,36 @@ Inv-loop w at n output₀ i₀ output i = Filling (λ j. getD w (at + j) 0) n ou
 abbrev μ-loop : tie.MeasureT-loop
 μ-loop w at n output₀ i₀ output i = n - i
 
--- src/lib.rt:73:5
 loop-holds : tie.Need-loop-holds Inv-loop μ-loop
 loop-holds c = filling-starts _ _ _ (c .pre .1)
 
--- src/lib.rt:74:21
 add-place : tie.Need-add-place Inv-loop μ-loop
 add-place c = omega arith
 
--- src/lib.rt:75:21
 mul-output : tie.Need-mul-output Inv-loop μ-loop
 mul-output c = omega arith
 
--- src/lib.rt:75:21
 shared-slice-read-output : tie.Need-shared-slice-read-output Inv-loop μ-loop
 shared-slice-read-output c = omega arith
 
--- src/lib.rt:75:9
 mul-output-2 : tie.Need-mul-output-2 Inv-loop μ-loop
 mul-output-2 c = omega arith
 
--- src/lib.rt:75:9
 slice-write-output : tie.Need-slice-write-output Inv-loop μ-loop
 slice-write-output c = omega arith
 
--- src/lib.rt:76:9
 add-i : tie.Need-add-i Inv-loop μ-loop
 add-i c = omega arith
 
--- src/lib.rt:73:5
 loop-less : tie.Need-loop-less Inv-loop μ-loop
 loop-less c = omega arith
 
--- src/lib.rt:73:5
 loop-again : tie.Need-loop-again Inv-loop μ-loop
 loop-again c = filling-next _ _ _ _ _ (c .before .before .loop .inv) _ (c .before .loop-test .taken) refl
 
--- src/lib.rt:68:1
 same-length : tie.Need-same-length Inv-loop μ-loop
 same-length c = omega arith
 
--- src/lib.rt:68:1
 returns : tie.Need-returns Inv-loop μ-loop
 returns c = copy-ends _ _ _ _ _ _ (c .loop-test .left) (c .before .loop .inv)
 

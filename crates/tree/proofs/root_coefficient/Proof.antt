@@ -1,66 +1,50 @@
+-- `tree::root_coefficient` meets its contract: what the slice lends is the part. Assumes nothing.
 use native.Mathlib.Omega.{arith}
 use Rattle.tree.specs.Root.{root-input, root-remainder, root-is}
 use Prim.Native.Nat.{_+_}
 use borrow.Author.Needs.{needs}
 use Rattle.tree.proofs.root_coefficient.Statement.{statement}
 use Rattle.tree.proofs.root_coefficient.Tie as tie
-use Rattle.tree.proofs.root_coefficient.Reads as reads
-use Rattle.tree.proofs.root_coefficient.Lts as lts
-use Rattle.products.proofs.product_at.Reads as product-at-reads
 
--- src/lib.rt:39:17
 add-place : tie.Need-add-place
 add-place c = search needs
 
--- src/lib.rt:40:18
 add-second : tie.Need-add-second
 add-second c = search needs
 
--- src/lib.rt:41:29
 mul-product-at : tie.Need-mul-product-at
 mul-product-at c = search needs
 
--- src/lib.rt:41:29
 shared-slice-read-product-at : tie.Need-shared-slice-read-product-at
 shared-slice-read-product-at c = search needs
 
--- src/lib.rt:41:29
 cast-product-at : tie.Need-cast-product-at
 cast-product-at c = omega (arith, c .before .before .before .pre .below (c .before .before .before .args .at + c .before .before .before .args .k) (omega arith) (omega arith))
 
--- src/lib.rt:41:57
 add-product-at : tie.Need-add-product-at
 add-product-at c = search needs
 
--- src/lib.rt:41:46
 mul-product-at-2 : tie.Need-mul-product-at-2
 mul-product-at-2 c = search needs
 
--- src/lib.rt:41:46
 sub-product-at : tie.Need-sub-product-at
 sub-product-at c = search needs
 
--- src/lib.rt:41:46
 part-product-at-start : tie.Need-part-product-at-start
 part-product-at-start c = search needs
 
--- src/lib.rt:41:46
 part-product-at-end : tie.Need-part-product-at-end
 part-product-at-end c = search needs
 
--- src/lib.rt:41:9
 product-at-requires : tie.Need-product-at-requires
 product-at-requires c κs = root-input _ _ _ _ _ _ (c .before .before .before .before .pre)
 
--- src/lib.rt:42:6
 rem-result : tie.Need-rem-result
 rem-result c = omega (arith, c .before .before .before .before .before .pre .firstBelow 0)
 
--- src/lib.rt:42:5
 cast-result : tie.Need-cast-result
 cast-result c = omega (arith, root-remainder _ _ _ _ _ _ (c .before .before .before .before .before .pre) (c .product-at .result))
 
--- src/lib.rt:35:1
 returns : tie.Need-returns
 returns c = root-is _ _ _ _ _ _ (c .before .before .before .before .before .pre) _ (c .product-at .ensures)
 

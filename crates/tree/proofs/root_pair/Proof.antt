@@ -1,42 +1,32 @@
+-- `tree::root_pair` meets its contract: the two lists side by side are those of the pair. Assumes nothing.
 use mathlib.Core.Path.{sym}
 use lib.Seq.{length-take-le}
 use Rattle.tree.specs.Root.{pair-first, pair-second, pair-written}
 use borrow.Author.Needs.{needs}
 use Rattle.tree.proofs.root_pair.Statement.{statement}
 use Rattle.tree.proofs.root_pair.Tie as tie
-use Rattle.tree.proofs.root_pair.Reads as reads
-use Rattle.tree.proofs.root_pair.Lts as lts
-use Rattle.products.proofs.transposed.Reads as transposed-reads
 
--- src/lib.rt:63:19
 slice-aggregate-transposed : tie.Need-slice-aggregate-transposed
 slice-aggregate-transposed c = search needs
 
--- src/lib.rt:63:25
 slice-aggregate-transposed-2 : tie.Need-slice-aggregate-transposed-2
 slice-aggregate-transposed-2 c = sym (length-take-le _ _ (c .before .before .before .before .before .pre .curveLong))
 
--- src/lib.rt:63:5
 transposed-requires : tie.Need-transposed-requires
 transposed-requires c κs = pair-first _ _ _ _ _ _ _ (c .before .before .before .before .before .before .pre)
 
--- src/lib.rt:64:26
 slice-aggregate-transposed-3 : tie.Need-slice-aggregate-transposed-3
 slice-aggregate-transposed-3 c = sym (length-take-le _ _ (c .before .before .before .before .before .before .before .before .before .before .pre .curveLong))
 
--- src/lib.rt:64:42
 add-transposed : tie.Need-add-transposed
 add-transposed c = search needs
 
--- src/lib.rt:64:5
 transposed-requires-2 : tie.Need-transposed-requires-2
 transposed-requires-2 c κs = pair-second _ _ _ _ _ _ _ (c .before .before .before .before .before .before .before .before .before .before .before .pre) _ (c .before .before .before .before .transposed .ensures)
 
--- src/lib.rt:58:1
 same-length : tie.Need-same-length
 same-length c = search needs
 
--- src/lib.rt:58:1
 returns : tie.Need-returns
 returns c = pair-written _ _ _ _ _ _ _ (c .before .before .before .before .before .before .before .before .before .before .before .before .before .before .pre) _ (c .before .before .before .before .before .before .before .transposed .ensures) _ (c .before .before .transposed2 .ensures)
 
