@@ -17,7 +17,8 @@ use Rattle.definitions.specs.Answers.{cleared}
 use Rattle.theory.specs.Level.{span, levelFor, level-covers, level-least, level-most}
 use Rattle.theory.specs.Regions.{part, written, ResiduesIn, KeptOutside, part-take, part-residues, part-written, written-kept, kept-wider, kept-then, kept-part, kept-residues, kept-drop}
 use Rattle.theory.specs.Products.{Below, plusProduct}
-use Rattle.theory.specs.Tree.{F₁, padded, up, expandAt, treeExpand, treeExpand-tree, treeExpand-alone, down, rootPair, adjointAt, treeAdjoint, treeAdjoint-tree, treeAdjoint-alone}
+use Rattle.theory.specs.Tree.{F₁, padded, up, expandAt, treeExpand, down, rootPair, adjointAt, treeAdjoint}
+use Rattle.theory.specs.TreeClauses.{treeExpand-tree, treeExpand-alone, treeAdjoint-tree, treeAdjoint-alone}
 use Rattle.theory.specs.TreeLengths.{PairLength, rootPair-length}
 use Rattle.theory.specs.TreeBelow.{RowBelow, rootPair-below}
 use Rattle.subproduct.specs.Layout.{treeSize, treeList, pairList, pairAt, treeSize-most, treeList-length, treeList-below, pairList-length, pairList-below, pair-reads}
