@@ -4,11 +4,13 @@
 --   LeadingInput       the inverses of the a, that of the closing row too
 --   PolynomialsInput   what F_n and G_{n-1} are taken of;  Polynomials  what is left of them
 --   MomentsInput       what the moments are taken of
+--   NormInput          the inverses of the c from row 2 on, that of the closing row too
+--   DecomposeInput     what Decompose by the moments is lent
 -- Assumes nothing.
 use mathlib.Core.Path.{_≡_}
 use mathlib.Core.List.{List, _++_}
-use Prim.Native.Nat.{ℕ, suc, _*_, _-_, _%_, _≤_}
-use lib.ListN.{length, drop}
+use Prim.Native.Nat.{ℕ, suc, _*_, _-_, _%_, _≤_, _<_}
+use lib.ListN.{length, getD, drop}
 use Rattle.definitions.specs.Answers.{cleared}
 use Rattle.definitions.specs.Family.{Family, F, G}
 use Rattle.definitions.specs.Number.{table}
@@ -45,4 +47,18 @@ pub record MomentsInput (m : ℕ) (a b c inverses : List ℕ) (p q r inverse n :
   pub closed : ClosedInput m a b c p q r n
   pub leading : LeadingInput m a inverses p inverse n
   pub outputLong : 2 * n - 1 ≤ length output
+  pub workLong : workLength ≤ length work
+
+-- c_1 needs no inverse
+pub record NormInput (m : ℕ) (c reciprocals : List ℕ) (r reciprocal n : ℕ) : Type 0 where
+  pub long : n - 1 ≤ length reciprocals
+  pub inverts : (i : ℕ) → 0 < i → i < n - 1 → getD c i 0 * getD reciprocals i 0 % m ≡ 1
+  pub closes : r * reciprocal % m ≡ 1
+
+pub record DecomposeInput (m : ℕ) (a b c inverses reciprocals : List ℕ) (p q r inverse reciprocal : ℕ) (coefficients : List ℕ) (n : ℕ) (output work : List ℕ) : Type 0 where
+  pub closed : ClosedInput m a b c p q r n
+  pub leading : LeadingInput m a inverses p inverse n
+  pub norm : NormInput m c reciprocals r reciprocal n
+  pub coefficientsHold : Holds m n coefficients
+  pub outputLong : n ≤ length output
   pub workLong : workLength ≤ length work

@@ -2,3 +2,4 @@
 pub mod Input
 pub mod Polynomials
 pub mod Moments
+pub mod Decompose

@@ -38,9 +38,9 @@ extended-rows list count last blank copied h l z e =
     let blankLong : length blank ≡ 128 = ap length z ∙ length-replicate {A = ℕ} 128 0 in
     let long : length copied ≡ 128 = ap length e ∙ filled-length (λ i. getD list i 0) blank count (omega arith) ∙ blankLong in
     let front : take count copied ≡ take count list = ap (take count) e
-        ∙ ap (λ k. take k (table count (λ i. getD list i 0) ++ drop count blank)) (sym (table-length count (λ i. getD list i 0)))
-        ∙ take-append-seam (table count (λ i. getD list i 0)) (drop count blank)
-        ∙ sym (table-unique (take count list) count (λ i. getD list i 0) (length-take-le count list h) (λ i p. getD-take count list i 0 p)) in
+    ∙ ap (λ k. take k (table count (λ i. getD list i 0) ++ drop count blank)) (sym (table-length count (λ i. getD list i 0)))
+    ∙ take-append-seam (table count (λ i. getD list i 0)) (drop count blank)
+    ∙ sym (table-unique (take count list) count (λ i. getD list i 0) (length-take-le count list h) (λ i p. getD-take count list i 0 p)) in
     record { long = length-set copied count last ∙ long; first = take-suc-set copied count last (omega arith) ∙ ap (λ t. t ++ last ∷ []) front }
 
 module _ (list : List ℕ) (count last : ℕ) (ext : List ℕ) (h : Extends list count last ext) (long : count ≤ length list) where
@@ -117,7 +117,7 @@ module _ (blank : List ℕ) (r : ℕ) (z : blank ≡ replicate 255 0) (most : r 
     last-output output′ work′ o =
         let e : r + 1 - 1 ≡ r = omega arith in
         let result : treeExpand (familyOf m (r + 1 - 1) a b c) (take (r + 1) (set blank r 1)) ≡ treeExpand (familyOf m r a b c) (lastUnit r)
-            = ap₂ (λ k u. treeExpand (familyOf m k a b c) u) e (ap (λ k. take k (set blank r 1)) (add-one r) ∙ unit-is) in
+        = ap₂ (λ k u. treeExpand (familyOf m k a b c) u) e (ap (λ k. take k (set blank r 1)) (add-one r) ∙ unit-is) in
         record { written = o .written ∙ ap₂ (λ t k. t ++ drop k output) result (add-one r); wiped = o .wiped }
 
 -- ---- F_n and G_{n-1}

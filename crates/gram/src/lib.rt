@@ -3,22 +3,28 @@
 // searched for.
 ghost use mathlib.Core.Path.{_≡_};
 ghost use Prim.Native.Nat.{suc, _*_, _-_, _≤_, _<_};
-ghost use lib.ListN.{length, replicate};
+ghost use lib.ListN.{length, take, replicate};
+ghost use Rattle.definitions.specs.Conversion.{decompose};
 ghost use Rattle.definitions.specs.Orthogonality.{moments};
 ghost use Rattle.theory.specs.Extended.{lastUnit};
+ghost use Rattle.theory.specs.Lists.{filled};
 ghost use Rattle.theory.specs.NormInverse.{leadingInverse};
 ghost use Rattle.theory.specs.Tree.{treeExpand};
 ghost use Rattle.plain.specs.Input.{closedRows};
 ghost use Rattle.subproduct.specs.Build.{familyOf, rowOf};
 ghost use Rattle.tree.specs.Core.{Output};
-ghost use Rattle.gram.specs.Input.{PolynomialsInput, Polynomials, MomentsInput};
+ghost use Rattle.gram.specs.Decompose.{DivideInput, divided};
+ghost use Rattle.gram.specs.Input.{PolynomialsInput, Polynomials, MomentsInput, DecomposeInput};
 ghost use Rattle.gram.specs.Moments.{entryOr};
 ghost use Rattle.gram.specs.Polynomials.{Extends, LastInput};
 use plain::row_entry;
 use polynomial::copy;
 use polynomial::zeros;
+use products::transposed;
+use residue::opposite;
 use residue::product;
 use series::quotient;
+use tree::adjoint;
 use tree::expand;
 
 // A local list with room for every moment, all zeros.
@@ -122,4 +128,61 @@ pub fn moments(
     polynomials(m, a, b, c, p, q, r, n, &mut divisor, &mut numerator, work);
     let top = leading_inverse(m, inverses, inverse, n);
     quotient(m, &numerator, &divisor, n, top, 2 * n - 1, output);
+}
+
+// Each of the first n entries times the inverse of its norm, (-1)^i a_{i+1} / (c_2 .. c_{i+1}); reciprocals[i] is the inverse of c_{i+1}, and
+// reciprocal that of the closing row's c.
+fn divide_by_norms(
+    m: u32,
+    a: &[u32],
+    reciprocals: &[u32],
+    p: u32,
+    reciprocal: u32,
+    n: usize,
+    output: &mut [u32],
+)
+    requires { ⌜ DivideInput m (now a) (now reciprocals) n (now output) ⌝ }
+    ensures { λ _. ⌜ now (output .exit) ≡ filled (divided m (now (a .entry)) (now (reciprocals .entry)) p reciprocal n (now (output .entry))) n (now (output .entry)) ⌝ }
+{
+    let rows = n - 1;
+    let mut signed: u32 = 1;
+    let mut i: usize = 0;
+    while i < n {
+        let x = row_entry(a, rows, i, p);
+        let y = product(m, signed, x);
+        output[i] = product(m, output[i], y);
+        let w = row_entry(reciprocals, rows, i + 1, reciprocal);
+        signed = product(m, signed, opposite(m, w));
+        i += 1;
+    }
+}
+
+// The curve of the first n coefficients in powers of x, by F^t H F = D: the product with the moments, Adjoint, and the norms.
+// inverses[i] is the inverse of a_{i+1}, reciprocals[i] that of c_{i+1} from i = 1 on, inverse and reciprocal those of p and r.
+pub fn decompose(
+    m: u32,
+    a: &[u32],
+    b: &[u32],
+    c: &[u32],
+    inverses: &[u32],
+    reciprocals: &[u32],
+    p: u32,
+    q: u32,
+    r: u32,
+    inverse: u32,
+    reciprocal: u32,
+    coefficients: &[u32],
+    n: usize,
+    output: &mut [u32],
+    work: &mut [u32],
+)
+    requires { ⌜ DecomposeInput m (now a) (now b) (now c) (now inverses) (now reciprocals) p q r inverse reciprocal (now coefficients) n (now output) (now work) ⌝ }
+    ensures { λ _. ⌜ Output (decompose (closedRows m n (now (a .entry)) (now (b .entry)) (now (c .entry)) (rowOf p q r)) (take n (now (coefficients .entry)))) n (now (output .entry)) (now (output .exit)) (now (work .entry)) (now (work .exit)) ⌝ }
+{
+    let mut moment = blank();
+    let mut weighed = blank();
+    moments(m, a, b, c, inverses, p, q, r, inverse, n, &mut moment, work);
+    transposed(m, &coefficients[..n], &moment, &mut weighed, 0, n);
+    adjoint(m, a, b, c, &weighed, n, output, work);
+    divide_by_norms(m, a, reciprocals, p, reciprocal, n, output);
 }

@@ -127,8 +127,8 @@ module _ (m : ℕ) (g d : List ℕ) (n y : ℕ) (q : List ℕ) (k : ℕ) (input 
   coefficient-fits x top opposite e r =
       let high : m ≤ 2147483647 = input .divides .modulus .greatest in
       let low : getD (reversed n g) k 0 < m = by-cases (decLt k n)
-          (λ h. rw (← reversed-inside n g k h) (input .divides .gBelow (n - 1 - k)))
-          (λ h. rw (← reversed-past n g k (omega arith)) positive) in
+      (λ h. rw (← reversed-inside n g k h) (input .divides .gBelow (n - 1 - k)))
+      (λ h. rw (← reversed-past n g k (omega arith)) positive) in
       omega arith
 
   pub coefficient-is : (first at s top opposite r : ℕ) → first ≡ k - n → at ≡ n - k → Congruent m (0 + transposedAt (take (k - first) (drop first q)) d at) s → top ≡ getD (reversed n g) k 0 → opposite ≡ negative m (s % m) → r ≡ (top + opposite) * y % m
@@ -138,7 +138,7 @@ module _ (m : ℕ) (g d : List ℕ) (n y : ℕ) (q : List ℕ) (k : ℕ) (input 
       let moved : transposedAt (take (k - first) (drop first q)) d at ≡ transposedAt standing d (n - k) = rw (i, j) in
       let same : negative m (s % m) ≡ negative m (sum k term) = ap (negative m) (c .same ∙ ap (λ x. x % m) (zero-add (transposedAt (take (k - first) (drop first q)) d at) ∙ moved ∙ sym sum-transposed)) ∙ negative-mod m (sum k term) in
       let by : y ≡ inverse m (getD (reversed (suc n) d) 0 0) = inverse-unique m (getD d n 0) y (input .divides .modulus .least) (input .divides .inverseBelow) (input .divides .inverts)
-          ∙ ap (inverse m) (reversed-first n d) in
+      ∙ ap (inverse m) (reversed-first n d) in
       h ∙ rw (e, o, same) (ap (λ z. (getD (reversed n g) k 0 + negative m (sum k term)) * z % m) by)
 
 -- ---- all of them
@@ -174,9 +174,9 @@ module _ (m : ℕ) (g d : List ℕ) (n y count : ℕ) (output₀ : List ℕ) (in
     dividing-next l r e = record {
       reached = omega arith;
       written = filling-next (h .written) (omega (arith, input .room)) (e
-        ∙ nextQuotient-equal m (reversed n g) (reversed (suc n) d) k output (quotient m (reversed n g) (reversed (suc n) d) k)
-        (λ j p. filling-below (h .written) j 0 p ∙ quotient-entry m (reversed n g) (reversed (suc n) d) k count j p (omega arith))
-        ∙ sym (quotient-next m (reversed n g) (reversed (suc n) d) count k l));
+          ∙ nextQuotient-equal m (reversed n g) (reversed (suc n) d) k output (quotient m (reversed n g) (reversed (suc n) d) k)
+          (λ j p. filling-below (h .written) j 0 p ∙ quotient-entry m (reversed n g) (reversed (suc n) d) k count j p (omega arith))
+          ∙ sym (quotient-next m (reversed n g) (reversed (suc n) d) count k l));
     }
 
     pub dividing-ends : count ≤ k → output ≡ quotient m (reversed n g) (reversed (suc n) d) count ++ drop count output₀
