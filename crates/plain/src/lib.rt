@@ -23,7 +23,7 @@ use residue::opposite;
 use residue::product;
 
 // The entry at i of the first rows entries, and that of the closing row from there on.
-fn row_entry(list: &[u32], rows: usize, i: usize, close: u32) -> u32
+pub fn row_entry(list: &[u32], rows: usize, i: usize, close: u32) -> u32
     requires { ⌜ rows ≤ length (now list) ⌝ }
     ensures { λ r. ⌜ r ≡ getD (take rows (now (list .entry))) i close ⌝ }
 {

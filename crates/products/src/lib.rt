@@ -25,7 +25,7 @@ fn lesser(x: usize, y: usize) -> usize
 }
 
 // x - y, and 0 if y is greater.
-fn excess(x: usize, y: usize) -> usize
+pub fn excess(x: usize, y: usize) -> usize
     ensures { λ r. ⌜ r ≡ x - y ⌝ }
 {
     if x < y { 0 } else { x - y }

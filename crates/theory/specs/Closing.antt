@@ -10,8 +10,9 @@ use native.Mathlib.Omega.{arith}
 use lib.ListN.{length, getD}
 use Rattle.definitions.specs.Conversion.{expand, adjoint, top, lessTop, decomposeBelow, decompose}
 use Rattle.definitions.specs.Family.{Family, Row, Accepted, rows, size, rowAt, timesX, term, F}
-use Rattle.definitions.specs.Number.{sum, negative, inverse}
+use Rattle.definitions.specs.Number.{negative, inverse}
 use Rattle.theory.specs.Lists.{getD-default, table-equal}
+use Rattle.theory.specs.Sums.{sum-equal}
 
 abbrev pub closedBy : Row → Family → Family
 closedBy row f = record { m = f .m; a = f .a; b = f .b; c = f .c; close = row }
@@ -22,11 +23,6 @@ pub record EqualLengths (f : Family) : Type 0 where
 
 pub accepted-lengths : (f : Family) → Accepted f → EqualLengths f
 accepted-lengths f acc = record { bLength = acc .bLength; cLength = acc .cLength }
-
-sum-equal : (n : ℕ) (g h : ℕ → ℕ) → ((i : ℕ) → i < n → g i ≡ h i) → sum n g ≡ sum n h
-unfolding sum
-sum-equal zero g h e = refl
-sum-equal (suc n) g h e = ap₂ _+_ (sum-equal n g h (λ i l. e i (omega arith))) (e n (omega arith))
 
 -- ---- a polynomial rests on the rows before it
 module _ (m r : ℕ) (row row′ : ℕ → Row) (same : (i : ℕ) → i < r → row i ≡ row′ i) where

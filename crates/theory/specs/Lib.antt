@@ -3,7 +3,7 @@
 --   numbers modulo m: inverses, residues, the greatest common factor: Inverse, Residue, Curves, Euclid
 --   the recurrence over any ring, and the definitions read in the ring of residues: Recurrence, Operator, Combination, Bridge, Entries, Closing, Alone
 --   round trips, linearity, the transposed identity: RoundTrip, Linear, TransposedIdentity
---   moments, norms and the product law (demand 3): Reversal, Determinant, Favard, Form, Orthogonal, Quotient, Moments, ProductLaw, Gram
+--   moments, norms and the product law (demand 3): Reversal, Determinant, Favard, Form, Orthogonal, Quotient, Moments, ProductLaw, Gram, NormInverse
 --   the plain ways, as models on lists: PlainModels, PlainSteps, PlainExpand, PlainAdjoint, Horner, PlainDecompose, PlainBasis, PlainAnswers
 --   the tree way, as a model on lists: Level, Products, ProductTerms, Tree, TreeClauses, TreeLengths, TreeBelow, ListSeries, TreeNodes, TreeExpand, Pairing, ListPairing, TreeAdjoint, Extended, TreeExamples
 --   parts of a working list: Regions
@@ -36,6 +36,7 @@ pub mod Quotient
 pub mod Moments
 pub mod ProductLaw
 pub mod Gram
+pub mod NormInverse
 pub mod PlainModels
 pub mod PlainSteps
 pub mod PlainExpand

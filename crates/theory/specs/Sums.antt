@@ -1,11 +1,16 @@
 -- Sums of numbers, as `definitions` has them.
--- Proved: a sum falls into two at any place, and terms that are zero can be left out at either end.
+-- Proved: a sum is settled by its terms and falls into two at any place, and terms that are zero can be left out at either end.
 -- Assumes nothing.
-use mathlib.Core.Path.{_≡_, refl, sym, _∙_, ap}
+use mathlib.Core.Path.{_≡_, refl, sym, _∙_, ap, ap₂}
 use Prim.Native.Nat.{ℕ, zero, suc, _+_, _-_, _<_, _≤_}
 use native.Mathlib.Nat.{add-zero, add-suc, add-assoc}
 use native.Mathlib.Omega.{arith}
 use Rattle.definitions.specs.Number.{sum}
+
+pub sum-equal : (n : ℕ) (f g : ℕ → ℕ) → ((i : ℕ) → i < n → f i ≡ g i) → sum n f ≡ sum n g
+unfolding sum
+sum-equal zero f g e = refl
+sum-equal (suc n) f g e = ap₂ _+_ (sum-equal n f g (λ i p. e i (omega arith))) (e n (omega arith))
 
 pub sum-zero : (n : ℕ) (f : ℕ → ℕ) → ((i : ℕ) → i < n → f i ≡ 0) → sum n f ≡ 0
 unfolding sum
