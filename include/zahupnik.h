@@ -9,9 +9,12 @@
  * comment lists the refusals that it tests, in this order, each over all rows or entries before the next; the first that is the
  * case is returned.
  *
+ * A function of the tree way is lent a working list besides, of any length from ZAHUPNIK_LEAST_WORK on, and what it holds does not
+ * matter. When the function has finished, the first ZAHUPNIK_LEAST_WORK numbers of it are zero, and what lies beyond is untouched.
+ *
  * What the caller owes: behind a pointer there are as many initialised numbers as the length beside it says, and the one number
- * behind `inverse`; a list of length 0 may have any pointer, NULL too. What a call writes overlaps nothing else that it is lent,
- * and nobody else touches what is lent while the call runs.
+ * behind `inverse`; a list of length 0 may have any pointer, NULL too. What a call writes (the inverse, the output, the working
+ * list) overlaps nothing else that it is lent, and nobody else touches what is lent while the call runs.
  *
  * Nothing is allocated and nothing is kept, so calls from several threads do not disturb one another.
  *
@@ -30,18 +33,20 @@ extern "C" {
 
 #define ZAHUPNIK_GREATEST_MODULUS UINT32_C(2147483647)
 #define ZAHUPNIK_MOST_ROWS 127
+#define ZAHUPNIK_LEAST_WORK 16384
 
 #define ZAHUPNIK_FINISHED 0
-#define ZAHUPNIK_MODULUS 3       /* m is below 2 or above ZAHUPNIK_GREATEST_MODULUS */
-#define ZAHUPNIK_LENGTHS 4       /* the lists a, b and c are not equally long */
-#define ZAHUPNIK_ROWS 5          /* there are more than ZAHUPNIK_MOST_ROWS rows */
-#define ZAHUPNIK_CURVE_LENGTH 6  /* the curve, or the list of coefficients, is not n long */
-#define ZAHUPNIK_OUTPUT_LENGTH 7 /* the output is not as long as the result */
-#define ZAHUPNIK_ENTRY 9         /* an entry of a, b or c is not below m */
-#define ZAHUPNIK_A_INVERSE 10    /* some a has no inverse modulo m */
-#define ZAHUPNIK_C_INVERSE 11    /* some c has no inverse modulo m */
-#define ZAHUPNIK_CURVE_ENTRY 12  /* a curve entry, a coefficient or the number to invert is not below m */
-#define ZAHUPNIK_NO_INVERSE 13   /* the number to invert has no inverse modulo m */
+#define ZAHUPNIK_MODULUS 3        /* m is below 2 or above ZAHUPNIK_GREATEST_MODULUS */
+#define ZAHUPNIK_LENGTHS 4        /* the lists a, b and c are not equally long */
+#define ZAHUPNIK_ROWS 5           /* there are more than ZAHUPNIK_MOST_ROWS rows */
+#define ZAHUPNIK_CURVE_LENGTH 6   /* the curve, or the list of coefficients, is not n long */
+#define ZAHUPNIK_OUTPUT_LENGTH 7  /* the output is not as long as the result */
+#define ZAHUPNIK_WORK_TOO_SHORT 8 /* the working list is shorter than ZAHUPNIK_LEAST_WORK */
+#define ZAHUPNIK_ENTRY 9          /* an entry of a, b or c is not below m */
+#define ZAHUPNIK_A_INVERSE 10     /* some a has no inverse modulo m */
+#define ZAHUPNIK_C_INVERSE 11     /* some c has no inverse modulo m */
+#define ZAHUPNIK_CURVE_ENTRY 12   /* a curve entry, a coefficient or the number to invert is not below m */
+#define ZAHUPNIK_NO_INVERSE 13    /* the number to invert has no inverse modulo m */
 
 /* Inverse: *inverse becomes the one number below m that times x leaves 1 modulo m.
  * Refuses with 3 12 13. */
@@ -69,6 +74,18 @@ uint32_t zahupnik_plain_decompose(uint32_t m, const uint32_t *a, size_t a_length
  * Lengths: a, b, c r; output n. Refuses with 3 4 5 7 9 10 11. */
 uint32_t zahupnik_norms(uint32_t m, const uint32_t *a, size_t a_length, const uint32_t *b, size_t b_length,
                         const uint32_t *c, size_t c_length, uint32_t *output, size_t output_length);
+
+/* Expand by the subproduct tree: output becomes what zahupnik_plain_expand makes it.
+ * Lengths: a, b, c r; curve n; output n; work ZAHUPNIK_LEAST_WORK or more. Refuses with 3 4 5 6 7 8 9 10 11 12. */
+uint32_t zahupnik_tree_expand(uint32_t m, const uint32_t *a, size_t a_length, const uint32_t *b, size_t b_length,
+                              const uint32_t *c, size_t c_length, const uint32_t *curve, size_t curve_length,
+                              uint32_t *output, size_t output_length, uint32_t *work, size_t work_length);
+
+/* Adjoint by the subproduct tree: output becomes what zahupnik_plain_adjoint makes it.
+ * Lengths: a, b, c r; curve n; output n; work ZAHUPNIK_LEAST_WORK or more. Refuses with 3 4 5 6 7 8 9 10 11 12. */
+uint32_t zahupnik_tree_adjoint(uint32_t m, const uint32_t *a, size_t a_length, const uint32_t *b, size_t b_length,
+                               const uint32_t *c, size_t c_length, const uint32_t *curve, size_t curve_length,
+                               uint32_t *output, size_t output_length, uint32_t *work, size_t work_length);
 
 #ifdef __cplusplus
 }

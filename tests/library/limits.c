@@ -11,7 +11,7 @@
 
 #include "zahupnik.h"
 
-enum { ROOM = ZAHUPNIK_MOST_ROWS + 3 };
+enum { ROOM = ZAHUPNIK_MOST_ROWS + 3, WORK_ROOM = ZAHUPNIK_LEAST_WORK + 3 };
 
 static unsigned long cases;
 
@@ -25,12 +25,12 @@ static void expect(const char *function, const char *with, const char *what, uin
 /* What a function on families is lent. */
 struct input {
     uint32_t m, a[ROOM], b[ROOM], c[ROOM], curve[ROOM];
-    size_t a_length, b_length, c_length, curve_length, output_length;
+    size_t a_length, b_length, c_length, curve_length, output_length, work_length;
 };
 
 /* An input that every function takes: rows 1 1 1 and a curve of ones, modulo 7. */
 static struct input accepted(size_t rows) {
-    struct input x = {.m = 7, .a_length = rows, .b_length = rows, .c_length = rows};
+    struct input x = {.m = 7, .a_length = rows, .b_length = rows, .c_length = rows, .work_length = ZAHUPNIK_LEAST_WORK};
     x.curve_length = x.output_length = rows + 1;
     for (size_t i = 0; i < ROOM; i++) x.a[i] = x.b[i] = x.c[i] = x.curve[i] = 1;
     return x;
@@ -39,23 +39,39 @@ static struct input accepted(size_t rows) {
 #define FAMILY x->m, x->a, x->a_length, x->b, x->b_length, x->c, x->c_length
 #define CURVE x->curve, x->curve_length
 #define OUTPUT output, x->output_length
-static uint32_t expand(const struct input *x, uint32_t *output) { return zahupnik_plain_expand(FAMILY, CURVE, OUTPUT); }
-static uint32_t adjoint(const struct input *x, uint32_t *output) { return zahupnik_plain_adjoint(FAMILY, CURVE, OUTPUT); }
-static uint32_t decompose(const struct input *x, uint32_t *output) { return zahupnik_plain_decompose(FAMILY, CURVE, OUTPUT); }
-static uint32_t norms(const struct input *x, uint32_t *output) { return zahupnik_norms(FAMILY, OUTPUT); }
+#define WORK work, x->work_length
+#define FUNCTION(name, ...)                                                         \
+    static uint32_t name(const struct input *x, uint32_t *output, uint32_t *work) { \
+        (void)work;                                                                 \
+        return zahupnik_##name(__VA_ARGS__);                                        \
+    }
+FUNCTION(plain_expand, FAMILY, CURVE, OUTPUT)
+FUNCTION(plain_adjoint, FAMILY, CURVE, OUTPUT)
+FUNCTION(plain_decompose, FAMILY, CURVE, OUTPUT)
+FUNCTION(norms, FAMILY, OUTPUT)
+FUNCTION(tree_expand, FAMILY, CURVE, OUTPUT, WORK)
+FUNCTION(tree_adjoint, FAMILY, CURVE, OUTPUT, WORK)
 
+/* A function by its name, and how many numbers at the front of the working list are zero when it has finished. */
 struct function {
     const char *name;
-    uint32_t (*run)(const struct input *, uint32_t *);
+    uint32_t (*run)(const struct input *, uint32_t *, uint32_t *);
+    size_t cleared;
 };
 
-/* The function returns the number, and a refusal leaves the output as it was. */
+/* The function returns the number and clears what it must of the working list; a refusal leaves both lists as they were, and no
+ * function writes past the length that it is told. */
 static void gives(const struct function *f, const char *with, const struct input *x, uint32_t number) {
+    static uint32_t work[WORK_ROOM];
     uint32_t output[ROOM];
+    size_t written = number == ZAHUPNIK_FINISHED ? x->output_length : 0;
+    size_t cleared = number == ZAHUPNIK_FINISHED ? f->cleared : 0;
     for (size_t i = 0; i < ROOM; i++) output[i] = UINT32_MAX;
-    expect(f->name, with, "the number returned", f->run(x, output), number);
-    for (size_t i = number == ZAHUPNIK_FINISHED ? x->output_length : 0; i < ROOM; i++)
-        expect(f->name, with, "an entry that is not to be written", output[i], UINT32_MAX);
+    for (size_t i = 0; i < WORK_ROOM; i++) work[i] = (uint32_t)(UINT32_MAX - i);
+    expect(f->name, with, "the number returned", f->run(x, output, work), number);
+    for (size_t i = written; i < ROOM; i++) expect(f->name, with, "an entry that is not to be written", output[i], UINT32_MAX);
+    for (size_t i = 0; i < WORK_ROOM; i++)
+        expect(f->name, with, "a number of the working list", work[i], i < cleared ? 0 : (uint32_t)(UINT32_MAX - i));
     cases++;
 }
 
@@ -100,6 +116,15 @@ static void on_curve(const struct function *f) {
     GIVES(CURVE_ENTRY, 2, x.curve[2] = 7);
 }
 
+static void on_work(const struct function *f) {
+    GIVES(WORK_TOO_SHORT, 2, x.work_length = 0);
+    GIVES(WORK_TOO_SHORT, 2, x.work_length = ZAHUPNIK_LEAST_WORK - 1);
+    GIVES(WORK_TOO_SHORT, ZAHUPNIK_MOST_ROWS, x.work_length = ZAHUPNIK_LEAST_WORK - 1);
+    GIVES(FINISHED, 2, x.work_length = ZAHUPNIK_LEAST_WORK);
+    GIVES(FINISHED, 2, x.work_length = ZAHUPNIK_LEAST_WORK + 1);
+    GIVES(FINISHED, ZAHUPNIK_MOST_ROWS, x.work_length = ZAHUPNIK_LEAST_WORK + 3);
+}
+
 static void inverts(const char *with, uint32_t m, uint32_t x, uint32_t number, uint32_t wanted) {
     uint32_t inverse = UINT32_MAX;
     expect("invert", with, "the number returned", zahupnik_invert(m, x, &inverse), number);
@@ -132,6 +157,7 @@ static void on_number(void) {
     } while (0)
 
 static void on_null(void) {
+    static uint32_t work[ZAHUPNIK_LEAST_WORK];
     const uint32_t curve[] = {3};
     LEAVES(zahupnik_plain_expand(NO_ROWS, curve, 1, output, 1), ZAHUPNIK_FINISHED, 3);
     LEAVES(zahupnik_plain_adjoint(NO_ROWS, curve, 1, output, 1), ZAHUPNIK_FINISHED, 3);
@@ -140,15 +166,27 @@ static void on_null(void) {
     LEAVES(zahupnik_plain_expand(NO_ROWS, NO_LIST, output, 1), ZAHUPNIK_CURVE_LENGTH, UINT32_MAX);
     LEAVES(zahupnik_plain_expand(NO_ROWS, curve, 1, NO_LIST), ZAHUPNIK_OUTPUT_LENGTH, UINT32_MAX);
     LEAVES(zahupnik_norms(NO_ROWS, NO_LIST), ZAHUPNIK_OUTPUT_LENGTH, UINT32_MAX);
+    LEAVES(zahupnik_tree_expand(NO_ROWS, curve, 1, output, 1, work, ZAHUPNIK_LEAST_WORK), ZAHUPNIK_FINISHED, 3);
+    LEAVES(zahupnik_tree_adjoint(NO_ROWS, curve, 1, output, 1, work, ZAHUPNIK_LEAST_WORK), ZAHUPNIK_FINISHED, 3);
+    LEAVES(zahupnik_tree_expand(NO_ROWS, curve, 1, output, 1, NO_LIST), ZAHUPNIK_WORK_TOO_SHORT, UINT32_MAX);
+    LEAVES(zahupnik_tree_adjoint(NO_ROWS, curve, 1, output, 1, NO_LIST), ZAHUPNIK_WORK_TOO_SHORT, UINT32_MAX);
 }
 
 int main(void) {
-    const struct function on_curves[] = {{"plain_expand", expand}, {"plain_adjoint", adjoint}, {"plain_decompose", decompose}};
-    for (size_t i = 0; i < sizeof on_curves / sizeof *on_curves; i++) {
-        on_family(&on_curves[i]);
-        on_curve(&on_curves[i]);
+    const struct function functions[] = {
+        {"plain_expand", plain_expand, 0},
+        {"plain_adjoint", plain_adjoint, 0},
+        {"plain_decompose", plain_decompose, 0},
+        {"norms", norms, 0},
+        {"tree_expand", tree_expand, ZAHUPNIK_LEAST_WORK},
+        {"tree_adjoint", tree_adjoint, ZAHUPNIK_LEAST_WORK},
+    };
+    for (size_t i = 0; i < sizeof functions / sizeof *functions; i++) {
+        const struct function *f = &functions[i];
+        on_family(f);
+        if (f->run != norms) on_curve(f);
+        if (f->cleared) on_work(f);
     }
-    on_family(&(struct function){"norms", norms});
     on_number();
     on_null();
     printf("limits: %lu cases are as the header says\n", cases);

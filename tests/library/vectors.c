@@ -18,9 +18,24 @@
 
 enum { LONGEST_LINE = 1 << 16 };
 
-/* The numbers of the calls in IN. */
-enum call { PLAIN_EXPAND = 1, PLAIN_ADJOINT, PLAIN_DECOMPOSE, NORMS, INVERT, CALLS };
-static const char *const NAMES[CALLS] = {NULL, "plain_expand", "plain_adjoint", "plain_decompose", "norms", "invert"};
+/* The calls: the number in IN, the function's name, and what it is lent. From FIRST_WITH_WORK on they are lent a working list. */
+#define CALLS(CALL)                                    \
+    CALL(1, plain_expand, FAMILY, CURVE, OUTPUT)       \
+    CALL(2, plain_adjoint, FAMILY, CURVE, OUTPUT)      \
+    CALL(3, plain_decompose, FAMILY, CURVE, OUTPUT)    \
+    CALL(4, norms, FAMILY, OUTPUT)                     \
+    CALL(5, invert, m, v.entries[0], output.entries)   \
+    CALL(6, tree_expand, FAMILY, CURVE, OUTPUT, WORK)  \
+    CALL(7, tree_adjoint, FAMILY, CURVE, OUTPUT, WORK)
+#define FAMILY m, a.entries, a.length, b.entries, b.length, c.entries, c.length
+#define CURVE v.entries, v.length
+#define OUTPUT output.entries, output.length
+#define WORK work.entries, work.length
+enum { INVERT = 5, FIRST_WITH_WORK = 6 };
+
+#define NAME(number, name, ...) [number] = #name,
+static const char *const NAMES[] = {CALLS(NAME)};
+enum { NUMBERS = sizeof NAMES / sizeof *NAMES };
 
 /* A file that is read line by line. */
 struct text {
@@ -114,6 +129,18 @@ static struct list next_list(struct text *text) {
     return list;
 }
 
+/* What OUT says of a working list: how many of its numbers are zero, and their sum modulo 4294967291. */
+static void expect_work(struct list work) {
+    uint32_t zeros = 0;
+    uint64_t sum = 0;
+    for (size_t i = 0; i < work.length; i++) {
+        zeros += work.entries[i] == 0;
+        sum += work.entries[i];
+    }
+    expect("the count of zeros in the working list", zeros);
+    expect("the sum of the working list", (uint32_t)(sum % 4294967291));
+}
+
 /* Runs the case of a line of IN, holds what it gives against the line of OUT, and returns the call's number. */
 static unsigned run_case(void) {
     unsigned call = next_number(&in);
@@ -121,44 +148,43 @@ static unsigned run_case(void) {
     struct list a = next_list(&in), b = next_list(&in), c = next_list(&in), v = next_list(&in);
     size_t output_length = next_number(&in), work_length = next_number(&in);
     end_line(&in);
-    if (work_length) unusable(&in, "a working list, which no call here is lent");
+    if (call < FIRST_WITH_WORK && work_length) unusable(&in, "a working list, which the call is not lent");
     if (call == INVERT && v.length != 1) unusable(&in, "not one number to invert");
 
     /* the inverse is written to one number */
     struct list output = make_list(call == INVERT ? 1 : output_length);
     for (size_t i = 0; i < output.length; i++) output.entries[i] = (uint32_t)(UINT32_MAX - i);
-    uint32_t number = 0;
-#define FAMILY m, a.entries, a.length, b.entries, b.length, c.entries, c.length
-#define CURVE v.entries, v.length
-#define OUTPUT output.entries, output.length
+    struct list work = make_list(work_length);
+    for (size_t i = 0; i < work.length; i++) work.entries[i] = (uint32_t)(4000000000 + i % 1000);
+    uint32_t returned = 0;
+#define RUN(number, name, ...) \
+    case number: returned = zahupnik_##name(__VA_ARGS__); break;
     switch (call) {
-    case PLAIN_EXPAND: number = zahupnik_plain_expand(FAMILY, CURVE, OUTPUT); break;
-    case PLAIN_ADJOINT: number = zahupnik_plain_adjoint(FAMILY, CURVE, OUTPUT); break;
-    case PLAIN_DECOMPOSE: number = zahupnik_plain_decompose(FAMILY, CURVE, OUTPUT); break;
-    case NORMS: number = zahupnik_norms(FAMILY, OUTPUT); break;
-    case INVERT: number = zahupnik_invert(m, v.entries[0], output.entries); break;
+        CALLS(RUN)
     default: unusable(&in, "a call that this program does not know");
     }
 
-    expect("the number returned", number);
-    if (call == INVERT && number != ZAHUPNIK_FINISHED) {
+    expect("the number returned", returned);
+    if (call == INVERT && returned != ZAHUPNIK_FINISHED) {
         expect("the count of inverses", 0);
         if (output.entries[0] != UINT32_MAX) differs("the number lent to a refused call", output.entries[0], UINT32_MAX);
     } else {
         expect("the length of the output", (uint32_t)output.length);
         for (size_t i = 0; i < output.length; i++) expect("an entry of the output", output.entries[i]);
     }
+    if (call >= FIRST_WITH_WORK) expect_work(work);
     end_line(&out);
     free_list(a);
     free_list(b);
     free_list(c);
     free_list(v);
     free_list(output);
+    free_list(work);
     return call;
 }
 
 int main(int argc, char **argv) {
-    unsigned long agreed[CALLS] = {0};
+    unsigned long agreed[NUMBERS] = {0};
     if (argc != 3) {
         fprintf(stderr, "usage: vectors IN OUT\n");
         return 2;
@@ -172,7 +198,7 @@ int main(int argc, char **argv) {
     if (next_line(&out)) unusable(&out, "goes on after the end of IN");
     if (!in.line) unusable(&in, "holds no case");
     printf("vectors: %lu cases agree (", in.line);
-    for (unsigned call = 1; call < CALLS; call++) printf("%s%s %lu", call == 1 ? "" : ", ", NAMES[call], agreed[call]);
+    for (unsigned call = 1; call < NUMBERS; call++) printf("%s%s %lu", call == 1 ? "" : ", ", NAMES[call], agreed[call]);
     printf(")\n");
     return 0;
 }

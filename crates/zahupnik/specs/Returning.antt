@@ -1,21 +1,30 @@
 -- From the answer of a public call to what its exported function returns and leaves.
--- Proved: a call that writes a list keeps its promise when its answer is turned into a number; so does Inverse, whether it
--- finishes or refuses. Assumes nothing.
+-- Proved: a call that writes a list keeps its promise when its answer is turned into a number, with a working list or without;
+-- so does Inverse, whether it finishes or refuses. Assumes nothing.
 use mathlib.Core.Path.{_≡_, refl, sym, _∙_, ap}
 use mathlib.Core.Bool.{Bool, true, false}
 use mathlib.Core.List.{List, [], _∷_}
 use Prim.Native.Nat.{ℕ}
-use Rattle.definitions.specs.Answers.{answered, after, Converted}
+use Rattle.definitions.specs.Answers.{answered, after, cleared, Converted, ConvertedIn}
 use Rattle.definitions.specs.Refusals.{Test, Verdict, finished, refused, verdict}
 use Rattle.definitions.specs.declared.Answer.{Answer}
 use Rattle.theory.specs.Verdicts.{refused-not-finished, verdict-here, verdict-next}
-use Rattle.zahupnik.specs.Returned.{number, Returned}
+use Rattle.zahupnik.specs.Returned.{number, Returned, ReturnedIn}
 
 pub list-returned : (tests : List Test) (result output output′ : List ℕ) (r : Answer) (k : ℕ)
     → Converted tests result r output output′ → k ≡ number (answered r) → Returned tests result k output output′
 list-returned tests result output output′ r k converted e = record {
   answer = e ∙ ap number (converted .answer);
   written = converted .written ∙ ap (λ v. after v result output) (converted .answer);
+}
+
+pub list-returned-in : (tests : List Test) (result output output′ work work′ : List ℕ) (r : Answer) (k : ℕ)
+    → ConvertedIn tests result r output output′ work work′ → k ≡ number (answered r)
+    → ReturnedIn tests result k output output′ work work′
+list-returned-in tests result output output′ work work′ r k converted e = record {
+  answer = e ∙ ap number (converted .answer);
+  written = converted .written ∙ ap (λ v. after v result output) (converted .answer);
+  wiped = converted .wiped ∙ ap (λ v. after v (cleared work) work) (converted .answer);
 }
 
 -- a verdict, with the values that it gives if finished

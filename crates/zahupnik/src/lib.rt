@@ -8,8 +8,8 @@ ghost use Rattle.definitions.specs.Conversion.{expand, adjoint, decompose};
 ghost use Rattle.definitions.specs.Family.{family};
 ghost use Rattle.definitions.specs.Number as Number;
 ghost use Rattle.definitions.specs.Orthogonality.{norms};
-ghost use Rattle.definitions.specs.Refusals.{plainTests, normsTests, inverseTests};
-ghost use Rattle.zahupnik.specs.Returned.{number, Returned};
+ghost use Rattle.definitions.specs.Refusals.{plainTests, treeTests, normsTests, inverseTests};
+ghost use Rattle.zahupnik.specs.Returned.{number, Returned, ReturnedIn};
 use definitions::Answer;
 use definitions::Valued;
 
@@ -88,4 +88,36 @@ pub extern "C" fn zahupnik_norms(m: u32, a: &[u32], b: &[u32], c: &[u32], output
     ensures { λ r. ⌜ Returned (normsTests (family m (now (a .entry)) (now (b .entry)) (now (c .entry))) (length (now (output .entry)))) (norms (family m (now (a .entry)) (now (b .entry)) (now (c .entry)))) r (now (output .entry)) (now (output .exit)) ⌝ }
 {
     number(conversion::norms(m, a, b, c, output))
+}
+
+// Expand by the tree way, in the working list. Refused as conversion::tree_expand is.
+#[no_mangle]
+pub extern "C" fn zahupnik_tree_expand(
+    m: u32,
+    a: &[u32],
+    b: &[u32],
+    c: &[u32],
+    curve: &[u32],
+    output: &mut [u32],
+    work: &mut [u32],
+) -> u32
+    ensures { λ r. ⌜ ReturnedIn (treeTests (family m (now (a .entry)) (now (b .entry)) (now (c .entry))) (now (curve .entry)) (length (now (output .entry))) (length (now (work .entry)))) (expand (family m (now (a .entry)) (now (b .entry)) (now (c .entry))) (now (curve .entry))) r (now (output .entry)) (now (output .exit)) (now (work .entry)) (now (work .exit)) ⌝ }
+{
+    number(conversion::tree_expand(m, a, b, c, curve, output, work))
+}
+
+// Adjoint by the tree way, in the working list. Refused as conversion::tree_adjoint is.
+#[no_mangle]
+pub extern "C" fn zahupnik_tree_adjoint(
+    m: u32,
+    a: &[u32],
+    b: &[u32],
+    c: &[u32],
+    curve: &[u32],
+    output: &mut [u32],
+    work: &mut [u32],
+) -> u32
+    ensures { λ r. ⌜ ReturnedIn (treeTests (family m (now (a .entry)) (now (b .entry)) (now (c .entry))) (now (curve .entry)) (length (now (output .entry))) (length (now (work .entry)))) (adjoint (family m (now (a .entry)) (now (b .entry)) (now (c .entry))) (now (curve .entry))) r (now (output .entry)) (now (output .exit)) (now (work .entry)) (now (work .exit)) ⌝ }
+{
+    number(conversion::tree_adjoint(m, a, b, c, curve, output, work))
 }
