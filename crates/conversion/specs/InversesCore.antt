@@ -1,21 +1,21 @@
 -- The cores that are lent the inverses of the a: Decompose and Norms.
 -- Proved: the local array, once filled, holds these inverses, so that what the core asks is met and what it writes is the definition's
 -- list. Assumes nothing.
-use mathlib.Core.Path.{_≡_, refl, _∙_, ap}
+use mathlib.Core.Path.{_≡_, refl, _∙_, ap₂}
 use mathlib.Core.List.{List, _++_, append-nil}
 use Prim.Native.Nat.{ℕ, suc, _+_, _-_, _<_, _≤_}
 use native.Mathlib.Nat.{mod-eq-of-lt}
 use native.Mathlib.Omega.{arith}
-use lib.ListN.{length, getD, drop, replicate, length-replicate, drop-of-length-le}
-use lib.Seq.{take-all}
+use lib.ListN.{length, getD, drop, replicate, drop-of-length-le}
 use Rattle.definitions.specs.Family.{Family, Accepted, family, rowAt}
 use Rattle.definitions.specs.Number.{HasInverse, inverse}
 use Rattle.definitions.specs.Orthogonality.{norms}
 use Rattle.theory.specs.Acceptance as Acceptance
-use Rattle.theory.specs.Inverse.{inverse-right, inverse-below}
-use Rattle.theory.specs.Lists.{getD-default, filled, filled-below, filled-length}
+use Rattle.theory.specs.Lists.{getD-default, filled}
 use Rattle.plain.specs.Input.{closedRows, Holds, ConvertInput, NormsInput, InversesOf, Closes}
+use Rattle.conversion.specs.Inverted as Inverted
 use Rattle.conversion.specs.PlainCore.{core-input}
+use Rattle.conversion.specs.Rows.{sizes-hold, rows-whole}
 
 module _ (m : ℕ) (a b c : List ℕ) (accepted : Accepted (family m a b c)) (zeros : List ℕ) (zerosAre : zeros ≡ replicate 128 0) where
   abbrev f : Family
@@ -24,41 +24,26 @@ module _ (m : ℕ) (a b c : List ℕ) (accepted : Accepted (family m a b c)) (ze
   abbrev n : ℕ
   n = length a + 1
 
-  zeros-length : length zeros ≡ 128
-  zeros-length = ap length zerosAre ∙ length-replicate {A = ℕ} 128 0
-
   -- the array has room for the inverses
   pub room : (length a ≤ length a) × (length a ≤ length zeros)
-  room = let few : length a ≤ 127 = accepted .rowCount in let all : length zeros ≡ 128 = zeros-length in (omega arith, omega arith)
+  room = Inverted.room m a (accepted .rowCount) zeros zerosAre
 
   module _ (inverses : List ℕ) (filledIs : inverses ≡ filled (λ i. inverse m (getD a i 0)) (length a) zeros) where
     positive : 0 < m
     positive = let two : 2 ≤ m = accepted .modulus .least in omega arith
 
-    entry-is : (i : ℕ) → i < length a → getD inverses i 0 ≡ inverse m (getD a i 0)
-    entry-is i h = ap (λ xs. getD xs i 0) filledIs ∙ filled-below (λ i. inverse m (getD a i 0)) zeros (length a) i 0 h
-
-    inverses-length : length inverses ≡ 128
-    inverses-length =
-        let few : length a ≤ 127 = accepted .rowCount in
-        let all : length zeros ≡ 128 = zeros-length in
-        ap length filledIs ∙ filled-length (λ i. inverse m (getD a i 0)) zeros (length a) (omega arith) ∙ all
+    rows-are : n - 1 ≡ length a
+    rows-are = omega arith
 
     inverses-hold : Holds m (n - 1) inverses
-    inverses-hold =
-        let few : length a ≤ 127 = accepted .rowCount in
-        let long : length inverses ≡ 128 = inverses-length in
-        record { long = omega arith; below = λ i h. rw (entry-is i (omega arith)) (inverse-below m (getD a i 0) positive) }
+    inverses-hold = rw rows-are (Inverted.inverses-hold m a (accepted .rowCount) zeros zerosAre inverses filledIs positive)
 
     a-has-inverse : (i : ℕ) → i < length a → HasInverse m (getD a i 0)
     unfolding rowAt
     a-has-inverse i h = rw (getD-default a i 0 1 h) (accepted .row i h .aInverse)
 
     pub inverses-of : InversesOf m (n - 1) inverses a
-    inverses-of = record {
-      long = omega arith;
-      product = λ i h. let l : i < length a = omega arith in rw (entry-is i l) (inverse-right m (getD a i 0) positive (a-has-inverse i l));
-    }
+    inverses-of = rw rows-are (Inverted.inverses-of m a (accepted .rowCount) zeros zerosAre inverses filledIs positive a-has-inverse)
 
     -- ---- Decompose
     pub decompose-input : (p output : List ℕ) → Acceptance.PlainInput f p (length output) → ConvertInput m inverses b c p n output
@@ -73,15 +58,11 @@ module _ (m : ℕ) (a b c : List ℕ) (accepted : Accepted (family m a b c)) (ze
       pub norms-input : NormsInput m inverses c 1 n output
       norms-input =
           let two : 2 ≤ m = accepted .modulus .least in
-          let few : length a ≤ 127 = accepted .rowCount in
           let lc : length c ≡ length a = accepted .cLength in
           let lo : length output ≡ suc (length a) = input .outputLength in
-          record { sizes = record { modulus = accepted .modulus; least = omega arith; most = omega arith }; inversesHold = inverses-hold; cLong = omega arith; inverseBelow = omega arith; outputLong = omega arith }
+          record { sizes = sizes-hold m a b c accepted; inversesHold = inverses-hold; cLong = omega arith; inverseBelow = omega arith; outputLong = omega arith }
 
       pub norms-written : norms (closedRows m n a b c (f .close)) ++ drop n output ≡ norms f
       unfolding closedRows
-      norms-written =
-          let lb : length b ≡ length a = accepted .bLength in
-          let lc : length c ≡ length a = accepted .cLength in
-          let lo : length output ≡ suc (length a) = input .outputLength in
-          rw (take-all (n - 1) a (omega arith), take-all (n - 1) b (omega arith), take-all (n - 1) c (omega arith)) (ap (λ t. norms f ++ t) (drop-of-length-le output {i = n} (omega arith)) ∙ append-nil (norms f))
+      norms-written = let lo : length output ≡ suc (length a) = input .outputLength in
+          ap₂ (λ g t. norms g ++ t) (rows-whole m a b c accepted) (drop-of-length-le output {i = n} (omega arith)) ∙ append-nil (norms f)

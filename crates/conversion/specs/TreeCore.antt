@@ -1,19 +1,18 @@
 -- A call on a curve by the tree way: what a refusal leaves, what its core asks, and what the core's lists come to.
 -- Proved: from the verdict of the tests to what the core is handed, and from the core's list, which is the model's, to the
 -- definition's. Assumes nothing.
-use mathlib.Core.Path.{_≡_, sym, _∙_, ap, ap₂}
+use mathlib.Core.Path.{_≡_, sym, _∙_, ap₂}
 use mathlib.Core.List.{List, [], _++_, append-nil}
-use Prim.Native.Nat.{ℕ, suc, _+_, _-_, _<_, _≤_}
+use Prim.Native.Nat.{ℕ, suc, _+_, _-_, _≤_}
 use native.Mathlib.Omega.{arith}
-use lib.ListN.{length, getD, take, drop, drop-of-length-le}
+use lib.ListN.{length, take, drop-of-length-le}
 use lib.Seq.{take-all}
 use Rattle.definitions.specs.Answers.{answered, cleared, ConvertedIn}
 use Rattle.definitions.specs.Conversion.{expand, adjoint}
-use Rattle.definitions.specs.Family.{Family, family, rowAt}
+use Rattle.definitions.specs.Family.{Family, Accepted, family}
 use Rattle.definitions.specs.Refusals.{Test, verdict, treeTests}
 use Rattle.definitions.specs.declared.Answer.{Answer}
 use Rattle.theory.specs.Acceptance.{TreeInput, tree-finished}
-use Rattle.theory.specs.Lists.{getD-default}
 use Rattle.theory.specs.Tree.{treeExpand, treeAdjoint}
 use Rattle.theory.specs.TreeExpand.{tree-expand-accepted}
 use Rattle.theory.specs.TreeAdjoint.{tree-adjoint-accepted}
@@ -21,6 +20,7 @@ use Rattle.subproduct.specs.Leaf.{familyOf}
 use Rattle.tree.specs.Core.{Input, Output}
 use Rattle.checks.specs.Calls.{list-stays}
 use Rattle.conversion.specs.PlainCall.{tests-passed}
+use Rattle.conversion.specs.Rows.{sizes-hold, a-holds, b-holds, c-holds, rows-whole}
 
 pub both-kept : (tests : List Test) (result output work : List ℕ) (r : Answer) (k : ℕ) → answered r ≡ verdict tests [] → r ≡ Answer.Refused k → ConvertedIn tests result r output output work work
 both-kept tests result output work r k e q = record { answer = e; written = list-stays r k result output q; wiped = list-stays r k (cleared work) work q }
@@ -35,41 +35,34 @@ module _ (m : ℕ) (a b c u output work : List ℕ) (input : TreeInput (family m
   abbrev n : ℕ
   n = length a + 1
 
-  entry-below : (xs : List ℕ) (i : ℕ) → i < length xs → getD xs i 1 < m → getD xs i 0 < m
-  entry-below xs i h l = rw (getD-default xs i 0 1 h) l
+  abbrev accepted : Accepted f
+  accepted = input .plain .accepted
 
   pub core-input : Input m a b c u n output work
-  unfolding rowAt
   core-input =
-      let accepted = input .plain .accepted in
-      let lb : length b ≡ length a = accepted .bLength in
-      let lc : length c ≡ length a = accepted .cLength in
-      let few : length a ≤ 127 = accepted .rowCount in
+      let sizes = sizes-hold m a b c accepted in
+      let inA = a-holds m a b c accepted in
+      let inB = b-holds m a b c accepted in
+      let inC = c-holds m a b c accepted in
       let lu : length u ≡ suc (length a) = input .plain .curve .long in
       let lo : length output ≡ suc (length a) = input .plain .outputLength in
+      let most : n ≤ 128 = sizes .most in
       record {
-        modulus = accepted .modulus;
-        least = omega arith;
+        modulus = sizes .modulus;
+        least = sizes .least;
         most = omega arith;
-        aLong = omega arith;
-        bLong = omega arith;
-        cLong = omega arith;
+        aLong = inA .long;
+        bLong = inB .long;
+        cLong = inC .long;
         curveLong = omega arith;
         outputLong = omega arith;
         workLong = input .workLong;
-        rowsBelow = λ i h. record {
-          aBelow = entry-below a i (omega arith) (accepted .row i (omega arith) .aBelow);
-          bBelow = entry-below b i (omega arith) (accepted .row i (omega arith) .bBelow);
-          cBelow = entry-below c i (omega arith) (accepted .row i (omega arith) .cBelow);
-        };
+        rowsBelow = λ i h. record { aBelow = inA .below i h; bBelow = inB .below i h; cBelow = inC .below i h };
         curveBelow = λ i h. input .plain .curve .below i (omega arith);
       }
 
   family-whole : familyOf m (n - 1) a b c ≡ f
-  family-whole =
-      let lb : length b ≡ length a = input .plain .accepted .bLength in
-      let lc : length c ≡ length a = input .plain .accepted .cLength in
-      rw (take-all (n - 1) a (omega arith), take-all (n - 1) b (omega arith), take-all (n - 1) c (omega arith))
+  family-whole = rows-whole m a b c accepted
 
   module _ (convert : Family → List ℕ → List ℕ) (result output′ work′ : List ℕ) (is : convert f u ≡ result)
       (made : Output (convert (familyOf m (n - 1) a b c) (take n u)) n output output′ work work′) where

@@ -6,10 +6,10 @@ ghost use Prim.Native.Nat.{ℕ};
 ghost use lib.ListN.{length};
 ghost use Rattle.definitions.specs.Answers.{valued, Converted, ConvertedIn};
 ghost use Rattle.definitions.specs.Conversion.{expand, adjoint, decompose};
-ghost use Rattle.definitions.specs.Orthogonality.{norms};
+ghost use Rattle.definitions.specs.Orthogonality.{moments, norms};
 ghost use Rattle.definitions.specs.Family.{family};
 ghost use Rattle.definitions.specs.Number.{inverse};
-ghost use Rattle.definitions.specs.Refusals.{verdict, plainTests, treeTests, normsTests, inverseTests};
+ghost use Rattle.definitions.specs.Refusals.{verdict, plainTests, treeTests, momentsTests, normsTests, inverseTests};
 use definitions::Answer;
 use definitions::Valued;
 use residue::Inversion;
@@ -148,5 +148,69 @@ pub fn tree_adjoint(
         return tested;
     };
     tree::adjoint(m, a, b, c, curve, a.len() + 1, output, work);
+    Answer::Finished
+}
+
+// Decompose by the moments and the subproduct tree (Figure 3 of the report): the same list as plain_decompose's. The working list
+// and the refusals are as for tree_expand.
+pub fn tree_decompose(
+    m: u32,
+    a: &[u32],
+    b: &[u32],
+    c: &[u32],
+    coefficients: &[u32],
+    output: &mut [u32],
+    work: &mut [u32],
+) -> Answer
+    ensures { λ r. ⌜ ConvertedIn (treeTests (family m (now (a .entry)) (now (b .entry)) (now (c .entry))) (now (coefficients .entry)) (length (now (output .entry))) (length (now (work .entry)))) (decompose (family m (now (a .entry)) (now (b .entry)) (now (c .entry))) (now (coefficients .entry))) r (now (output .entry)) (now (output .exit)) (now (work .entry)) (now (work .exit)) ⌝ }
+{
+    let tested = verdicts::tree(m, a, b, c, coefficients, output.len(), work.len());
+    let Answer::Finished = tested else {
+        return tested;
+    };
+    let mut inverses = polynomial::zeros();
+    plain::inverses(m, a, a.len(), &mut inverses);
+    let mut reciprocals = polynomial::zeros();
+    plain::inverses(m, c, c.len(), &mut reciprocals);
+    gram::decompose(
+        m,
+        a,
+        b,
+        c,
+        &inverses,
+        &reciprocals,
+        1,
+        1,
+        1,
+        1,
+        1,
+        coefficients,
+        a.len() + 1,
+        output,
+        work,
+    );
+    Answer::Finished
+}
+
+// Moments: the 2n - 1 first coefficients of rev(G_{n-1}, n) / rev(F_n, n + 1), with the closing row 1 1 1 as row n. The working list is
+// as for tree_expand.
+// Refused with 3, 4, 5, 7 and 8 (the station's program), and with 9 to 11 (the maker of the element).
+pub fn moments(
+    m: u32,
+    a: &[u32],
+    b: &[u32],
+    c: &[u32],
+    output: &mut [u32],
+    work: &mut [u32],
+) -> Answer
+    ensures { λ r. ⌜ ConvertedIn (momentsTests (family m (now (a .entry)) (now (b .entry)) (now (c .entry))) (length (now (output .entry))) (length (now (work .entry)))) (moments (family m (now (a .entry)) (now (b .entry)) (now (c .entry)))) r (now (output .entry)) (now (output .exit)) (now (work .entry)) (now (work .exit)) ⌝ }
+{
+    let tested = verdicts::moments(m, a, b, c, output.len(), work.len());
+    let Answer::Finished = tested else {
+        return tested;
+    };
+    let mut inverses = polynomial::zeros();
+    plain::inverses(m, a, a.len(), &mut inverses);
+    gram::moments(m, a, b, c, &inverses, 1, 1, 1, 1, a.len() + 1, output, work);
     Answer::Finished
 }
