@@ -11,7 +11,7 @@ use native.Mathlib.Numerals.{add-one}
 use native.Mathlib.Omega.{arith}
 use lib.ListN.{length, getD, take, drop, replicate, length-replicate, getD-replicate, List·getD-eq-default}
 use lib.Seq.{length-take-le}
-use Rattle.definitions.specs.Family.{Family, size, rowAt, F, G}
+use Rattle.definitions.specs.Family.{Family, rowAt, F, G}
 use Rattle.definitions.specs.Number.{table}
 use Rattle.definitions.specs.Orthogonality.{reversal, quotient, moments}
 use Rattle.theory.specs.Extended.{F-below, G-below}
@@ -19,7 +19,7 @@ use Rattle.theory.specs.Lists.{filled, filled-length, filled-below, filled-from
 use Rattle.theory.specs.NormInverse.{leadingInverse, leadingInverse-below, leading-inverse}
 use Rattle.theory.specs.Products.{Below}
 use Rattle.plain.specs.FirstRows.{entry-inside, entry-past}
-use Rattle.plain.specs.Input.{closedRows, InversesOf}
+use Rattle.plain.specs.Input.{closedRows}
 use Rattle.series.specs.Division.{reversed, QuotientInput}
 use Rattle.subproduct.specs.Leaf.{rowOf}
 use Rattle.tree.specs.Core.{Output}
