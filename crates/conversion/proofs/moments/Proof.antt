@@ -1,0 +1,75 @@
+-- `moments` meets its promise: it answers the verdict of its tests, and its core, lent the inverses of the a, writes the definition's
+-- list and leaves the working list clear. Assumes nothing.
+use Rattle.conversion.specs.GramCore.{moments-accepted, moments-input, moments-written}
+use Rattle.conversion.specs.InversesCore.{room}
+use Rattle.conversion.specs.PlainCall.{tests-passed}
+use Rattle.conversion.specs.TreeCore.{both-kept}
+use borrow.Author.Needs.{needs}
+use Rattle.conversion.proofs.moments.Statement.{statement}
+use Rattle.conversion.proofs.moments.Tie as tie
+use Rattle.verdicts.proofs.moments.Reads as moments-reads′
+
+moments-requires : tie.Need-moments-requires
+moments-requires c κs = search needs
+
+enum-told : tie.Need-enum-told
+enum-told c = search needs
+
+enum-told-2 : tie.Need-enum-told-2
+enum-told-2 c = search needs
+
+returns : tie.Need-returns
+returns c = both-kept _ _ _ _ _ _ (c .before .before .moments .ensures) (c .enum-told2 .given .1)
+
+zeros-requires : tie.Need-zeros-requires
+zeros-requires c κs = search needs
+
+slice-aggregate-inverses : tie.Need-slice-aggregate-inverses
+slice-aggregate-inverses c = search needs
+
+inverses-requires : tie.Need-inverses-requires
+inverses-requires c κs = room _ _ _ _ ((moments-accepted _ _ _ _ _ _ _ (c .before .before .before .before .moments .ensures) (c .before .before .enum-told .given .1)) .accepted) _ (c .before .zeros .ensures)
+
+slice-aggregate-moments : tie.Need-slice-aggregate-moments
+slice-aggregate-moments c = search needs
+
+add-moments : tie.Need-add-moments
+add-moments c = search needs
+
+moments-requires-2 : tie.Need-moments-requires-2
+moments-requires-2 c κs =
+    let input = (moments-accepted _ _ _ _ _ _ _ (c .before .before .before .before .before .before .before .before .before .moments .ensures) (c .before .before .before .before .before .before .before .enum-told .given .1)) in
+    moments-input _ _ _ _ (input .accepted) _ (c .before .before .before .before .before .before .zeros .ensures) _ (c .before .before .before .before .inverses2 .ensures) (c .before .before .before .before .before .before .before .before .before .before .before .before .before .before .before .args .output .now) (c .before .before .before .before .before .before .before .before .before .before .before .before .before .before .before .args .work .now) input
+
+same-length : tie.Need-same-length
+same-length c = search needs
+
+same-length-2 : tie.Need-same-length-2
+same-length-2 c = search needs
+
+returns-2 : tie.Need-returns-2
+returns-2 c =
+    let input = (moments-accepted _ _ _ _ _ _ _ (c .before .before .before .before .before .before .before .before .before .before .before .before .before .before .moments .ensures) (c .before .before .before .before .before .before .before .before .before .before .before .before .enum-told .given .1)) in
+    record {
+      answer = tests-passed _ _ (c .before .before .before .before .before .before .before .before .before .before .before .before .before .before .moments .ensures) (c .before .before .before .before .before .before .before .before .before .before .before .before .enum-told .given .1);
+      written = moments-written _ _ _ _ (input .accepted) _ (c .before .before .before .before .before .before .before .before .before .before .before .zeros .ensures) _ (c .before .before .before .before .before .before .before .before .before .inverses2 .ensures) (c .before .before .before .before .before .before .before .before .before .before .before .before .before .before .before .before .before .before .before .before .args .output .now) (c .before .before .before .before .before .before .before .before .before .before .before .before .before .before .before .before .before .before .before .before .args .work .now) input _ _ (c .before .before .before .before .moments2 .ensures);
+      wiped = c .before .before .before .before .moments2 .ensures .wiped;
+    }
+
+pub moments-spec : {M : Type 1} → statement M
+moments-spec =
+    tie.close
+    (tie.spec
+    moments-requires
+    enum-told
+    enum-told-2
+    returns
+    zeros-requires
+    slice-aggregate-inverses
+    inverses-requires
+    slice-aggregate-moments
+    add-moments
+    moments-requires-2
+    same-length
+    same-length-2
+    returns-2)
