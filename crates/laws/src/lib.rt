@@ -1,13 +1,71 @@
 // Laws over the public calls: each function lends every list, calls the calls, and its 'ensures' says of each list at exit that it
 // is the definition's, and then the law over those lists. They are evidence and no library calls.
+ghost use mathlib.Core.Path.{_≡_};
+ghost use mathlib.Core.List.{[]};
+ghost use Rattle.definitions.specs.Answers.{answered};
 ghost use Rattle.definitions.specs.Conversion.{expand, adjoint, decompose};
 ghost use Rattle.definitions.specs.Family.{family};
+ghost use Rattle.definitions.specs.Refusals.{verdict};
+ghost use Rattle.laws.specs.ByWay.{Made};
+ghost use Rattle.laws.specs.HandedOut.{lawTests, HandedOut, Weighed};
 ghost use Rattle.laws.specs.Returned.{Returned};
 ghost use Rattle.laws.specs.Ways.{Agreed};
 use definitions::Answer;
 
-// Decomposing what Expand handed out returns the curve.
+// A way of Expand and of Decompose.
+pub enum Way {
+    Plain,
+    Tree,
+}
+
+// What product_law answers: the total by the moments and the total by the norms, or the refusal of the call that refused.
+pub enum Totals {
+    Weighed(u32, u32),
+    Refused(u32),
+}
+
+// Expand by the way that is asked for.
+fn expand_by(
+    way: Way,
+    m: u32,
+    a: &[u32],
+    b: &[u32],
+    c: &[u32],
+    curve: &[u32],
+    output: &mut [u32],
+    work: &mut [u32],
+) -> Answer
+    ensures { λ r. ⌜ Made expand way (family m (now (a .entry)) (now (b .entry)) (now (c .entry))) (now (curve .entry)) r (now (output .entry)) (now (output .exit)) (now (work .entry)) (now (work .exit)) ⌝ }
+{
+    match way {
+        Way::Plain => conversion::plain_expand(m, a, b, c, curve, output),
+        Way::Tree => conversion::tree_expand(m, a, b, c, curve, output, work),
+    }
+}
+
+// Decompose by the way that is asked for.
+fn decompose_by(
+    way: Way,
+    m: u32,
+    a: &[u32],
+    b: &[u32],
+    c: &[u32],
+    coefficients: &[u32],
+    output: &mut [u32],
+    work: &mut [u32],
+) -> Answer
+    ensures { λ r. ⌜ Made decompose way (family m (now (a .entry)) (now (b .entry)) (now (c .entry))) (now (coefficients .entry)) r (now (output .entry)) (now (output .exit)) (now (work .entry)) (now (work .exit)) ⌝ }
+{
+    match way {
+        Way::Plain => conversion::plain_decompose(m, a, b, c, coefficients, output),
+        Way::Tree => conversion::tree_decompose(m, a, b, c, coefficients, output, work),
+    }
+}
+
+// Decomposing what Expand handed out returns the curve, by either way each.
 pub fn decompose_after_expand(
+    first: Way,
+    second: Way,
     m: u32,
     a: &[u32],
     b: &[u32],
@@ -15,18 +73,21 @@ pub fn decompose_after_expand(
     curve: &[u32],
     expanded: &mut [u32],
     returned: &mut [u32],
+    work: &mut [u32],
 ) -> Answer
-    ensures { λ r. ⌜ Returned expand decompose (family m (now (a .entry)) (now (b .entry)) (now (c .entry))) (now (curve .entry)) r (now (expanded .entry)) (now (expanded .exit)) (now (returned .entry)) (now (returned .exit)) ⌝ }
+    ensures { λ r. ⌜ Returned expand decompose first second (family m (now (a .entry)) (now (b .entry)) (now (c .entry))) (now (curve .entry)) r (now (expanded .entry)) (now (expanded .exit)) (now (returned .entry)) (now (returned .exit)) (now (work .entry)) (now (work .exit)) ⌝ }
 {
-    let answer = conversion::plain_expand(m, a, b, c, curve, expanded);
+    let answer = expand_by(first, m, a, b, c, curve, expanded, work);
     let Answer::Finished = answer else {
         return answer;
     };
-    conversion::plain_decompose(m, a, b, c, expanded, returned)
+    decompose_by(second, m, a, b, c, expanded, returned, work)
 }
 
-// Expanding what Decompose handed out returns the coefficients.
+// Expanding what Decompose handed out returns the coefficients, by either way each.
 pub fn expand_after_decompose(
+    first: Way,
+    second: Way,
     m: u32,
     a: &[u32],
     b: &[u32],
@@ -34,14 +95,15 @@ pub fn expand_after_decompose(
     coefficients: &[u32],
     decomposed: &mut [u32],
     returned: &mut [u32],
+    work: &mut [u32],
 ) -> Answer
-    ensures { λ r. ⌜ Returned decompose expand (family m (now (a .entry)) (now (b .entry)) (now (c .entry))) (now (coefficients .entry)) r (now (decomposed .entry)) (now (decomposed .exit)) (now (returned .entry)) (now (returned .exit)) ⌝ }
+    ensures { λ r. ⌜ Returned decompose expand first second (family m (now (a .entry)) (now (b .entry)) (now (c .entry))) (now (coefficients .entry)) r (now (decomposed .entry)) (now (decomposed .exit)) (now (returned .entry)) (now (returned .exit)) (now (work .entry)) (now (work .exit)) ⌝ }
 {
-    let answer = conversion::plain_decompose(m, a, b, c, coefficients, decomposed);
+    let answer = decompose_by(first, m, a, b, c, coefficients, decomposed, work);
     let Answer::Finished = answer else {
         return answer;
     };
-    conversion::plain_expand(m, a, b, c, decomposed, returned)
+    expand_by(second, m, a, b, c, decomposed, returned, work)
 }
 
 // Expand by the plain way and by the tree way: the same list.
@@ -82,4 +144,66 @@ pub fn adjoint_by_both_ways(
         return answer;
     };
     conversion::tree_adjoint(m, a, b, c, curve, tree, work)
+}
+
+// Expand for u and for v, Moments and Norms, until one refuses.
+fn hand_out(
+    first: Way,
+    second: Way,
+    m: u32,
+    a: &[u32],
+    b: &[u32],
+    c: &[u32],
+    u: &[u32],
+    v: &[u32],
+    s: &mut [u32],
+    t: &mut [u32],
+    moment: &mut [u32],
+    norm: &mut [u32],
+    work: &mut [u32],
+) -> Answer
+    ensures { λ r. ⌜ (answered r ≡ verdict (lawTests first second (family m (now (a .entry)) (now (b .entry)) (now (c .entry))) (record { u = now (u .entry); v = now (v .entry); s = now (s .entry); t = now (t .entry); moment = now (moment .entry); norm = now (norm .entry); work = now (work .entry) })) []) × HandedOut first second (family m (now (a .entry)) (now (b .entry)) (now (c .entry))) (record { u = now (u .entry); v = now (v .entry); s = now (s .entry); t = now (t .entry); moment = now (moment .entry); norm = now (norm .entry); work = now (work .entry) }) (now (s .exit)) (now (t .exit)) (now (moment .exit)) (now (norm .exit)) (now (work .exit)) ⌝ }
+{
+    let one = expand_by(first, m, a, b, c, u, s, work);
+    let Answer::Finished = one else {
+        return one;
+    };
+    let two = expand_by(second, m, a, b, c, v, t, work);
+    let Answer::Finished = two else {
+        return two;
+    };
+    let three = conversion::moments(m, a, b, c, moment, work);
+    let Answer::Finished = three else {
+        return three;
+    };
+    conversion::norms(m, a, b, c, norm)
+}
+
+// The product law: the uncut product of what Expand hands out for u and for v, weighed with the moments, and the products of the
+// entries of u and v, weighed with the norms. Both totals are handed out, and are equal.
+pub fn product_law(
+    first: Way,
+    second: Way,
+    m: u32,
+    a: &[u32],
+    b: &[u32],
+    c: &[u32],
+    u: &[u32],
+    v: &[u32],
+    s: &mut [u32],
+    t: &mut [u32],
+    moment: &mut [u32],
+    norm: &mut [u32],
+    work: &mut [u32],
+) -> Totals
+    ensures { λ r. ⌜ Weighed first second (family m (now (a .entry)) (now (b .entry)) (now (c .entry))) (record { u = now (u .entry); v = now (v .entry); s = now (s .entry); t = now (t .entry); moment = now (moment .entry); norm = now (norm .entry); work = now (work .entry) }) r (now (s .exit)) (now (t .exit)) (now (moment .exit)) (now (norm .exit)) (now (work .exit)) ⌝ }
+{
+    let answer = hand_out(first, second, m, a, b, c, u, v, s, t, moment, norm, work);
+    if let Answer::Refused(k) = answer {
+        return Totals::Refused(k);
+    }
+    let n = a.len() + 1;
+    let by_moments = totals::moment_total(m, n, s, t, moment);
+    let by_norms = totals::norm_total(m, n, u, v, norm);
+    Totals::Weighed(by_moments, by_norms)
 }

@@ -1,11 +1,12 @@
 -- `expand_after_decompose` meets its law: Expand undoes Decompose on the lists that the calls hand out. Assumes nothing.
+use Rattle.definitions.specs.Conversion.{expand, decompose}
 use Rattle.laws.specs.Returned.{first-refused, both-made, expand-undoes-decompose}
 use borrow.Author.Needs.{needs}
 use Rattle.laws.proofs.expand_after_decompose.Statement.{statement}
 use Rattle.laws.proofs.expand_after_decompose.Tie as tie
 
-plain-decompose-requires : tie.Need-plain-decompose-requires
-plain-decompose-requires c κs = search needs
+decompose-by-requires : tie.Need-decompose-by-requires
+decompose-by-requires c κs = search needs
 
 enum-told : tie.Need-enum-told
 enum-told c = search needs
@@ -16,31 +17,39 @@ enum-told-2 c = search needs
 same-length : tie.Need-same-length
 same-length c = search needs
 
-returns : tie.Need-returns
-returns c = first-refused _ _ _ _ _ _ _ _ _ _ _ (c .before .before .before .before .plain-decompose .ensures) _ (c .enum-told2 .given .1)
-
-plain-expand-requires : tie.Need-plain-expand-requires
-plain-expand-requires c κs = search needs
-
 same-length-2 : tie.Need-same-length-2
 same-length-2 c = search needs
+
+returns : tie.Need-returns
+returns c = first-refused decompose expand _ _ _ _ _ _ _ _ _ _ _ _ _ (c .before .before .before .before .before .before .decompose-by .ensures) _ (c .enum-told2 .given .1)
+
+expand-by-requires : tie.Need-expand-by-requires
+expand-by-requires c κs = search needs
 
 same-length-3 : tie.Need-same-length-3
 same-length-3 c = search needs
 
+same-length-4 : tie.Need-same-length-4
+same-length-4 c = search needs
+
+same-length-5 : tie.Need-same-length-5
+same-length-5 c = search needs
+
 returns-2 : tie.Need-returns-2
-returns-2 c = both-made _ _ _ _ _ _ _ _ _ _ _ (c .before .before .before .before .before .before .before .before .before .plain-decompose .ensures) expand-undoes-decompose (c .before .before .before .before .before .enum-told .given .1) _ _ (c .before .before .plain-expand .ensures)
+returns-2 c = both-made decompose expand _ _ _ _ _ _ _ _ _ _ _ _ _ (c .before .before .before .before .before .before .before .before .before .before .before .before .before .before .decompose-by .ensures) expand-undoes-decompose (c .before .before .before .before .before .before .before .before .enum-told .given .1) _ _ _ (c .before .before .before .before .expand-by .ensures)
 
 pub expand-after-decompose-spec : {M : Type 1} → statement M
 expand-after-decompose-spec =
     tie.close
     (tie.spec
-    plain-decompose-requires
+    decompose-by-requires
     enum-told
     enum-told-2
     same-length
-    returns
-    plain-expand-requires
     same-length-2
+    returns
+    expand-by-requires
     same-length-3
+    same-length-4
+    same-length-5
     returns-2)
