@@ -9,8 +9,9 @@
  * comment lists the refusals that it tests, in this order, each over all rows or entries before the next; the first that is the
  * case is returned.
  *
- * A function of the tree way is lent a working list besides, of any length from ZAHUPNIK_LEAST_WORK on, and what it holds does not
- * matter. When the function has finished, the first ZAHUPNIK_LEAST_WORK numbers of it are zero, and what lies beyond is untouched.
+ * A function of the tree way, and zahupnik_moments, is lent a working list besides, of any length from ZAHUPNIK_LEAST_WORK on, and
+ * what it holds does not matter. When the function has finished, the first ZAHUPNIK_LEAST_WORK numbers of it are zero, and what
+ * lies beyond is untouched.
  *
  * What the caller owes: behind a pointer there are as many initialised numbers as the length beside it says, and the one number
  * behind `inverse`; a list of length 0 may have any pointer, NULL too. What a call writes (the inverse, the output, the working
@@ -86,6 +87,23 @@ uint32_t zahupnik_tree_expand(uint32_t m, const uint32_t *a, size_t a_length, co
 uint32_t zahupnik_tree_adjoint(uint32_t m, const uint32_t *a, size_t a_length, const uint32_t *b, size_t b_length,
                                const uint32_t *c, size_t c_length, const uint32_t *curve, size_t curve_length,
                                uint32_t *output, size_t output_length, uint32_t *work, size_t work_length);
+
+/* Decompose by the subproduct tree: output becomes what zahupnik_plain_decompose makes it.
+ * Lengths: a, b, c r; coefficients n; output n; work ZAHUPNIK_LEAST_WORK or more. Refuses with 3 4 5 6 7 8 9 10 11 12. */
+uint32_t zahupnik_tree_decompose(uint32_t m, const uint32_t *a, size_t a_length, const uint32_t *b, size_t b_length,
+                                 const uint32_t *c, size_t c_length, const uint32_t *coefficients,
+                                 size_t coefficients_length, uint32_t *output, size_t output_length, uint32_t *work,
+                                 size_t work_length);
+
+/* Moments: output[k] becomes the coefficient of x^k in the power series rev(G_{n-1}, n) / rev(F_n, n + 1), for k from 0 to 2n - 2,
+ * where rev(P, k) = x^(k-1) P(1/x), row n, the closing row, is 1 1 1, and G is F begun with row 2: G_{-1} = 0, G_0 = 1 and
+ * G_i = (a_{i+1} x + b_{i+1}) G_{i-1} + c_{i+1} G_{i-2}.
+ * The product law: if Expand turns the curves u and v into s and t, then modulo m the sum over k of output[k] times the
+ * coefficient of x^k in the product of s and t is the sum over i of u[i] v[i] d[i], where d is what zahupnik_norms gives.
+ * Lengths: a, b, c r; output 2n - 1; work ZAHUPNIK_LEAST_WORK or more. Refuses with 3 4 5 7 8 9 10 11. */
+uint32_t zahupnik_moments(uint32_t m, const uint32_t *a, size_t a_length, const uint32_t *b, size_t b_length,
+                          const uint32_t *c, size_t c_length, uint32_t *output, size_t output_length, uint32_t *work,
+                          size_t work_length);
 
 #ifdef __cplusplus
 }

@@ -11,7 +11,7 @@
 
 #include "zahupnik.h"
 
-enum { ROOM = ZAHUPNIK_MOST_ROWS + 3, WORK_ROOM = ZAHUPNIK_LEAST_WORK + 3 };
+enum { ROOM = ZAHUPNIK_MOST_ROWS + 3, OUTPUT_ROOM = 2 * ROOM, WORK_ROOM = ZAHUPNIK_LEAST_WORK + 3 };
 
 static unsigned long cases;
 
@@ -28,14 +28,6 @@ struct input {
     size_t a_length, b_length, c_length, curve_length, output_length, work_length;
 };
 
-/* An input that every function takes: rows 1 1 1 and a curve of ones, modulo 7. */
-static struct input accepted(size_t rows) {
-    struct input x = {.m = 7, .a_length = rows, .b_length = rows, .c_length = rows, .work_length = ZAHUPNIK_LEAST_WORK};
-    x.curve_length = x.output_length = rows + 1;
-    for (size_t i = 0; i < ROOM; i++) x.a[i] = x.b[i] = x.c[i] = x.curve[i] = 1;
-    return x;
-}
-
 #define FAMILY x->m, x->a, x->a_length, x->b, x->b_length, x->c, x->c_length
 #define CURVE x->curve, x->curve_length
 #define OUTPUT output, x->output_length
@@ -51,25 +43,38 @@ FUNCTION(plain_decompose, FAMILY, CURVE, OUTPUT)
 FUNCTION(norms, FAMILY, OUTPUT)
 FUNCTION(tree_expand, FAMILY, CURVE, OUTPUT, WORK)
 FUNCTION(tree_adjoint, FAMILY, CURVE, OUTPUT, WORK)
+FUNCTION(tree_decompose, FAMILY, CURVE, OUTPUT, WORK)
+FUNCTION(moments, FAMILY, OUTPUT, WORK)
 
-/* A function by its name, and how many numbers at the front of the working list are zero when it has finished. */
+/* A function by its name, how many numbers its result has for each row besides the first one, and how many numbers at the front of
+ * the working list are zero when it has finished. */
 struct function {
     const char *name;
     uint32_t (*run)(const struct input *, uint32_t *, uint32_t *);
-    size_t cleared;
+    size_t each_row, cleared;
 };
+
+/* An input that the function takes: rows 1 1 1 and a curve of ones, modulo 7. */
+static struct input accepted(const struct function *f, size_t rows) {
+    struct input x = {.m = 7, .a_length = rows, .b_length = rows, .c_length = rows, .work_length = ZAHUPNIK_LEAST_WORK};
+    x.curve_length = rows + 1;
+    x.output_length = f->each_row * rows + 1;
+    for (size_t i = 0; i < ROOM; i++) x.a[i] = x.b[i] = x.c[i] = x.curve[i] = 1;
+    return x;
+}
 
 /* The function returns the number and clears what it must of the working list; a refusal leaves both lists as they were, and no
  * function writes past the length that it is told. */
 static void gives(const struct function *f, const char *with, const struct input *x, uint32_t number) {
     static uint32_t work[WORK_ROOM];
-    uint32_t output[ROOM];
+    uint32_t output[OUTPUT_ROOM];
     size_t written = number == ZAHUPNIK_FINISHED ? x->output_length : 0;
     size_t cleared = number == ZAHUPNIK_FINISHED ? f->cleared : 0;
-    for (size_t i = 0; i < ROOM; i++) output[i] = UINT32_MAX;
+    for (size_t i = 0; i < OUTPUT_ROOM; i++) output[i] = UINT32_MAX;
     for (size_t i = 0; i < WORK_ROOM; i++) work[i] = (uint32_t)(UINT32_MAX - i);
     expect(f->name, with, "the number returned", f->run(x, output, work), number);
-    for (size_t i = written; i < ROOM; i++) expect(f->name, with, "an entry that is not to be written", output[i], UINT32_MAX);
+    for (size_t i = written; i < OUTPUT_ROOM; i++)
+        expect(f->name, with, "an entry that is not to be written", output[i], UINT32_MAX);
     for (size_t i = 0; i < WORK_ROOM; i++)
         expect(f->name, with, "a number of the working list", work[i], i < cleared ? 0 : (uint32_t)(UINT32_MAX - i));
     cases++;
@@ -78,7 +83,7 @@ static void gives(const struct function *f, const char *with, const struct input
 /* Changed in one thing, an accepted input of some rows gives the number. */
 #define GIVES(number, rows, change)                              \
     do {                                                         \
-        struct input x = accepted(rows);                         \
+        struct input x = accepted(f, rows);                      \
         change;                                                  \
         gives(f, #rows " rows, " #change, &x, ZAHUPNIK_##number); \
     } while (0)
@@ -96,8 +101,8 @@ static void on_family(const struct function *f) {
     GIVES(FINISHED, 0, x.a[0] = x.b[0] = x.c[0] = 0);
     GIVES(FINISHED, ZAHUPNIK_MOST_ROWS, x.m = 2);
     GIVES(ROWS, ZAHUPNIK_MOST_ROWS + 1, x.m = 2);
-    GIVES(OUTPUT_LENGTH, 2, x.output_length = 2);
-    GIVES(OUTPUT_LENGTH, 2, x.output_length = 4);
+    GIVES(OUTPUT_LENGTH, 2, x.output_length--);
+    GIVES(OUTPUT_LENGTH, 2, x.output_length++);
     GIVES(FINISHED, 2, x.a[1] = x.b[1] = x.c[1] = 6);
     GIVES(ENTRY, 2, x.a[1] = 7);
     GIVES(ENTRY, 2, x.b[1] = 7);
@@ -168,23 +173,29 @@ static void on_null(void) {
     LEAVES(zahupnik_norms(NO_ROWS, NO_LIST), ZAHUPNIK_OUTPUT_LENGTH, UINT32_MAX);
     LEAVES(zahupnik_tree_expand(NO_ROWS, curve, 1, output, 1, work, ZAHUPNIK_LEAST_WORK), ZAHUPNIK_FINISHED, 3);
     LEAVES(zahupnik_tree_adjoint(NO_ROWS, curve, 1, output, 1, work, ZAHUPNIK_LEAST_WORK), ZAHUPNIK_FINISHED, 3);
+    LEAVES(zahupnik_tree_decompose(NO_ROWS, curve, 1, output, 1, work, ZAHUPNIK_LEAST_WORK), ZAHUPNIK_FINISHED, 3);
+    LEAVES(zahupnik_moments(NO_ROWS, output, 1, work, ZAHUPNIK_LEAST_WORK), ZAHUPNIK_FINISHED, 1);
     LEAVES(zahupnik_tree_expand(NO_ROWS, curve, 1, output, 1, NO_LIST), ZAHUPNIK_WORK_TOO_SHORT, UINT32_MAX);
     LEAVES(zahupnik_tree_adjoint(NO_ROWS, curve, 1, output, 1, NO_LIST), ZAHUPNIK_WORK_TOO_SHORT, UINT32_MAX);
+    LEAVES(zahupnik_tree_decompose(NO_ROWS, curve, 1, output, 1, NO_LIST), ZAHUPNIK_WORK_TOO_SHORT, UINT32_MAX);
+    LEAVES(zahupnik_moments(NO_ROWS, output, 1, NO_LIST), ZAHUPNIK_WORK_TOO_SHORT, UINT32_MAX);
 }
 
 int main(void) {
     const struct function functions[] = {
-        {"plain_expand", plain_expand, 0},
-        {"plain_adjoint", plain_adjoint, 0},
-        {"plain_decompose", plain_decompose, 0},
-        {"norms", norms, 0},
-        {"tree_expand", tree_expand, ZAHUPNIK_LEAST_WORK},
-        {"tree_adjoint", tree_adjoint, ZAHUPNIK_LEAST_WORK},
+        {"plain_expand", plain_expand, 1, 0},
+        {"plain_adjoint", plain_adjoint, 1, 0},
+        {"plain_decompose", plain_decompose, 1, 0},
+        {"norms", norms, 1, 0},
+        {"tree_expand", tree_expand, 1, ZAHUPNIK_LEAST_WORK},
+        {"tree_adjoint", tree_adjoint, 1, ZAHUPNIK_LEAST_WORK},
+        {"tree_decompose", tree_decompose, 1, ZAHUPNIK_LEAST_WORK},
+        {"moments", moments, 2, ZAHUPNIK_LEAST_WORK},
     };
     for (size_t i = 0; i < sizeof functions / sizeof *functions; i++) {
         const struct function *f = &functions[i];
         on_family(f);
-        if (f->run != norms) on_curve(f);
+        if (f->run != norms && f->run != moments) on_curve(f);
         if (f->cleared) on_work(f);
     }
     on_number();

@@ -19,14 +19,16 @@
 enum { LONGEST_LINE = 1 << 16 };
 
 /* The calls: the number in IN, the function's name, and what it is lent. From FIRST_WITH_WORK on they are lent a working list. */
-#define CALLS(CALL)                                    \
-    CALL(1, plain_expand, FAMILY, CURVE, OUTPUT)       \
-    CALL(2, plain_adjoint, FAMILY, CURVE, OUTPUT)      \
-    CALL(3, plain_decompose, FAMILY, CURVE, OUTPUT)    \
-    CALL(4, norms, FAMILY, OUTPUT)                     \
-    CALL(5, invert, m, v.entries[0], output.entries)   \
-    CALL(6, tree_expand, FAMILY, CURVE, OUTPUT, WORK)  \
-    CALL(7, tree_adjoint, FAMILY, CURVE, OUTPUT, WORK)
+#define CALLS(CALL)                                      \
+    CALL(1, plain_expand, FAMILY, CURVE, OUTPUT)         \
+    CALL(2, plain_adjoint, FAMILY, CURVE, OUTPUT)        \
+    CALL(3, plain_decompose, FAMILY, CURVE, OUTPUT)      \
+    CALL(4, norms, FAMILY, OUTPUT)                       \
+    CALL(5, invert, m, v.entries[0], output.entries)     \
+    CALL(6, tree_expand, FAMILY, CURVE, OUTPUT, WORK)    \
+    CALL(7, tree_adjoint, FAMILY, CURVE, OUTPUT, WORK)   \
+    CALL(8, tree_decompose, FAMILY, CURVE, OUTPUT, WORK) \
+    CALL(9, moments, FAMILY, OUTPUT, WORK)
 #define FAMILY m, a.entries, a.length, b.entries, b.length, c.entries, c.length
 #define CURVE v.entries, v.length
 #define OUTPUT output.entries, output.length

@@ -8,7 +8,7 @@ use Prim.Native.Nat.{ℕ, _<_}
 use native.Mathlib.Omega.{arith}
 use borrow.Author.Needs.{needs}
 use Rattle.definitions.specs.Family.{Family}
-use Rattle.definitions.specs.Refusals.{Test, finished, verdict, modulusTest, lengthsTest, rowCountTest, curveLengthTest, outputTest, workTest, entriesTest, aInverseTest, cInverseTest, curveEntriesTest, numberTest, numberInverseTest, plainTests, treeTests, normsTests, inverseTests}
+use Rattle.definitions.specs.Refusals.{Test, finished, verdict, modulusTest, lengthsTest, rowCountTest, curveLengthTest, outputTest, workTest, entriesTest, aInverseTest, cInverseTest, curveEntriesTest, numberTest, numberInverseTest, plainTests, treeTests, momentsTests, normsTests, inverseTests}
 use Rattle.theory.specs.Verdicts.{verdict-here, verdict-next}
 use Rattle.zahupnik.specs.Returned.{number}
 
@@ -34,6 +34,11 @@ module _ (f : Family) (u : List ℕ) (output work : ℕ) where
   pub tree-zero : number (verdict (treeTests f u output work) []) ≡ 0 → verdict (treeTests f u output work) [] ≡ finished []
   unfolding treeTests modulusTest lengthsTest rowCountTest curveLengthTest outputTest workTest entriesTest aInverseTest cInverseTest curveEntriesTest
   tree-zero = zero-finished (treeTests f u output work) (search needs)
+
+module _ (f : Family) (output work : ℕ) where
+  pub moments-zero : number (verdict (momentsTests f output work) []) ≡ 0 → verdict (momentsTests f output work) [] ≡ finished []
+  unfolding momentsTests modulusTest lengthsTest rowCountTest outputTest workTest entriesTest aInverseTest cInverseTest
+  moments-zero = zero-finished (momentsTests f output work) (search needs)
 
 pub norms-zero : (f : Family) (output : ℕ) → number (verdict (normsTests f output) []) ≡ 0 → verdict (normsTests f output) [] ≡ finished []
 unfolding normsTests modulusTest lengthsTest rowCountTest outputTest entriesTest aInverseTest cInverseTest

@@ -7,8 +7,8 @@ ghost use Rattle.definitions.specs.Answers.{answered};
 ghost use Rattle.definitions.specs.Conversion.{expand, adjoint, decompose};
 ghost use Rattle.definitions.specs.Family.{family};
 ghost use Rattle.definitions.specs.Number as Number;
-ghost use Rattle.definitions.specs.Orthogonality.{norms};
-ghost use Rattle.definitions.specs.Refusals.{plainTests, treeTests, normsTests, inverseTests};
+ghost use Rattle.definitions.specs.Orthogonality.{norms, moments};
+ghost use Rattle.definitions.specs.Refusals.{plainTests, treeTests, normsTests, momentsTests, inverseTests};
 ghost use Rattle.zahupnik.specs.Returned.{number, Returned, ReturnedIn};
 use definitions::Answer;
 use definitions::Valued;
@@ -120,4 +120,35 @@ pub extern "C" fn zahupnik_tree_adjoint(
     ensures { λ r. ⌜ ReturnedIn (treeTests (family m (now (a .entry)) (now (b .entry)) (now (c .entry))) (now (curve .entry)) (length (now (output .entry))) (length (now (work .entry)))) (adjoint (family m (now (a .entry)) (now (b .entry)) (now (c .entry))) (now (curve .entry))) r (now (output .entry)) (now (output .exit)) (now (work .entry)) (now (work .exit)) ⌝ }
 {
     number(conversion::tree_adjoint(m, a, b, c, curve, output, work))
+}
+
+// Decompose by the tree way, in the working list. Refused as conversion::tree_decompose is.
+#[no_mangle]
+pub extern "C" fn zahupnik_tree_decompose(
+    m: u32,
+    a: &[u32],
+    b: &[u32],
+    c: &[u32],
+    coefficients: &[u32],
+    output: &mut [u32],
+    work: &mut [u32],
+) -> u32
+    ensures { λ r. ⌜ ReturnedIn (treeTests (family m (now (a .entry)) (now (b .entry)) (now (c .entry))) (now (coefficients .entry)) (length (now (output .entry))) (length (now (work .entry)))) (decompose (family m (now (a .entry)) (now (b .entry)) (now (c .entry))) (now (coefficients .entry))) r (now (output .entry)) (now (output .exit)) (now (work .entry)) (now (work .exit)) ⌝ }
+{
+    number(conversion::tree_decompose(m, a, b, c, coefficients, output, work))
+}
+
+// Moments, in the working list. Refused as conversion::moments is.
+#[no_mangle]
+pub extern "C" fn zahupnik_moments(
+    m: u32,
+    a: &[u32],
+    b: &[u32],
+    c: &[u32],
+    output: &mut [u32],
+    work: &mut [u32],
+) -> u32
+    ensures { λ r. ⌜ ReturnedIn (momentsTests (family m (now (a .entry)) (now (b .entry)) (now (c .entry))) (length (now (output .entry))) (length (now (work .entry)))) (moments (family m (now (a .entry)) (now (b .entry)) (now (c .entry)))) r (now (output .entry)) (now (output .exit)) (now (work .entry)) (now (work .exit)) ⌝ }
+{
+    number(conversion::moments(m, a, b, c, output, work))
 }
