@@ -298,6 +298,44 @@ fn by_the_tree() {
     );
 }
 
+fn tree_decompose(
+    label: &[u8],
+    m: u32,
+    a: &[u32],
+    b: &[u32],
+    c: &[u32],
+    coefficients: &[u32],
+    output: &mut [u32],
+) {
+    let mut work = nines();
+    let answer = conversion::tree_decompose(m, a, b, c, coefficients, output, &mut work);
+    show(label, answer, output);
+    working(work[0], work[16383], work[16384]);
+}
+
+fn moments(label: &[u8], m: u32, a: &[u32], b: &[u32], c: &[u32], output: &mut [u32]) {
+    let mut work = nines();
+    let answer = conversion::moments(m, a, b, c, output, &mut work);
+    show(label, answer, output);
+    working(work[0], work[16383], work[16384]);
+}
+
+fn by_the_moments() {
+    tree_decompose(
+        b"P3 by the tree",
+        7,
+        &[1, 2],
+        &[0, 3],
+        &[1, 5],
+        &[1, 3, 2],
+        &mut [4; 3],
+    );
+    moments(b"P4", 7, &[1, 2], &[0, 3], &[1, 5], &mut [4; 5]);
+    moments(b"moments of P11", 7, &[], &[], &[], &mut [4; 1]);
+    moments(b"moments of P12", 15, &[2], &[1], &[4], &mut [4; 3]);
+    moments(b"moments of P10", 15, &[3], &[0], &[5], &mut [4; 3]);
+}
+
 fn short() -> [u32; 16383] {
     [9; 16383]
 }
@@ -328,5 +366,6 @@ fn main() {
     on_too_many_rows();
     on_row_factors();
     by_the_tree();
+    by_the_moments();
     in_a_short_list();
 }
