@@ -1,39 +1,44 @@
 -- The tests of the calls, in the groups in which the code makes them.
---   shapeTests f      3, 4, 5: the modulus, the lengths of the lists, the number of rows
---   lengthTests       6, 7: the lengths of the curve and of the output, which must be n
---   rowTests f        9, 10, 11: the entries of the rows and their inverses
+--   shapeTests m a b c   3, 4, 5: the modulus, the lengths of the three lists, the number of rows;  shapeOf f  those of a family
+--   lengthTests          6, 7: the lengths of the curve and of the output, which must be n
+--   rowTests f           9, 10, 11: the entries of the rows and their inverses
 -- Proved: each call's list of tests is these groups one after the other. Assumes nothing.
 use mathlib.Core.Path.{_≡_, refl}
+use mathlib.Core.Bool.{_||_}
 use mathlib.Core.List.{List, [], _∷_, _++_}
 use Prim.Native.Nat.{ℕ}
+use lib.Dec.{ltb}
 use lib.ListN.{length}
-use Rattle.definitions.specs.Family.{Family, size}
+use Rattle.definitions.specs.Family.{Family, mostRows, size}
 use Rattle.definitions.specs.Orthogonality.{momentCount}
-use Rattle.definitions.specs.Refusals.{Test, differ, modulusTest, lengthsTest, rowCountTest, curveLengthTest, outputTest, workTest, entriesTest, aInverseTest, cInverseTest, curveEntriesTest, plainTests, treeTests, momentsTests, normsTests}
+use Rattle.definitions.specs.Refusals.{Test, test, differ, modulusTest, lengthsTest, rowCountTest, curveLengthTest, outputTest, workTest, entriesTest, aInverseTest, cInverseTest, curveEntriesTest, plainTests, treeTests, momentsTests, normsTests}
 
-unfoldable pub shapeTests : Family → List Test
-shapeTests f = modulusTest (f .m) ∷ lengthsTest f ∷ rowCountTest f ∷ []
+unfoldable pub shapeTests : ℕ → ℕ → ℕ → ℕ → List Test
+shapeTests m a b c = modulusTest m ∷ test 4 (differ b a || differ c a) ∷ test 5 (ltb mostRows a) ∷ []
+
+abbrev pub shapeOf : Family → List Test
+shapeOf f = shapeTests (f .m) (length (f .a)) (length (f .b)) (length (f .c))
 
 unfoldable pub rowTests : Family → List Test
 rowTests f = entriesTest f ∷ aInverseTest f ∷ cInverseTest f ∷ []
 
 unfoldable pub lengthTests : ℕ → ℕ → ℕ → List Test
-lengthTests n curve output = record { number = 6; holds = differ curve n } ∷ outputTest n output ∷ []
+lengthTests n curve output = test 6 (differ curve n) ∷ outputTest n output ∷ []
 
-pub plain-groups : (f : Family) (u : List ℕ) (output : ℕ) → plainTests f u output ≡ shapeTests f ++ (lengthTests (size f) (length u) output ++ (rowTests f ++ curveEntriesTest f u ∷ []))
-unfolding plainTests shapeTests lengthTests rowTests curveLengthTest
+pub plain-groups : (f : Family) (u : List ℕ) (output : ℕ) → plainTests f u output ≡ shapeOf f ++ (lengthTests (size f) (length u) output ++ (rowTests f ++ curveEntriesTest f u ∷ []))
+unfolding plainTests lengthsTest rowCountTest shapeTests lengthTests rowTests curveLengthTest
 plain-groups f u output = refl
 
 pub tree-groups : (f : Family) (u : List ℕ) (output work : ℕ)
-    → treeTests f u output work ≡ shapeTests f ++ (lengthTests (size f) (length u) output ++ ((workTest work ∷ []) ++ (rowTests f ++ curveEntriesTest f u ∷ [])))
-unfolding treeTests shapeTests lengthTests rowTests curveLengthTest
+    → treeTests f u output work ≡ shapeOf f ++ (lengthTests (size f) (length u) output ++ ((workTest work ∷ []) ++ (rowTests f ++ curveEntriesTest f u ∷ [])))
+unfolding treeTests lengthsTest rowCountTest shapeTests lengthTests rowTests curveLengthTest
 tree-groups f u output work = refl
 
 pub moments-groups : (f : Family) (output work : ℕ)
-    → momentsTests f output work ≡ shapeTests f ++ ((outputTest (momentCount f) output ∷ []) ++ ((workTest work ∷ []) ++ rowTests f))
-unfolding momentsTests shapeTests rowTests
+    → momentsTests f output work ≡ shapeOf f ++ ((outputTest (momentCount f) output ∷ []) ++ ((workTest work ∷ []) ++ rowTests f))
+unfolding momentsTests lengthsTest rowCountTest shapeTests rowTests
 moments-groups f output work = refl
 
-pub norms-groups : (f : Family) (output : ℕ) → normsTests f output ≡ shapeTests f ++ ((outputTest (size f) output ∷ []) ++ rowTests f)
-unfolding normsTests shapeTests rowTests
+pub norms-groups : (f : Family) (output : ℕ) → normsTests f output ≡ shapeOf f ++ ((outputTest (size f) output ∷ []) ++ rowTests f)
+unfolding normsTests lengthsTest rowCountTest shapeTests rowTests
 norms-groups f output = refl

@@ -1,16 +1,15 @@
 -- The verdict of the tests on shape and lengths, at each place where a check answers.
 -- Proved: what the comparisons on the way to an answer say is the verdict of the tests. Assumes nothing.
 use mathlib.Core.Path.{_≡_, refl, sym, _∙_}
-use mathlib.Core.Bool.{true, false}
+use mathlib.Core.Bool.{true, false, _||_}
 use mathlib.Core.List.{List, [], _∷_}
 use Prim.Native.Nat.{ℕ, _<_, _≤_}
 use lib.Dec.{ltb, eqb}
-use lib.ListN.{length}
 use borrow.Author.Tests.{lt-ltb, le-ltb, eq-eqb, ne-eqb}
 use Rattle.definitions.specs.Answers.{answered}
 use Rattle.definitions.specs.declared.Answer.{Answer}
-use Rattle.definitions.specs.Family.{Family, family, greatestModulus, mostRows}
-use Rattle.definitions.specs.Refusals.{Verdict, finished, refused, verdict, differ, workLength, modulusTest, lengthsTest, rowCountTest, outputTest, workTest}
+use Rattle.definitions.specs.Family.{greatestModulus, mostRows}
+use Rattle.definitions.specs.Refusals.{Test, Verdict, test, finished, refused, verdict, differ, workLength, modulusTest, outputTest, workTest}
 use Rattle.theory.specs.Verdicts.{verdict-here, verdict-next}
 use Rattle.checks.specs.Calls.{check-refuses, check-passes}
 use Rattle.checks.specs.Either.{or-right, or-false}
@@ -39,42 +38,42 @@ module _ (m : ℕ) where
   modulus-fits low high = sym (verdict-next (modulusTest m) [] [] (or-false (ltb m 2) (ltb greatestModulus m) (le-ltb m 2 low) (le-ltb greatestModulus m high)))
 
 -- ---- 3, 4, 5, of which the first is a check of its own
-module _ (m : ℕ) (a b c : List ℕ) (range : Answer) (e : answered range ≡ verdict (modulusTest m ∷ []) []) where
-  abbrev f : Family
-  f = family m a b c
-
+module _ (m a b c : ℕ) (range : Answer) (e : answered range ≡ verdict (modulusTest m ∷ []) []) where
   abbrev shape : Verdict
-  shape = verdict (shapeTests f) []
+  shape = verdict (shapeTests m a b c) []
+
+  abbrev countsTest : Test
+  countsTest = test 4 (differ b a || differ c a)
+
+  abbrev rowsTest : Test
+  rowsTest = test 5 (ltb mostRows a)
 
   pub range-refuses : (k : ℕ) → range ≡ Answer.Refused k → answered range ≡ shape
   unfolding shapeTests
-  range-refuses k q = check-refuses range (modulusTest m ∷ []) e k (lengthsTest f ∷ rowCountTest f ∷ []) q
+  range-refuses k q = check-refuses range (modulusTest m ∷ []) e k (countsTest ∷ rowsTest ∷ []) q
 
   module _ (q : range ≡ Answer.Finished) where
-    past-modulus : shape ≡ verdict (lengthsTest f ∷ rowCountTest f ∷ []) []
+    past-modulus : shape ≡ verdict (countsTest ∷ rowsTest ∷ []) []
     unfolding shapeTests
-    past-modulus = sym (check-passes range (modulusTest m ∷ []) e (lengthsTest f ∷ rowCountTest f ∷ []) q)
+    past-modulus = sym (check-passes range (modulusTest m ∷ []) e (countsTest ∷ rowsTest ∷ []) q)
 
-    pub b-uneven : (length b ≡ length a → ⊥) → refused 4 ≡ shape
-    unfolding lengthsTest
-    b-uneven n = sym (past-modulus ∙ verdict-here (lengthsTest f) (rowCountTest f ∷ []) [] (rw (differ-other (length b) (length a) n)))
+    pub b-uneven : (b ≡ a → ⊥) → refused 4 ≡ shape
+    b-uneven n = sym (past-modulus ∙ verdict-here countsTest (rowsTest ∷ []) [] (rw (differ-other b a n)))
 
-    pub c-uneven : (length c ≡ length a → ⊥) → refused 4 ≡ shape
-    unfolding lengthsTest
-    c-uneven n = sym (past-modulus ∙ verdict-here (lengthsTest f) (rowCountTest f ∷ []) [] (or-right (differ (length b) (length a)) (differ (length c) (length a)) (differ-other (length c) (length a) n)))
+    pub c-uneven : (c ≡ a → ⊥) → refused 4 ≡ shape
+    c-uneven n = sym (past-modulus ∙ verdict-here countsTest (rowsTest ∷ []) [] (or-right (differ b a) (differ c a) (differ-other c a n)))
 
-    module _ (bLength : length b ≡ length a) (cLength : length c ≡ length a) where
-      past-lengths : shape ≡ verdict (rowCountTest f ∷ []) []
-      unfolding lengthsTest
-      past-lengths = past-modulus ∙ verdict-next (lengthsTest f) (rowCountTest f ∷ []) [] (or-false (differ (length b) (length a)) (differ (length c) (length a)) (differ-same (length b) (length a) bLength) (differ-same (length c) (length a) cLength))
+    module _ (bCount : b ≡ a) (cCount : c ≡ a) where
+      past-counts : shape ≡ verdict (rowsTest ∷ []) []
+      past-counts =
+          past-modulus ∙ verdict-next countsTest (rowsTest ∷ []) [] (or-false (differ b a) (differ c a) (differ-same b a bCount) (differ-same c a cCount))
 
-      pub rows-many : mostRows < length a → refused 5 ≡ shape
-      unfolding rowCountTest
-      rows-many h = sym (past-lengths ∙ verdict-here (rowCountTest f) [] [] (lt-ltb mostRows (length a) h))
+      pub rows-many : mostRows < a → refused 5 ≡ shape
+      rows-many h = sym (past-counts ∙ verdict-here rowsTest [] [] (lt-ltb mostRows a h))
 
-      pub shape-passes : length a ≤ mostRows → finished [] ≡ shape
-      unfolding rowCountTest verdict
-      shape-passes h = sym (past-lengths ∙ verdict-next (rowCountTest f) [] [] (le-ltb mostRows (length a) h))
+      pub shape-passes : a ≤ mostRows → finished [] ≡ shape
+      unfolding verdict
+      shape-passes h = sym (past-counts ∙ verdict-next rowsTest [] [] (le-ltb mostRows a h))
 
 -- ---- 7, 6 and 8
 module _ (wanted output : ℕ) where
@@ -88,11 +87,11 @@ module _ (wanted output : ℕ) where
 
   pub curve-other : (curve : ℕ) → (curve ≡ wanted → ⊥) → refused 6 ≡ verdict (lengthTests wanted curve output) []
   unfolding lengthTests
-  curve-other curve n = sym (verdict-here (record { number = 6; holds = differ curve wanted }) (outputTest wanted output ∷ []) [] (differ-other curve wanted n))
+  curve-other curve n = sym (verdict-here (test 6 (differ curve wanted)) (outputTest wanted output ∷ []) [] (differ-other curve wanted n))
 
   pub curve-passes : (curve : ℕ) → curve ≡ wanted → verdict (lengthTests wanted curve output) [] ≡ verdict (outputTest wanted output ∷ []) []
   unfolding lengthTests
-  curve-passes curve e = verdict-next (record { number = 6; holds = differ curve wanted }) (outputTest wanted output ∷ []) [] (differ-same curve wanted e)
+  curve-passes curve e = verdict-next (test 6 (differ curve wanted)) (outputTest wanted output ∷ []) [] (differ-same curve wanted e)
 
 pub work-short : (work : ℕ) → work < workLength → refused 8 ≡ verdict (workTest work ∷ []) []
 unfolding workTest

@@ -77,20 +77,20 @@ pub fn modulus(m: u32) -> Answer
 }
 
 // 3, 4 and 5: the modulus, the lengths of the rows' lists, the number of rows.
-pub fn family_shape(m: u32, a: &[u32], b: &[u32], c: &[u32]) -> Answer
-    ensures { λ r. ⌜ answered r ≡ verdict (shapeTests (family m (now (a .entry)) (now (b .entry)) (now (c .entry)))) [] ⌝ }
+pub fn family_shape(m: u32, a: usize, b: usize, c: usize) -> Answer
+    ensures { λ r. ⌜ answered r ≡ verdict (shapeTests m a b c) [] ⌝ }
 {
     let range = modulus(m);
     let Answer::Finished = range else {
         return range;
     };
-    if b.len() != a.len() {
+    if b != a {
         return Answer::Refused(4);
     }
-    if c.len() != a.len() {
+    if c != a {
         return Answer::Refused(4);
     }
-    if 127 < a.len() {
+    if 127 < a {
         return Answer::Refused(5);
     }
     Answer::Finished

@@ -12,11 +12,11 @@ use Rattle.definitions.specs.Refusals.{Test, Verdict, finished, refused, verdic
 use Rattle.definitions.specs.declared.Answer.{Answer}
 use Rattle.theory.specs.Verdicts.{verdict-here, verdict-next}
 use Rattle.checks.specs.Calls.{check-refuses, check-passes}
-use Rattle.checks.specs.Groups.{shapeTests, lengthTests, rowTests}
+use Rattle.checks.specs.Groups.{shapeOf, lengthTests, rowTests}
 
 -- the tests of a call, and those of them that stand between the lengths and the rows
 pub record Grouped (f : Family) (u : List ℕ) (output : ℕ) (tests between : List Test) : Type 0 where
-  pub groups : tests ≡ shapeTests f ++ (lengthTests (size f) (length u) output ++ (between ++ (rowTests f ++ curveEntriesTest f u ∷ [])))
+  pub groups : tests ≡ shapeOf f ++ (lengthTests (size f) (length u) output ++ (between ++ (rowTests f ++ curveEntriesTest f u ∷ [])))
 
 module _ (m : ℕ) (a b c u : List ℕ) (output : ℕ) (tests between : List Test) (grouped : Grouped (family m a b c) u output tests between) where
   abbrev f : Family
@@ -38,16 +38,16 @@ module _ (m : ℕ) (a b c u : List ℕ) (output : ℕ) (tests between : List Tes
   abbrev fromLengths : List Test
   fromLengths = lengthTests (size f) (length u) output ++ fromBetween
 
-  reached-shape : verdict (shapeTests f ++ fromLengths) [] ≡ whole
+  reached-shape : verdict (shapeOf f ++ fromLengths) [] ≡ whole
   reached-shape = ap (λ ts. verdict ts []) (sym (grouped .groups))
 
-  module _ (shape : Answer) (shapeIs : answered shape ≡ verdict (shapeTests f) []) where
+  module _ (shape : Answer) (shapeIs : answered shape ≡ verdict (shapeOf f) []) where
     pub shape-refuses : (k : ℕ) → shape ≡ Answer.Refused k → answered shape ≡ whole
-    shape-refuses k q = check-refuses shape (shapeTests f) shapeIs k fromLengths q ∙ reached-shape
+    shape-refuses k q = check-refuses shape (shapeOf f) shapeIs k fromLengths q ∙ reached-shape
 
     module _ (shapePasses : shape ≡ Answer.Finished) (lengths : Answer) (lengthsAre : answered lengths ≡ verdict (lengthTests (size f) (length u) output) []) where
       reached-lengths : verdict fromLengths [] ≡ whole
-      reached-lengths = check-passes shape (shapeTests f) shapeIs fromLengths shapePasses ∙ reached-shape
+      reached-lengths = check-passes shape (shapeOf f) shapeIs fromLengths shapePasses ∙ reached-shape
 
       pub lengths-refuse : (k : ℕ) → lengths ≡ Answer.Refused k → answered lengths ≡ whole
       lengths-refuse k q = check-refuses lengths (lengthTests (size f) (length u) output) lengthsAre k fromBetween q ∙ reached-lengths

@@ -8,11 +8,11 @@ use Rattle.definitions.specs.Family.{Family}
 use Rattle.definitions.specs.Refusals.{Test, Verdict, verdict, outputTest}
 use Rattle.definitions.specs.declared.Answer.{Answer}
 use Rattle.checks.specs.Calls.{check-refuses, check-passes}
-use Rattle.checks.specs.Groups.{shapeTests, rowTests}
+use Rattle.checks.specs.Groups.{shapeOf, rowTests}
 
 -- the tests of a call, and those of them that stand between the output and the rows
 pub record Grouped (f : Family) (wanted output : ℕ) (tests between : List Test) : Type 0 where
-  pub groups : tests ≡ shapeTests f ++ ((outputTest wanted output ∷ []) ++ (between ++ rowTests f))
+  pub groups : tests ≡ shapeOf f ++ ((outputTest wanted output ∷ []) ++ (between ++ rowTests f))
 
 module _ (f : Family) (wanted output : ℕ) (tests between : List Test) (grouped : Grouped f wanted output tests between) where
   abbrev whole : Verdict
@@ -25,16 +25,16 @@ module _ (f : Family) (wanted output : ℕ) (tests between : List Test) (grouped
   abbrev fromOutput : List Test
   fromOutput = (outputTest wanted output ∷ []) ++ fromBetween
 
-  reached-shape : verdict (shapeTests f ++ fromOutput) [] ≡ whole
+  reached-shape : verdict (shapeOf f ++ fromOutput) [] ≡ whole
   reached-shape = ap (λ ts. verdict ts []) (sym (grouped .groups))
 
-  module _ (shape : Answer) (shapeIs : answered shape ≡ verdict (shapeTests f) []) where
+  module _ (shape : Answer) (shapeIs : answered shape ≡ verdict (shapeOf f) []) where
     pub shape-refuses : (k : ℕ) → shape ≡ Answer.Refused k → answered shape ≡ whole
-    shape-refuses k q = check-refuses shape (shapeTests f) shapeIs k fromOutput q ∙ reached-shape
+    shape-refuses k q = check-refuses shape (shapeOf f) shapeIs k fromOutput q ∙ reached-shape
 
     module _ (shapePasses : shape ≡ Answer.Finished) (length : Answer) (lengthIs : answered length ≡ verdict (outputTest wanted output ∷ []) []) where
       reached-output : verdict fromOutput [] ≡ whole
-      reached-output = check-passes shape (shapeTests f) shapeIs fromOutput shapePasses ∙ reached-shape
+      reached-output = check-passes shape (shapeOf f) shapeIs fromOutput shapePasses ∙ reached-shape
 
       pub output-refuses : (k : ℕ) → length ≡ Answer.Refused k → answered length ≡ whole
       output-refuses k q = check-refuses length (outputTest wanted output ∷ []) lengthIs k fromBetween q ∙ reached-output

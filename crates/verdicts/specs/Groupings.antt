@@ -4,7 +4,7 @@ use mathlib.Core.List.{List, [], _∷_}
 use Prim.Native.Nat.{ℕ, suc, _+_, _*_, _-_, _<_, _≤_}
 use native.Mathlib.Omega.{arith}
 use Rattle.definitions.specs.Answers.{answered}
-use Rattle.definitions.specs.Family.{Family, family, size}
+use Rattle.definitions.specs.Family.{Family, size}
 use Rattle.definitions.specs.Orthogonality.{momentCount}
 use Rattle.definitions.specs.Refusals.{verdict, workTest, plainTests, treeTests, momentsTests, normsTests}
 use Rattle.definitions.specs.declared.Answer.{Answer}
@@ -36,6 +36,6 @@ pub moments-of-rows : (r : ℕ) → 2 * r + 1 ≡ 2 * suc r - 1
 moments-of-rows r = omega arith
 
 -- once the shape passes, the modulus is no zero
-pub shape-positive : (m : ℕ) (a b c : List ℕ) (r : Answer) → answered r ≡ verdict (shapeTests (family m a b c)) [] → r ≡ Answer.Finished → 0 < m
+pub shape-positive : (m a b c : ℕ) (r : Answer) → answered r ≡ verdict (shapeTests m a b c) [] → r ≡ Answer.Finished → 0 < m
 unfolding shapeTests
-shape-positive m a b c r e q = let two : 2 ≤ m = modulus-passes m .0 (check-none r (shapeTests (family m a b c)) e q .0) .least in omega arith
+shape-positive m a b c r e q = let two : 2 ≤ m = modulus-passes m .0 (check-none r (shapeTests m a b c) e q .0) .least in omega arith

@@ -11,7 +11,7 @@ use definitions::Answer;
 pub fn plain(m: u32, a: &[u32], b: &[u32], c: &[u32], curve: &[u32], output: usize) -> Answer
     ensures { λ r. ⌜ answered r ≡ verdict (plainTests (family m (now (a .entry)) (now (b .entry)) (now (c .entry))) (now (curve .entry)) output) [] ⌝ }
 {
-    let shape = checks::family_shape(m, a, b, c);
+    let shape = checks::family_shape(m, a.len(), b.len(), c.len());
     let Answer::Finished = shape else {
         return shape;
     };
@@ -41,7 +41,7 @@ pub fn tree(
 ) -> Answer
     ensures { λ r. ⌜ answered r ≡ verdict (treeTests (family m (now (a .entry)) (now (b .entry)) (now (c .entry))) (now (curve .entry)) output work) [] ⌝ }
 {
-    let shape = checks::family_shape(m, a, b, c);
+    let shape = checks::family_shape(m, a.len(), b.len(), c.len());
     let Answer::Finished = shape else {
         return shape;
     };
@@ -67,7 +67,7 @@ pub fn tree(
 pub fn norms(m: u32, a: &[u32], b: &[u32], c: &[u32], output: usize) -> Answer
     ensures { λ r. ⌜ answered r ≡ verdict (normsTests (family m (now (a .entry)) (now (b .entry)) (now (c .entry))) output) [] ⌝ }
 {
-    let shape = checks::family_shape(m, a, b, c);
+    let shape = checks::family_shape(m, a.len(), b.len(), c.len());
     let Answer::Finished = shape else {
         return shape;
     };
@@ -82,7 +82,7 @@ pub fn norms(m: u32, a: &[u32], b: &[u32], c: &[u32], output: usize) -> Answer
 pub fn moments(m: u32, a: &[u32], b: &[u32], c: &[u32], output: usize, work: usize) -> Answer
     ensures { λ r. ⌜ answered r ≡ verdict (momentsTests (family m (now (a .entry)) (now (b .entry)) (now (c .entry))) output work) [] ⌝ }
 {
-    let shape = checks::family_shape(m, a, b, c);
+    let shape = checks::family_shape(m, a.len(), b.len(), c.len());
     let Answer::Finished = shape else {
         return shape;
     };
