@@ -5,12 +5,12 @@ use mathlib.Core.Bool.{true, false, _||_}
 use mathlib.Core.List.{List, [], _∷_}
 use Prim.Native.Nat.{ℕ, _<_, _≤_}
 use lib.Dec.{ltb, eqb}
-use borrow.Author.Tests.{lt-ltb, le-ltb, eq-eqb, ne-eqb}
+use borrow.Author.Tests.{lt-ltb, le-ltb, ltb-false, eq-eqb, ne-eqb}
 use Rattle.definitions.specs.Answers.{answered}
 use Rattle.definitions.specs.declared.Answer.{Answer}
 use Rattle.definitions.specs.Family.{greatestModulus, mostRows}
 use Rattle.definitions.specs.Refusals.{Test, Verdict, test, finished, refused, verdict, differ, workLength, modulusTest, outputTest, workTest}
-use Rattle.theory.specs.Verdicts.{verdict-here, verdict-next}
+use Rattle.theory.specs.Verdicts.{None, verdict-here, verdict-next}
 use Rattle.checks.specs.Calls.{check-refuses, check-passes}
 use Rattle.checks.specs.Either.{or-right, or-false}
 use Rattle.checks.specs.Groups.{shapeTests, lengthTests}
@@ -19,7 +19,7 @@ differ-same : (x y : ℕ) → x ≡ y → differ x y ≡ false
 unfolding differ
 differ-same x y e = rw (eq-eqb x y e)
 
-differ-other : (x y : ℕ) → (x ≡ y → ⊥) → differ x y ≡ true
+pub differ-other : (x y : ℕ) → (x ≡ y → ⊥) → differ x y ≡ true
 unfolding differ
 differ-other x y n = rw (ne-eqb x y n)
 
@@ -100,3 +100,8 @@ work-short work h = sym (verdict-here (workTest work) [] [] (lt-ltb work workLen
 pub work-passes : (work : ℕ) → workLength ≤ work → finished [] ≡ verdict (workTest work ∷ []) []
 unfolding workTest verdict
 work-passes work h = sym (verdict-next (workTest work) [] [] (le-ltb work workLength h))
+
+-- what passing says of the rows
+pub shape-rows : (m a b c : ℕ) → None (shapeTests m a b c) → a ≤ mostRows
+unfolding shapeTests
+shape-rows m a b c n = ltb-false mostRows a (n .1 .1 .0)

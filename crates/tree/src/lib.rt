@@ -91,7 +91,7 @@ fn copy_out(w: &[u32], at: usize, n: usize, output: &mut [u32])
 }
 
 // Leaves zeros in the first 16,384 numbers.
-fn clear(work: &mut [u32])
+pub fn clear(work: &mut [u32])
     requires { ⌜ 16384 ≤ length (now work) ⌝ }
     ensures { λ _. ⌜ now (work .exit) ≡ cleared (now (work .entry)) ⌝ }
 {

@@ -1,0 +1,106 @@
+-- An operation on lists whose sizes are in order.
+--   Sized    the tests 3 to 8 pass: the modulus, the rows, the curve and the working list; and the output is as long as the result
+--   Parts    the same for the fronts of longer lists
+-- Proved: Sized from the passed tests on sizes; each call of the tree way, and Norms with the working list cleared, as the
+-- operation's promise with the tests that are left. Assumes nothing.
+use mathlib.Core.Path.{_≡_, refl, sym, _∙_, ap}
+use mathlib.Core.Bool.{Bool, true, false}
+use mathlib.Core.List.{List, [], _∷_, _++_}
+use Prim.Native.Nat.{ℕ, suc, _≤_}
+use native.Mathlib.Omega.{arith}
+use lib.ListN.{length, take, drop}
+use Rattle.definitions.specs.Answers.{answered, after, cleared, Converted, ConvertedIn}
+use Rattle.definitions.specs.Family.{Family, family, rows, size}
+use Rattle.definitions.specs.Orthogonality.{momentCount, norms}
+use Rattle.definitions.specs.Refusals.{Test, verdict, some, workLength, workTest, outputTest, curveEntriesTest, treeTests, momentsTests, normsTests}
+use Rattle.definitions.specs.TextCall.{converted}
+use Rattle.definitions.specs.declared.Answer.{Answer}
+use Rattle.definitions.specs.declared.Operation.{Operation}
+use Rattle.theory.specs.Verdicts.{None, verdict-here, verdict-next, verdict-goes-on, none-append, differ-false, output-passes, work-passes}
+use Rattle.checks.specs.Groups.{shapeOf, lengthTests, rowTests, tree-groups, moments-groups, norms-groups}
+use Rattle.operations.specs.Tests.{curveCount, resultCount, sizeTests, valueTests, sizesOf, lentTests}
+
+pub record Sized (operation : Operation) (f : Family) (u : List ℕ) (output work : ℕ) : Type 0 where
+  pub shape : None (shapeOf f)
+  pub curve : length u ≡ curveCount operation (rows f)
+  pub result : output ≡ resultCount operation (rows f)
+  pub room : workLength ≤ work
+
+pub record Parts (operation : Operation) (m : ℕ) (a b c : List ℕ) (r : ℕ) (u : List ℕ) (entries : ℕ) (output : List ℕ) (count work : ℕ) : Type 0 where
+  pub aFront : r ≤ length a
+  pub bFront : r ≤ length b
+  pub cFront : r ≤ length c
+  pub curveFront : entries ≤ length u
+  pub outputFront : count ≤ length output
+  pub sized : Sized operation (family m (take r a) (take r b) (take r c)) (take entries u) count work
+
+pub sized-by-tests : (operation : Operation) (f : Family) (u : List ℕ) (text work count : ℕ) → None (sizesOf operation f u text work)
+    → count ≡ resultCount operation (rows f) → Sized operation f u count work
+unfolding sizeTests
+sized-by-tests operation f u text work count n e =
+    let parts = none-append (shapeOf f) (lentTests operation (rows f) (length u) text work) .0 n in
+    record {
+      shape = parts .0;
+      curve = differ-false (length u) (curveCount operation (rows f)) .0 (parts .1 .0);
+      result = e;
+      room = work-passes work .0 (parts .1 .1 .1 .0);
+    }
+
+-- a test at the end that does not hold
+spare-test : (ts : List Test) (t : Test) (values : List ℕ) → t .holds ≡ false → verdict (ts ++ t ∷ []) values ≡ verdict ts values
+unfolding verdict
+spare-test [] t values q = verdict-next t [] values q
+spare-test (s ∷ ts) t values q = split (s .holds) refl (spare-test ts t values q)
+  where
+    split : (h : Bool) → s .holds ≡ h → verdict (ts ++ t ∷ []) values ≡ verdict ts values → verdict (s ∷ ts ++ t ∷ []) values ≡ verdict (s ∷ ts) values
+    split true p rest = verdict-here s (ts ++ t ∷ []) values p ∙ sym (verdict-here s ts values p)
+    split false p rest = verdict-next s (ts ++ t ∷ []) values p ∙ rest ∙ sym (verdict-next s ts values p)
+
+-- the promise of a call, with other tests of the same verdict
+retested : (ts us : List Test) (result : List ℕ) (r : Answer) (output output′ work work′ : List ℕ) → verdict ts [] ≡ verdict us []
+    → ConvertedIn ts result r output output′ work work′ → ConvertedIn us result r output output′ work work′
+retested ts us result r output output′ work work′ e p = record { answer = p .answer ∙ e; written = p .written; wiped = p .wiped }
+
+module _ (f : Family) (u : List ℕ) (output work : ℕ) where
+  curve-left : None (shapeOf f) → length u ≡ size f → output ≡ size f → workLength ≤ work → verdict (treeTests f u output work) [] ≡ verdict (valueTests f u) []
+  unfolding lengthTests valueTests
+  curve-left shape curve result room =
+      ap (λ ts. verdict ts []) (tree-groups f u output work)
+      ∙ verdict-goes-on _ [] (shapeOf f) shape
+      ∙ verdict-goes-on _ [] (lengthTests (size f) (length u) output) (differ-false (length u) (size f) .1 curve, (output-passes (size f) output .1 result, tt))
+      ∙ verdict-goes-on _ [] (workTest work ∷ []) (work-passes work .1 room, tt)
+
+  -- no curve, so nothing of it to test
+  no-curve : length u ≡ 0 → verdict (rowTests f) [] ≡ verdict (valueTests f u) []
+  unfolding valueTests curveEntriesTest some
+  no-curve e = none u e
+    where
+      none : (u : List ℕ) → length u ≡ 0 → verdict (rowTests f) [] ≡ verdict (valueTests f u) []
+      none [] z = sym (spare-test (rowTests f) (curveEntriesTest f []) [] refl)
+      none (x ∷ xs) z = absurd (omega arith)
+
+  moments-left : None (shapeOf f) → length u ≡ 0 → output ≡ momentCount f → workLength ≤ work → verdict (momentsTests f output work) [] ≡ verdict (valueTests f u) []
+  moments-left shape curve result room =
+      ap (λ ts. verdict ts []) (moments-groups f output work)
+      ∙ verdict-goes-on _ [] (shapeOf f) shape
+      ∙ verdict-goes-on _ [] (outputTest (momentCount f) output ∷ []) (output-passes (momentCount f) output .1 result, tt)
+      ∙ verdict-goes-on _ [] (workTest work ∷ []) (work-passes work .1 room, tt)
+      ∙ no-curve curve
+
+  norms-left : None (shapeOf f) → length u ≡ 0 → output ≡ size f → verdict (normsTests f output) [] ≡ verdict (valueTests f u) []
+  norms-left shape curve result =
+      ap (λ ts. verdict ts []) (norms-groups f output)
+      ∙ verdict-goes-on _ [] (shapeOf f) shape
+      ∙ verdict-goes-on _ [] (outputTest (size f) output ∷ []) (output-passes (size f) output .1 result, tt)
+      ∙ no-curve curve
+
+-- ---- each operation
+module _ (operation : Operation) (f : Family) (u output work : List ℕ) (sized : Sized operation f u (length output) (length work))
+    (r : Answer) (output′ work′ : List ℕ) where
+  abbrev Promise : Type 0
+  Promise = ConvertedIn (valueTests f u) (converted operation f u) r output output′ work work′
+
+  module _ (result : List ℕ) (done : ConvertedIn (treeTests f u (length output) (length work)) result r output output′ work work′) where
+    pub curve-converted : curveCount operation (rows f) ≡ size f → resultCount operation (rows f) ≡ size f → converted operation f u ≡ result → Promise
+    curve-converted takes hands e =
+        rw e (retested _ _ result r output output′ work work′ (curve-left f u (length output) (length work) (sized .shape) (sized .curve ∙ takes) (sized .result ∙ hands) (sized .room)) done)

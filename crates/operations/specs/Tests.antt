@@ -1,0 +1,93 @@
+-- The tests of a job from 3 on, in the two parts in which the code makes them.
+--   curveCount, resultCount   how many numbers an operation takes, and hands out, on a family of r rows
+--   sizeTests                 3 to 8: the modulus and the lengths, before a list is loaded
+--   valueTests f u            9 to 12: the entries
+-- Proved: a job's tests are these two parts (job-tests); what `sizes` answers at each place where it does. Assumes nothing.
+use mathlib.Core.Path.{_≡_, refl, sym, _∙_, ap}
+use mathlib.Core.List.{List, [], _∷_, _++_}
+use Prim.Native.Nat.{ℕ, suc, _*_, _-_, _<_, _≤_}
+use lib.ListN.{length}
+use borrow.Author.Tests.{lt-ltb, le-ltb}
+use Rattle.definitions.specs.Answers.{answered}
+use Rattle.definitions.specs.Family.{Family, mostRows}
+use Rattle.definitions.specs.Refusals.{Test, Verdict, test, refused, verdict, differ, lengthsTest, rowCountTest, curveLengthTest, workTest, curveEntriesTest}
+use Rattle.definitions.specs.Text.{Job}
+use Rattle.definitions.specs.TextCall.{textOutputLength, emptyCurveTest, curveTest, textOutputTest, jobTests}
+use Rattle.definitions.specs.declared.Answer.{Answer}
+use Rattle.definitions.specs.declared.Operation.{Operation}
+use Rattle.theory.specs.Verdicts.{verdict-here, verdict-next, differ-false}
+use Rattle.checks.specs.Calls.{check-none, check-refuses, check-passes}
+use Rattle.checks.specs.Groups.{shapeTests, shapeOf, rowTests}
+use Rattle.checks.specs.Shape.{differ-other, shape-rows}
+
+unfoldable pub curveCount : Operation → ℕ → ℕ
+curveCount Operation.Expand r = suc r
+curveCount Operation.Adjoint r = suc r
+curveCount Operation.Decompose r = suc r
+curveCount Operation.Moments r = 0
+curveCount Operation.Norms r = 0
+
+unfoldable pub resultCount : Operation → ℕ → ℕ
+resultCount Operation.Expand r = suc r
+resultCount Operation.Adjoint r = suc r
+resultCount Operation.Decompose r = suc r
+resultCount Operation.Moments r = 2 * suc r - 1
+resultCount Operation.Norms r = suc r
+
+abbrev pub lentTests : Operation → ℕ → ℕ → ℕ → ℕ → List Test
+lentTests operation r u output work = test 6 (differ u (curveCount operation r)) ∷ textOutputTest output ∷ workTest work ∷ []
+
+-- a, b, c and u: how many numbers each list has
+unfoldable pub sizeTests : ℕ → Operation → ℕ → ℕ → ℕ → ℕ → ℕ → ℕ → List Test
+sizeTests m operation a b c u output work = shapeTests m a b c ++ lentTests operation a u output work
+
+unfoldable pub valueTests : Family → List ℕ → List Test
+valueTests f u = rowTests f ++ curveEntriesTest f u ∷ []
+
+abbrev pub sizesOf : Operation → Family → List ℕ → ℕ → ℕ → List Test
+sizesOf operation f u output work = sizeTests (f .m) operation (length (f .a)) (length (f .b)) (length (f .c)) (length u) output work
+
+pub job-tests : (f : Family) (operation : Operation) (u : List ℕ) (output work : ℕ)
+    → jobTests (record { family = f; operation = operation; curve = u }) output work ≡ sizesOf operation f u output work ++ valueTests f u
+unfolding jobTests lengthsTest rowCountTest curveLengthTest emptyCurveTest curveTest curveCount sizeTests valueTests shapeTests rowTests
+job-tests f Operation.Expand u output work = refl
+job-tests f Operation.Adjoint u output work = refl
+job-tests f Operation.Decompose u output work = refl
+job-tests f Operation.Moments u output work = refl
+job-tests f Operation.Norms u output work = refl
+
+-- ---- what `sizes` answers
+module _ (m : ℕ) (operation : Operation) (a b c u output work : ℕ) (shape : Answer) (e : answered shape ≡ verdict (shapeTests m a b c) []) where
+  abbrev whole : Verdict
+  whole = verdict (sizeTests m operation a b c u output work) []
+
+  abbrev curveTest′ : Test
+  curveTest′ = test 6 (differ u (curveCount operation a))
+
+  pub shape-refuses : (k : ℕ) → shape ≡ Answer.Refused k → answered shape ≡ whole
+  unfolding sizeTests
+  shape-refuses k q = check-refuses shape (shapeTests m a b c) e k (lentTests operation a u output work) q
+
+  module _ (q : shape ≡ Answer.Finished) where
+    past-shape : whole ≡ verdict (lentTests operation a u output work) []
+    unfolding sizeTests
+    past-shape = sym (check-passes shape (shapeTests m a b c) e (lentTests operation a u output work) q)
+
+    pub few-rows : a ≤ mostRows
+    few-rows = shape-rows m a b c (check-none shape (shapeTests m a b c) e q)
+
+    pub curve-refused : (u ≡ curveCount operation a → ⊥) → refused 6 ≡ whole
+    curve-refused n = sym (past-shape ∙ verdict-here curveTest′ (textOutputTest output ∷ workTest work ∷ []) [] (differ-other u (curveCount operation a) n))
+
+    module _ (s : u ≡ curveCount operation a) where
+      past-curve : whole ≡ verdict (textOutputTest output ∷ workTest work ∷ []) []
+      past-curve = past-shape ∙ verdict-next curveTest′ (textOutputTest output ∷ workTest work ∷ []) [] (differ-false u (curveCount operation a) .1 s)
+
+      pub output-refused : output < textOutputLength → refused 7 ≡ whole
+      unfolding textOutputTest
+      output-refused h = sym (past-curve ∙ verdict-here (textOutputTest output) (workTest work ∷ []) [] (lt-ltb output textOutputLength h))
+
+      pub work-settles : textOutputLength ≤ output → (r : Answer) → answered r ≡ verdict (workTest work ∷ []) [] → answered r ≡ whole
+      unfolding textOutputTest
+      work-settles h r q =
+          q ∙ sym (past-curve ∙ verdict-next (textOutputTest output) (workTest work ∷ []) [] (le-ltb output textOutputLength h))
