@@ -57,6 +57,9 @@ job-tests f Operation.Moments u output work = refl
 job-tests f Operation.Norms u output work = refl
 
 -- ---- what `sizes` answers
+pub few-rows : (m a b c : ℕ) (shape : Answer) → answered shape ≡ verdict (shapeTests m a b c) [] → shape ≡ Answer.Finished → a ≤ mostRows
+few-rows m a b c shape e q = shape-rows m a b c (check-none shape (shapeTests m a b c) e q)
+
 module _ (m : ℕ) (operation : Operation) (a b c u output work : ℕ) (shape : Answer) (e : answered shape ≡ verdict (shapeTests m a b c) []) where
   abbrev whole : Verdict
   whole = verdict (sizeTests m operation a b c u output work) []
@@ -72,9 +75,6 @@ module _ (m : ℕ) (operation : Operation) (a b c u output work : ℕ) (shape : 
     past-shape : whole ≡ verdict (lentTests operation a u output work) []
     unfolding sizeTests
     past-shape = sym (check-passes shape (shapeTests m a b c) e (lentTests operation a u output work) q)
-
-    pub few-rows : a ≤ mostRows
-    few-rows = shape-rows m a b c (check-none shape (shapeTests m a b c) e q)
 
     pub curve-refused : (u ≡ curveCount operation a → ⊥) → refused 6 ≡ whole
     curve-refused n = sym (past-shape ∙ verdict-here curveTest′ (textOutputTest output ∷ workTest work ∷ []) [] (differ-other u (curveCount operation a) n))
