@@ -8,7 +8,7 @@ use mathlib.Core.List.{List, [], _∷_, _++_}
 use Prim.Native.Nat.{ℕ, _-_, _<_, _≤_}
 use native.Mathlib.Nat.{sub-zero}
 use native.Mathlib.Omega.{arith}
-use lib.ListN.{length, take, drop, replicate, length-append, length-replicate}
+use lib.ListN.{length, take, drop, replicate, length-take, length-append, length-replicate}
 use lib.Seq.{take-at}
 use borrow.Author.Tests.{lt-ltb, le-ltb}
 use Rattle.definitions.specs.Answers.{answered, valued, after, cleared, ConvertedIn}
@@ -26,7 +26,7 @@ use Rattle.reader.specs.Lines.{NumbersAt}
 use Rattle.reader.specs.Loading.{Loadable, readList, loaded-front}
 use Rattle.reader.specs.declared.Span.{Span}
 use Rattle.writer.specs.Answer.{Room, AnswerWritten}
-use Rattle.operations.specs.Tests.{curveCount, resultCount, sizeTests, valueTests, sizesOf, job-tests}
+use Rattle.operations.specs.Tests.{resultCount, sizeTests, valueTests, sizesOf, job-tests, Fits, sizes-fit, curve-few, result-few}
 use Rattle.operations.specs.Lists.{Sized, Parts, sized-by-tests}
 
 abbrev pub withLength : ℕ → Answer → Valued
@@ -95,3 +95,84 @@ module _ (t : List ℕ) (modulus : ℕ) (operation : Operation) (a b c curve : S
 
   pub sizes-passed : (r : Answer) → answered r ≡ verdict sizes [] → r ≡ Answer.Finished → Ready t modulus operation a b c curve output work
   sizes-passed r e q = record { short = short; stands = stands; passed = verdict-finished sizes [] .0 (sym e ∙ ap answered q) }
+
+-- ---- the lists that are loaded
+abbrev pub array : List ℕ → ℕ → ℕ → List ℕ
+array t at n = readList (drop at t) ++ drop n (replicate 128 0)
+
+pub loadable : (t : List ℕ) (at n : ℕ) (xs : List ℕ) → NumbersAt t at n xs → n ≤ 128 → Loadable t at n (replicate 128 0)
+loadable t at n xs h l = record { xs = xs; stands = h; room = rw length-replicate l }
+
+front-room : (n : ℕ) (xs : List ℕ) → length (take n xs) ≡ n → n ≤ length xs
+front-room n xs e = omega (arith, sym (length-take n xs) ∙ e)
+
+front-is : (t : List ℕ) (at n r : ℕ) (xs list : List ℕ) → NumbersAt t at n xs → n ≡ r → list ≡ array t at n → take r list ≡ xs
+front-is t at n r xs list h e is = rw (sym e) (loaded-front t at n xs (replicate 128 0) list h is)
+
+module _ (t : List ℕ) (modulus : ℕ) (operation : Operation) (a b c curve : Span) (output work : List ℕ)
+    (ready : Ready t modulus operation a b c curve output work) where
+  abbrev job : WrittenJob
+  job = ready .stands .job
+
+  pub fits : Fits operation (a .count) (b .count) (c .count) (curve .count) (length output) (length work)
+  fits = sizes-fit modulus operation (a .count) (b .count) (c .count) (curve .count) (length output) (length work) (ready .passed)
+
+  pub a-loadable : Loadable t (a .at) (a .count) (replicate 128 0)
+  a-loadable = loadable t (a .at) (a .count) (job .a) (ready .stands .aAt) (omega (arith, fits .few))
+
+  pub b-loadable : Loadable t (b .at) (b .count) (replicate 128 0)
+  b-loadable = loadable t (b .at) (b .count) (job .b) (ready .stands .bAt) (omega (arith, fits .few, fits .bRows))
+
+  pub c-loadable : Loadable t (c .at) (c .count) (replicate 128 0)
+  c-loadable = loadable t (c .at) (c .count) (job .c) (ready .stands .cAt) (omega (arith, fits .few, fits .cRows))
+
+  pub curve-loadable : Loadable t (curve .at) (curve .count) (replicate 128 0)
+  curve-loadable =
+      loadable t (curve .at) (curve .count) (job .curve) (ready .stands .curveAt) (omega (arith, fits .few, fits .curve, curve-few operation (a .count)))
+
+  module _ (xs ys zs us : List ℕ) (xsAre : xs ≡ array t (a .at) (a .count)) (ysAre : ys ≡ array t (b .at) (b .count))
+      (zsAre : zs ≡ array t (c .at) (c .count)) (usAre : us ≡ array t (curve .at) (curve .count)) where
+    abbrev loadedFamily : Family
+    loadedFamily = family modulus (take (a .count) xs) (take (a .count) ys) (take (a .count) zs)
+
+    abbrev loadedCurve : List ℕ
+    loadedCurve = take (curve .count) us
+
+    family-is : loadedFamily ≡ meant job .family
+    family-is =
+        let x = front-is t (a .at) (a .count) (a .count) (job .a) xs (ready .stands .aAt) refl xsAre in
+        let y = front-is t (b .at) (b .count) (a .count) (job .b) ys (ready .stands .bAt) (fits .bRows) ysAre in
+        let z = front-is t (c .at) (c .count) (a .count) (job .c) zs (ready .stands .cAt) (fits .cRows) zsAre in
+        let m = ready .stands .modulusIs in
+        cc
+
+    curve-is : loadedCurve ≡ job .curve
+    curve-is = front-is t (curve .at) (curve .count) (curve .count) (job .curve) us (ready .stands .curveAt) refl usAre
+
+    a-long : length (take (a .count) xs) ≡ a .count
+    a-long = ap (λ f. length (f .a)) family-is ∙ ready .stands .aAt .count
+
+    b-long : length (take (a .count) ys) ≡ b .count
+    b-long = ap (λ f. length (f .b)) family-is ∙ ready .stands .bAt .count
+
+    c-long : length (take (a .count) zs) ≡ c .count
+    c-long = ap (λ f. length (f .c)) family-is ∙ ready .stands .cAt .count
+
+    curve-long : length loadedCurve ≡ curve .count
+    curve-long = ap length curve-is ∙ ready .stands .curveAt .count
+
+    module _ (count : ℕ) (countIs : count ≡ resultCount operation (a .count)) where
+      pub count-few : count ≤ 255
+      count-few = omega (arith, fits .few, result-few operation (a .count))
+
+      pub parts : (list : List ℕ) → 255 ≤ length list → Parts operation modulus xs ys zs (a .count) us (curve .count) list count (length work)
+      parts list l =
+          let passed : None (sizesOf operation loadedFamily loadedCurve (length output) (length work)) = rw (a-long, b-long, c-long, curve-long) (ready .passed) in
+          record {
+            aFront = front-room (a .count) xs a-long;
+            bFront = front-room (a .count) ys (b-long ∙ fits .bRows);
+            cFront = front-room (a .count) zs (c-long ∙ fits .cRows);
+            curveFront = front-room (curve .count) us curve-long;
+            outputFront = omega (arith, count-few);
+            sized = sized-by-tests operation loadedFamily loadedCurve (length output) (length work) count passed (countIs ∙ ap (resultCount operation) (sym a-long));
+          }

@@ -1,7 +1,7 @@
 -- An operation on lists whose sizes are in order.
 --   Sized    the tests 3 to 8 pass: the modulus, the rows, the curve and the working list; and the output is as long as the result
 --   Parts    the same for the fronts of longer lists
--- Proved: Sized from the passed tests on sizes; each call of the tree way, and Norms with the working list cleared, as the
+-- Proved: Sized from the passed tests on sizes; how long each result is; each call of the tree way, and Norms with the working list cleared, as the
 -- operation's promise with the tests that are left. Assumes nothing.
 use mathlib.Core.Path.{_≡_, refl, sym, _∙_, ap}
 use mathlib.Core.Bool.{Bool, true, false}
@@ -19,6 +19,9 @@ use Rattle.definitions.specs.Refusals.{Test, verdict, some, workLength, workTes
 use Rattle.definitions.specs.TextCall.{converted}
 use Rattle.definitions.specs.declared.Answer.{Answer}
 use Rattle.definitions.specs.declared.Operation.{Operation}
+use Rattle.theory.specs.Lists.{table-length}
+use Rattle.theory.specs.Moments.{moments-length}
+use Rattle.theory.specs.RoundTrip.{decomposeBelow-length}
 use Rattle.theory.specs.Verdicts.{None, verdict-here, verdict-next, verdict-goes-on, none-append, differ-false, output-passes, work-passes}
 use Rattle.checks.specs.Groups.{shapeOf, lengthTests, rowTests, tree-groups, moments-groups, norms-groups}
 use Rattle.operations.specs.Tests.{curveCount, resultCount, sizeTests, valueTests, sizesOf, lentTests}
@@ -48,6 +51,14 @@ sized-by-tests operation f u text work count n e =
       result = e;
       room = work-passes work .0 (parts .1 .1 .1 .0);
     }
+
+pub result-length : (operation : Operation) (f : Family) (u : List ℕ) → length (converted operation f u) ≡ resultCount operation (rows f)
+unfolding converted expand adjoint decompose norms resultCount
+result-length Operation.Expand f u = table-length (size f) _
+result-length Operation.Adjoint f u = table-length (size f) _
+result-length Operation.Decompose f u = decomposeBelow-length f (size f) u
+result-length Operation.Moments f u = moments-length f
+result-length Operation.Norms f u = table-length (size f) _
 
 -- a test at the end that does not hold
 spare-test : (ts : List Test) (t : Test) (values : List ℕ) → t .holds ≡ false → verdict (ts ++ t ∷ []) values ≡ verdict ts values
