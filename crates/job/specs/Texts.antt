@@ -2,32 +2,32 @@
 --   withLength n r   the answer r, with the length n in its finished kind
 --   Ready            a job stands in a text of at most 8,192 bytes, and the tests on sizes pass
 -- Proved: what a refusal leaves, and what the finished kind does, is what the text call promises. Assumes nothing.
-use mathlib.Core.Path.{_≡_, refl, sym, _∙_, ap}
 use mathlib.Core.Bool.{true, false}
-use mathlib.Core.List.{List, [], _∷_, _++_}
+use mathlib.Core.List.{List, [], _∷_, _++_, append-nil}
+use mathlib.Core.Path.{_≡_, refl, sym, _∙_, ap, ap₂}
 use Prim.Native.Nat.{ℕ, _-_, _<_, _≤_}
 use native.Mathlib.Nat.{sub-zero}
 use native.Mathlib.Omega.{arith}
 use lib.ListN.{length, take, drop, replicate, length-take, length-append, length-replicate}
 use lib.Seq.{take-at}
 use borrow.Author.Tests.{lt-ltb, le-ltb}
-use Rattle.definitions.specs.Answers.{answered, valued, after, cleared, ConvertedIn}
-use Rattle.definitions.specs.Family.{Family, family, mostRows}
+use Rattle.definitions.specs.Answers.{answered, after, cleared, ConvertedIn}
+use Rattle.definitions.specs.Family.{Family, family}
+use Rattle.definitions.specs.Reading.{found, malformed, readJob}
 use Rattle.definitions.specs.Refusals.{Test, finished, refused, verdict, test}
 use Rattle.definitions.specs.Text.{WrittenJob, meant, answerText}
-use Rattle.definitions.specs.Reading.{found, malformed, readJob}
-use Rattle.definitions.specs.TextCall.{mostBytes, textOutputLength, textLengthTest, formTests, textTests, jobTests, converted, result, replyTo, reply, TextConverted}
+use Rattle.definitions.specs.TextCall.{mostBytes, textLengthTest, formTests, textTests, jobTests, converted, result, replyTo, reply, TextConverted}
 use Rattle.definitions.specs.declared.Answer.{Answer}
 use Rattle.definitions.specs.declared.Operation.{Operation}
 use Rattle.definitions.specs.declared.Valued.{Valued}
 use Rattle.theory.specs.Verdicts.{None, verdict-here, verdict-next, verdict-finished, verdict-stops, verdict-goes-on}
+use Rattle.operations.specs.Lists.{Parts, sized-by-tests, result-length}
+use Rattle.operations.specs.Tests.{resultCount, sizeTests, valueTests, sizesOf, job-tests, Fits, sizes-fit, curve-few, result-few}
 use Rattle.reader.specs.Form.{JobAt}
 use Rattle.reader.specs.Lines.{NumbersAt}
 use Rattle.reader.specs.Loading.{Loadable, readList, loaded-front}
 use Rattle.reader.specs.declared.Span.{Span}
 use Rattle.writer.specs.Answer.{Room, AnswerWritten}
-use Rattle.operations.specs.Tests.{resultCount, sizeTests, valueTests, sizesOf, job-tests, Fits, sizes-fit, curve-few, result-few}
-use Rattle.operations.specs.Lists.{Sized, Parts, sized-by-tests}
 
 abbrev pub withLength : ℕ → Answer → Valued
 withLength n Answer.Finished = Valued.Value n
@@ -176,3 +176,52 @@ module _ (t : List ℕ) (modulus : ℕ) (operation : Operation) (a b c curve : S
             outputFront = omega (arith, count-few);
             sized = sized-by-tests operation loadedFamily loadedCurve (length output) (length work) count passed (countIs ∙ ap (resultCount operation) (sym a-long));
           }
+
+      -- the conversion has answered, and its list stands at the front of list′
+      module _ (tested : Answer) (list list′ work′ : List ℕ)
+          (done : ConvertedIn (valueTests loadedFamily loadedCurve) (converted operation loadedFamily loadedCurve ++ drop count list) tested list list′ work work′) where
+        value-verdict : answered tested ≡ verdict (valueTests (meant job .family) (job .curve)) []
+        value-verdict = done .answer ∙ ap₂ (λ f u. verdict (valueTests f u) []) family-is curve-is
+
+        values-left : (vs : List ℕ) → verdict (textTests t (length output) (length work)) vs ≡ verdict (valueTests (meant job .family) (job .curve)) vs
+        values-left vs = whole t modulus operation a b c curve output work (ready .short) (ready .stands) vs ∙ verdict-goes-on _ vs (sizes t modulus operation a b c curve output work (ready .short) (ready .stands)) (ready .passed)
+
+        pub values-refused : (k : ℕ) → tested ≡ Answer.Refused k → (v : Valued) → v ≡ withLength 0 tested → TextConverted t v output output work work′
+        values-refused k q v is =
+            let no = verdict-stops [] (length (reply t) ∷ []) (valueTests (meant job .family) (job .curve)) [] k (sym value-verdict ∙ ap answered q) in
+            let stays : work′ ≡ work = done .wiped ∙ ap (λ r. after (answered r) (cleared work) work) q in
+            rw (is ∙ ap (withLength 0) q, stays) (refused-text t output work k (values-left _ ∙ sym (ap (λ ts. verdict ts (length (reply t) ∷ [])) (append-nil (valueTests (meant job .family) (job .curve)))) ∙ no))
+
+        stored : tested ≡ Answer.Finished → list′ ≡ converted operation loadedFamily loadedCurve ++ drop count list
+        stored q = done .written ∙ ap (λ r. after (answered r) (converted operation loadedFamily loadedCurve ++ drop count list) list) q
+
+        long : length (converted operation loadedFamily loadedCurve) ≡ count
+        long = result-length operation loadedFamily loadedCurve ∙ ap (resultCount operation) a-long ∙ sym countIs
+
+        pub count-fits : tested ≡ Answer.Finished → count ≤ length list′
+        count-fits q = omega (arith, ap length (stored q) ∙ length-append (converted operation loadedFamily loadedCurve) (drop count list), long)
+
+        result-is : tested ≡ Answer.Finished → take (count - 0) list′ ≡ converted operation (meant job .family) (job .curve)
+        result-is q =
+            rw (sub-zero count, stored q) (take-at (converted operation loadedFamily loadedCurve) (drop count list) count long)
+            ∙ ap₂ (converted operation) family-is curve-is
+
+        reply-is : tested ≡ Answer.Finished → reply t ≡ answerText operation (take (count - 0) list′)
+        unfolding reply replyTo result
+        reply-is q = ap replyTo (ready .stands .read) ∙ ap (λ o. answerText o (converted o (meant job .family) (job .curve))) (ready .stands .operationIs)
+            ∙ ap (answerText operation) (sym (result-is q))
+
+        pub room : Room output (take (count - 0) list′)
+        room = record { long = fits .text; few = omega (arith, length-take (count - 0) list′, count-few) }
+
+        pub text-answered : tested ≡ Answer.Finished → (n : ℕ) (output′ : List ℕ) → AnswerWritten operation (take (count - 0) list′) n output output′
+            → TextConverted t (Valued.Value n) output output′ work work′
+        text-answered q n output′ p =
+            let is = reply-is q in
+            let long : n ≡ length (reply t) = p .answer ∙ ap length (sym is) in
+            let none = verdict-finished (valueTests (meant job .family) (job .curve)) [] .0 (sym value-verdict ∙ ap answered q) in
+            record {
+              answer = ap (λ k. finished (k ∷ [])) long ∙ sym (values-left _ ∙ verdict-finished (valueTests (meant job .family) (job .curve)) _ .1 none);
+              written = p .written ∙ ap₂ (λ text k. text ++ drop k output) (sym is) long;
+              wiped = done .wiped ∙ ap (λ r. after (answered r) (cleared work) work) q;
+            }

@@ -3,17 +3,17 @@
 --   Parts    the same for the fronts of longer lists
 -- Proved: Sized from the passed tests on sizes; how long each result is; each call of the tree way, and Norms with the working list cleared, as the
 -- operation's promise with the tests that are left. Assumes nothing.
-use mathlib.Core.Path.{_≡_, refl, sym, _∙_, ap}
 use mathlib.Core.Bool.{Bool, true, false}
 use mathlib.Core.List.{List, [], _∷_, _++_}
-use Prim.Native.Nat.{ℕ, suc, _-_, _≤_}
+use mathlib.Core.Path.{_≡_, refl, sym, _∙_, ap}
+use Prim.Native.Nat.{ℕ, _-_, _≤_}
 use native.Mathlib.Nat.{sub-zero}
 use native.Mathlib.Omega.{arith}
 use lib.ListN.{length, take, drop, take-append-drop}
 use lib.Seq.{length-take-le}
 use Rattle.definitions.specs.Answers.{answered, after, cleared, Converted, ConvertedIn}
-use Rattle.definitions.specs.Family.{Family, family, rows, size}
 use Rattle.definitions.specs.Conversion.{expand, adjoint, decompose}
+use Rattle.definitions.specs.Family.{Family, family, rows, size}
 use Rattle.definitions.specs.Orthogonality.{momentCount, moments, norms}
 use Rattle.definitions.specs.Refusals.{Test, verdict, some, workLength, workTest, outputTest, curveEntriesTest, treeTests, momentsTests, normsTests}
 use Rattle.definitions.specs.TextCall.{converted}

@@ -5,8 +5,8 @@
 --   Fits                      what the counts and lengths are when sizeTests pass
 -- Proved: a job's tests are these two parts (job-tests); what `sizes` answers at each place where it does, and what its passing
 -- means; bounds of the counts. Assumes nothing.
-use mathlib.Core.Path.{_≡_, refl, sym, _∙_, ap}
 use mathlib.Core.List.{List, [], _∷_, _++_}
+use mathlib.Core.Path.{_≡_, refl, sym, _∙_}
 use Prim.Native.Nat.{ℕ, suc, _+_, _*_, _-_, _<_, _≤_}
 use native.Mathlib.Omega.{arith}
 use lib.ListN.{length}
@@ -14,13 +14,12 @@ use borrow.Author.Tests.{lt-ltb, le-ltb, ltb-false}
 use Rattle.definitions.specs.Answers.{answered}
 use Rattle.definitions.specs.Family.{Family, mostRows}
 use Rattle.definitions.specs.Refusals.{Test, Verdict, test, refused, verdict, differ, workLength, lengthsTest, rowCountTest, curveLengthTest, workTest, curveEntriesTest}
-use Rattle.definitions.specs.Text.{Job}
 use Rattle.definitions.specs.TextCall.{textOutputLength, emptyCurveTest, curveTest, textOutputTest, jobTests}
 use Rattle.definitions.specs.declared.Answer.{Answer}
 use Rattle.definitions.specs.declared.Operation.{Operation}
 use Rattle.theory.specs.Verdicts.{None, none-append, verdict-here, verdict-next, differ-false, work-passes}
 use Rattle.checks.specs.Calls.{check-none, check-refuses, check-passes}
-use Rattle.checks.specs.Groups.{shapeTests, shapeOf, rowTests}
+use Rattle.checks.specs.Groups.{shapeTests, rowTests}
 use Rattle.checks.specs.Shape.{differ-other, shape-counts}
 
 unfoldable pub curveCount : Operation → ℕ → ℕ
