@@ -1,11 +1,11 @@
-/* What cases.h declares. A case is made so that it is accepted, and then some are damaged by one to three faults, which may cover one
- * another. Uses nothing but the model's lengths and its common divisor. */
+/* What cases.h declares. A case is made so that it is accepted, and then some are damaged by one to three faults, which may
+ * cover one another. Uses nothing but the model's lengths and its common divisor. */
 #include "cases.h"
 
 static uint32_t a[LIST_ROOM], b[LIST_ROOM], c[LIST_ROOM], curve[LIST_ROOM];
 
 static const uint32_t PRIMES[] = {3, 5, 7, 13, 127, 131, 257, 65537, 1000003, 2147483629, GREATEST_MODULUS};
-static const uint32_t COMPOSITES[] = {4,    6,     8,       9,         12,        15,         30,        210,
+static const uint32_t COMPOSITES[] = {4,    6,     8,       9,         12,         15,         30,         210,
                                       1001, 30030, 1000000, 223092870, 1073741824, 2147395600, 2147483645, 2147483646};
 
 static uint32_t some_modulus(struct random *random) {
@@ -66,8 +66,7 @@ static void fill(struct random *random, struct list list, size_t from, uint32_t 
         for (size_t i = from; i < list.length; i++) list.entries[i] = kind == UNITS;
         break;
     default:
-        for (size_t i = from; i < list.length; i++)
-            list.entries[i] = kind == UNITS ? some_unit(random, m) : below(random, m);
+        for (size_t i = from; i < list.length; i++) list.entries[i] = kind == UNITS ? some_unit(random, m) : below(random, m);
     }
 }
 

@@ -7,8 +7,9 @@
 
 enum { LIST_ROOM = 512, WORK_ROOM = LEAST_WORK + 2048 };
 
-/* A random case of an operation by a way. Its lists stay as they are until the next case is made. Lists are up to LIST_ROOM long, and
- * nothing that a call may write has more than WORK_ROOM numbers. What the call has to answer is not known here: the model says it. */
+/* A random case of an operation by a way. Its lists stay as they are until the next case is made. Lists are up to LIST_ROOM
+ * long, and nothing that a call may write has more than WORK_ROOM numbers. What the call has to answer is not known here: the
+ * model says it. */
 struct lent make_case(struct random *random, enum operation operation, enum way way);
 
 #endif

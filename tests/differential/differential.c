@@ -2,9 +2,9 @@
  *
  * usage: differential [CASES [SEED [FIRST]]]
  *
- * Compares the number returned, all that a call writes, and that it writes nothing else (trial.h). Prints how often each call gave each
- * answer and exits 0; shows the first case that differs and exits 1. It exits 1 too if some call never gave one of the answers that it
- * can give, unless FIRST, the number of the first case, is stated. Bad arguments exit with 2.
+ * Compares the number returned, all that a call writes, and that it writes nothing else (trial.h). Prints how often each call
+ * gave each answer and exits 0; shows the first case that differs and exits 1. It exits 1 too if some call never gave one of
+ * the answers that it can give, unless FIRST, the number of the first case, is stated. Bad arguments exit with 2.
  */
 #include <inttypes.h>
 #include <stdio.h>

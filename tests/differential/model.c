@@ -65,7 +65,8 @@ uint32_t refusal(const struct lent *x) {
     return 0;
 }
 
-/* The number y below m with x y = 1 + m k for some k. Modulo x, k is the opposite of the inverse of m, and x is smaller than m. */
+/* The number y below m with x y = 1 + m k for some k. Modulo x, k is the opposite of the inverse of m, and x is smaller than m.
+ */
 static uint32_t inverse(uint32_t x, uint32_t m) {
     if (x == 1) return 1;
     uint64_t k = x - inverse(m % x, x);
@@ -117,7 +118,8 @@ static void invert_a(const struct lent *x, uint32_t inverses[N]) {
     inverses[x->a.length] = 1;
 }
 
-/* Curve becomes the curve of x times its polynomial, which has no F_r in it: x F_{i-1} = (F_i - b_i F_{i-1} - c_i F_{i-2}) / a_i. */
+/* Curve becomes the curve of x times its polynomial, which has no F_r in it, since
+ * x F_{i-1} = (F_i - b_i F_{i-1} - c_i F_{i-2}) / a_i. */
 static void times_x(const struct lent *x, const uint32_t inverses[N], uint32_t curve[N]) {
     uint64_t next[N] = {0};
     for (size_t i = 1; i <= x->a.length; i++) {

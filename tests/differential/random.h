@@ -16,7 +16,9 @@ static inline uint64_t mixed(uint64_t word) {
 }
 
 /* The source of one case: it depends on the seed and on the case's number alone, so that any case can be had again. */
-static inline struct random random_of_case(uint64_t seed, uint64_t number) { return (struct random){mixed(mixed(seed) + number)}; }
+static inline struct random random_of_case(uint64_t seed, uint64_t number) {
+    return (struct random){mixed(mixed(seed) + number)};
+}
 
 static inline uint64_t next_word(struct random *random) { return mixed(random->state += UINT64_C(0x9E3779B97F4A7C15)); }
 

@@ -1,5 +1,5 @@
-/* What text_cases.h declares. A text is written from a random case (cases.h), which may be refused with 3 to 12; some texts are then
- * damaged one to three times. Uses of the model only the words of the operations. */
+/* What text_cases.h declares. A text is written from a random case (cases.h), which may be refused with 3 to 12; some texts are
+ * then damaged one to three times. Uses of the model only the words of the operations. */
 #include "text_cases.h"
 
 #include <inttypes.h>
@@ -128,9 +128,9 @@ static void put_number(struct random *random, struct text *text, const char *dig
 }
 
 static void great_number(struct random *random, struct text *text) {
-    static const char *const numbers[] = {"4294967295 ",          "4294967296 ",           "4294967297 ", "9999999999 ",
-                                          "42949672950 ",         "18446744073709551615 ", "0 ",          "18446744073709551616 ",
-                                          "18446744073709551617 ", "2147483648 ",          "4294967295",  "4294967296"};
+    static const char *const numbers[] = {
+        "4294967295 ", "4294967296 ",           "4294967297 ",           "9999999999 ", "42949672950 ", "18446744073709551615 ",
+        "0 ",          "18446744073709551616 ", "18446744073709551617 ", "2147483648 ", "4294967295",   "4294967296"};
     put_number(random, text, ONE_OF(random, numbers));
 }
 
@@ -150,9 +150,16 @@ static void no_last_line_end(struct random *random, struct text *text) {
 
 static void cut(struct random *random, struct text *text) { text->length = below(random, text->length + 1); }
 
-static void more_bytes(struct random *random, struct text *text) {
+static void more_lines(struct random *random, struct text *text) {
     static const char *const ends[] = {"v", "v=\n", "\n", "w=1\n", " ", "mod=7\n"};
     splice_word(text, text->length, 0, ONE_OF(random, ends));
+}
+
+static void more_bytes(struct random *random, struct text *text) {
+    do {
+        uint8_t byte = some_byte(random);
+        splice(text, text->length, 0, &byte, 1);
+    } while (one_in(random, 2));
 }
 
 static void remove_line(struct random *random, struct text *text) {
@@ -201,9 +208,10 @@ static void any_bytes(struct random *random, struct text *text) {
 typedef void text_damage(struct random *random, struct text *text);
 
 static text_damage *const DAMAGES[] = {
-    change_byte,   flip_bit,     delete_byte,       insert_byte,      change_line_end, change_every_line_end, change_space,
-    change_equals, change_letter, great_number,     very_great_number, no_last_line_end, cut,                 more_bytes,
-    remove_line,   double_line,  move_line,         far_longer_list,  longest_text,    too_long_text,         any_bytes,
+    change_byte,     flip_bit,      delete_byte,      insert_byte,  change_line_end,   change_every_line_end,
+    change_space,    change_equals, change_letter,    great_number, very_great_number, cut,
+    more_lines,      more_bytes,    no_last_line_end, remove_line,  double_line,       move_line,
+    far_longer_list, longest_text,  too_long_text,    any_bytes,
 };
 
 void make_text(struct random *random, struct text *text, size_t *output_length, size_t *work_length) {

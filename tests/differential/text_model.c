@@ -65,9 +65,10 @@ static bool read_job(struct rest rest, struct lent *x) {
     x->b.entries = room[1];
     x->c.entries = room[2];
     x->curve.entries = room[3];
-    return pass(&rest, "mod=") && read_number(&rest, &x->m) && pass(&rest, "\n") && pass(&rest, "a=") && read_list(&rest, &x->a) &&
-           pass(&rest, "b=") && read_list(&rest, &x->b) && pass(&rest, "c=") && read_list(&rest, &x->c) && pass(&rest, "op=") &&
-           read_operation(&rest, &x->operation) && pass(&rest, "v=") && read_list(&rest, &x->curve) && rest.length == 0;
+    return pass(&rest, "mod=") && read_number(&rest, &x->m) && pass(&rest, "\n") && pass(&rest, "a=") &&
+           read_list(&rest, &x->a) && pass(&rest, "b=") && read_list(&rest, &x->b) && pass(&rest, "c=") &&
+           read_list(&rest, &x->c) && pass(&rest, "op=") && read_operation(&rest, &x->operation) && pass(&rest, "v=") &&
+           read_list(&rest, &x->curve) && rest.length == 0;
 }
 
 /* The answer text of 127 rows is longest for the moments: 255 numbers of at most 10 digits, which fit. */

@@ -1,7 +1,7 @@
 /* One call of the library under watch: what it is lent, what it has to leave there, and what it did leave.
  *
- * Whatever is lent ends at a page that nobody may touch, and before it stands a zone whose bytes must not change: the library is
- * compiled without a checker of memory.
+ * Whatever is lent ends at a page that nobody may touch, and before it stands a zone whose bytes must not change: the library
+ * is compiled without a checker of memory.
  */
 #ifndef TRIAL_H
 #define TRIAL_H
@@ -13,9 +13,9 @@
 
 enum { MOST_LENDINGS = 6 };
 
-/* Numbers that are lent: how many, of how many bytes each, and what they are before the call. When a call has finished, the first of
- * what it may write are those at front; the others are as before, and so are all of them when it is refused. What it may not write
- * has no front. */
+/* Numbers that are lent: how many, of how many bytes each, and what they are before the call. When a call has finished, the
+ * first of what it may write are those at front; the others are as before, and so are all of them when it is refused. What it
+ * may not write has no front. */
 struct lending {
     const char *name;
     size_t width;
@@ -49,8 +49,8 @@ void *lend(struct trial *trial, struct random *random, struct lending lending);
 uint32_t *lend_numbers(struct trial *trial, struct random *random, const char *name, size_t length, const uint32_t *front,
                        size_t front_length);
 
-/* Holds the number that the call returned, and all that it was lent, against what has to be. At a difference the case is shown and the
- * program ends with 1. It ends so too if the library touches what it may not, between the first lending and here. */
+/* Holds the number that the call returned, and all that it was lent, against what has to be. At a difference the case is shown
+ * and the program ends with 1. It ends so too if the library touches what it may not, between the first lending and here. */
 void compare(const struct trial *trial, uint32_t returned);
 
 #endif
