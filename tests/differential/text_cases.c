@@ -148,7 +148,9 @@ static void no_last_line_end(struct random *random, struct text *text) {
     if (text->length) text->length--;
 }
 
-static void cut(struct random *random, struct text *text) { text->length = below(random, text->length + 1); }
+static void cut(struct random *random, struct text *text) {
+    text->length = one_in(random, 4) ? 0 : below(random, text->length + 1);
+}
 
 static void more_lines(struct random *random, struct text *text) {
     static const char *const ends[] = {"v", "v=\n", "\n", "w=1\n", " ", "mod=7\n"};
