@@ -1,5 +1,5 @@
-/* What cases.h declares. A case is made so that it is accepted, and then some are damaged by one to three faults, which may
- * cover one another. Uses nothing but the model's lengths and its common divisor. */
+/* What cases.h declares. A case is made so that it is accepted, or nearly always so, and half of them are then damaged by one
+ * fault or more, which may cover one another. Uses nothing but the model's lengths and its common divisor. */
 #include "cases.h"
 
 static uint32_t a[LIST_ROOM], b[LIST_ROOM], c[LIST_ROOM], curve[LIST_ROOM];

@@ -1,9 +1,10 @@
-/* What model.h declares. No formula here is that of the tree way or of the reference:
+/* What model.h declares. Expand and Adjoint are the sums that define them, as in tests/reference. The others go another way
+ * than the scope paper's two ways and than the definitions in tests/reference:
  *
  * Inverse    is found from an inverse modulo a smaller number.
  * Decompose  is Horner's scheme in the basis: times x, plus a coefficient, from the top power down.
- * Moments    come from the product law: x^j and x^k in the basis, weighed with the norms, give moment j + k.
- * Expand and Adjoint are the sums that define them.
+ * Moments    come from the product law, and from no power series: x^j and x^k in the basis, weighed with the norms, give moment
+ *            j + k. So this holds the library's moments and norms to that law too.
  */
 #include "model.h"
 

@@ -1,5 +1,5 @@
 /* What text_cases.h declares. A text is written from a random case (cases.h), which may be refused with 3 to 12; some texts are
- * then damaged one to three times. Uses of the model only the words of the operations. */
+ * then damaged once or more. Uses of the model only the words of the operations. */
 #include "text_cases.h"
 
 #include <inttypes.h>

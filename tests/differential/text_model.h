@@ -1,4 +1,4 @@
-/* The job text and the text call of the scope paper, once more. Written from the scope paper alone, as model.h is. */
+/* The job text and the text call of the scope paper, once more. Follows the scope paper and shares no code, as model.h. */
 #ifndef TEXT_MODEL_H
 #define TEXT_MODEL_H
 
