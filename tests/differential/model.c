@@ -1,5 +1,5 @@
-/* What model.h declares. Expand and Adjoint are the sums that define them, as in tests/reference. The others go another way
- * than the scope paper's two ways and than the definitions in tests/reference:
+/* What model.h declares. Expand, Adjoint and Norms are the formulas that define them, as in tests/reference. These three go
+ * another way than the scope paper's two ways and than the definitions in tests/reference:
  *
  * Inverse    is found from an inverse modulo a smaller number.
  * Decompose  is Horner's scheme in the basis: times x, plus a coefficient, from the top power down.
