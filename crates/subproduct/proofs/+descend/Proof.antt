@@ -24,256 +24,71 @@ descend-at t = and 1 descend-kinds.ps (is 1 descend-kinds.ps μ-descend t) desce
 abbrev descend-below : ℕ → In 1 descend-kinds.ps
 descend-below t = and 1 descend-kinds.ps (falls 1 descend-kinds.ps _<_ μ-descend t) descend.Pre
 
-descend-descend-leaf-requires : (t : ℕ) → descend-lts.Need-descend-leaf-requires (
-  descend-leaf-reads.Asked,
-  descend-leaf-reads.Learnt,
-  tree-size-reads.Asked,
-  tree-size-reads.Learnt,
-  descend-below t,
-  descend.Post,
-  lower-reads.Asked,
-  lower-reads.Learnt,
-) (descend-at t) descend.Post
+-- what the calls ask and promise, in their order
+abbrev descend-claims : ℕ → descend-lts.Claims
+descend-claims t = (descend-leaf-reads.Asked, descend-leaf-reads.Learnt, tree-size-reads.Asked, tree-size-reads.Learnt, descend-below t, descend.Post, lower-reads.Asked, lower-reads.Learnt)
+
+descend-descend-leaf-requires : (t : ℕ) → descend-lts.Need-descend-leaf-requires (descend-claims t) (descend-at t) descend.Post
 descend-descend-leaf-requires t c κs = descend-one _ _ _ _ _ _ _ _ (c .before .before .before .pre .1) (c .before .if1 .taken)
 
-descend-same-length : (t : ℕ) → descend-lts.Need-same-length (
-  descend-leaf-reads.Asked,
-  descend-leaf-reads.Learnt,
-  tree-size-reads.Asked,
-  tree-size-reads.Learnt,
-  descend-below t,
-  descend.Post,
-  lower-reads.Asked,
-  lower-reads.Learnt,
-) (descend-at t) descend.Post
+descend-same-length : (t : ℕ) → descend-lts.Need-same-length (descend-claims t) (descend-at t) descend.Post
 descend-same-length t c = c .before .before .descend-leaf .kept .0
 
-descend-returns : (t : ℕ) → descend-lts.Need-returns (
-  descend-leaf-reads.Asked,
-  descend-leaf-reads.Learnt,
-  tree-size-reads.Asked,
-  tree-size-reads.Learnt,
-  descend-below t,
-  descend.Post,
-  lower-reads.Asked,
-  lower-reads.Learnt,
-) (descend-at t) descend.Post
+descend-returns : (t : ℕ) → descend-lts.Need-returns (descend-claims t) (descend-at t) descend.Post
 descend-returns t c = descend-one-output _ _ _ _ _ _ _ _ (c .before .before .before .before .before .before .pre .1) (c .before .before .before .before .if1 .taken) _ (c .before .before .descend-leaf .ensures)
 
-descend-sub-tree-size : (t : ℕ) → descend-lts.Need-sub-tree-size (
-  descend-leaf-reads.Asked,
-  descend-leaf-reads.Learnt,
-  tree-size-reads.Asked,
-  tree-size-reads.Learnt,
-  descend-below t,
-  descend.Post,
-  lower-reads.Asked,
-  lower-reads.Learnt,
-) (descend-at t) descend.Post
+descend-sub-tree-size : (t : ℕ) → descend-lts.Need-sub-tree-size (descend-claims t) (descend-at t) descend.Post
 descend-sub-tree-size t c = omega (arith, descend-halves _ _ _ _ _ _ _ _ (c .before .before .pre .1) (c .if1 .left) .is)
 
-descend-tree-size-requires : (t : ℕ) → descend-lts.Need-tree-size-requires (
-  descend-leaf-reads.Asked,
-  descend-leaf-reads.Learnt,
-  tree-size-reads.Asked,
-  tree-size-reads.Learnt,
-  descend-below t,
-  descend.Post,
-  lower-reads.Asked,
-  lower-reads.Learnt,
-) (descend-at t) descend.Post
+descend-tree-size-requires : (t : ℕ) → descend-lts.Need-tree-size-requires (descend-claims t) (descend-at t) descend.Post
 descend-tree-size-requires t c κs = descend-halves _ _ _ _ _ _ _ _ (c .before .before .pre .1) (c .if1 .left) .half
 
-descend-add-end : (t : ℕ) → descend-lts.Need-add-end (
-  descend-leaf-reads.Asked,
-  descend-leaf-reads.Learnt,
-  tree-size-reads.Asked,
-  tree-size-reads.Learnt,
-  descend-below t,
-  descend.Post,
-  lower-reads.Asked,
-  lower-reads.Learnt,
-) (descend-at t) descend.Post
+descend-add-end : (t : ℕ) → descend-lts.Need-add-end (descend-claims t) (descend-at t) descend.Post
 descend-add-end t c = omega (arith, descend-sizes _ _ _ _ _ _ _ _ (c .before .before .before .pre .1) (c .before .if1 .left) _ (c .tree-size .ensures))
 
-descend-mul-pair : (t : ℕ) → descend-lts.Need-mul-pair (
-  descend-leaf-reads.Asked,
-  descend-leaf-reads.Learnt,
-  tree-size-reads.Asked,
-  tree-size-reads.Learnt,
-  descend-below t,
-  descend.Post,
-  lower-reads.Asked,
-  lower-reads.Learnt,
-) (descend-at t) descend.Post
+descend-mul-pair : (t : ℕ) → descend-lts.Need-mul-pair (descend-claims t) (descend-at t) descend.Post
 descend-mul-pair t c = omega (arith, descend-sizes _ _ _ _ _ _ _ _ (c .before .before .before .pre .1) (c .before .if1 .left) _ (c .tree-size .ensures))
 
-descend-add-pair : (t : ℕ) → descend-lts.Need-add-pair (
-  descend-leaf-reads.Asked,
-  descend-leaf-reads.Learnt,
-  tree-size-reads.Asked,
-  tree-size-reads.Learnt,
-  descend-below t,
-  descend.Post,
-  lower-reads.Asked,
-  lower-reads.Learnt,
-) (descend-at t) descend.Post
+descend-add-pair : (t : ℕ) → descend-lts.Need-add-pair (descend-claims t) (descend-at t) descend.Post
 descend-add-pair t c = omega (arith, descend-sizes _ _ _ _ _ _ _ _ (c .before .before .before .pre .1) (c .before .if1 .left) _ (c .tree-size .ensures))
 
-descend-add-k : (t : ℕ) → descend-lts.Need-add-k (
-  descend-leaf-reads.Asked,
-  descend-leaf-reads.Learnt,
-  tree-size-reads.Asked,
-  tree-size-reads.Learnt,
-  descend-below t,
-  descend.Post,
-  lower-reads.Asked,
-  lower-reads.Learnt,
-) (descend-at t) descend.Post
+descend-add-k : (t : ℕ) → descend-lts.Need-add-k (descend-claims t) (descend-at t) descend.Post
 descend-add-k t c = omega (arith, descend-sizes _ _ _ _ _ _ _ _ (c .before .before .before .pre .1) (c .before .if1 .left) _ (c .tree-size .ensures))
 
-descend-sub-descend : (t : ℕ) → descend-lts.Need-sub-descend (
-  descend-leaf-reads.Asked,
-  descend-leaf-reads.Learnt,
-  tree-size-reads.Asked,
-  tree-size-reads.Learnt,
-  descend-below t,
-  descend.Post,
-  lower-reads.Asked,
-  lower-reads.Learnt,
-) (descend-at t) descend.Post
+descend-sub-descend : (t : ℕ) → descend-lts.Need-sub-descend (descend-claims t) (descend-at t) descend.Post
 descend-sub-descend t c = omega (arith, descend-sizes _ _ _ _ _ _ _ _ (c .before .before .before .before .pre .1) (c .before .before .if1 .left) _ (c .before .tree-size .ensures))
 
-descend-descend-requires : (t : ℕ) → descend-lts.Need-descend-requires (
-  descend-leaf-reads.Asked,
-  descend-leaf-reads.Learnt,
-  tree-size-reads.Asked,
-  tree-size-reads.Learnt,
-  descend-below t,
-  descend.Post,
-  lower-reads.Asked,
-  lower-reads.Learnt,
-) (descend-at t) descend.Post
+descend-descend-requires : (t : ℕ) → descend-lts.Need-descend-requires (descend-claims t) (descend-at t) descend.Post
 descend-descend-requires t c κs = (omega (arith, descend-sizes _ _ _ _ _ _ _ _ (c .before .before .before .before .pre .1) (c .before .before .if1 .left) _ (c .before .tree-size .ensures)), descend-left _ _ _ _ _ _ _ _ (c .before .before .before .before .pre .1) (c .before .before .if1 .left) _ (c .before .tree-size .ensures))
 
-descend-mul-lower : (t : ℕ) → descend-lts.Need-mul-lower (
-  descend-leaf-reads.Asked,
-  descend-leaf-reads.Learnt,
-  tree-size-reads.Asked,
-  tree-size-reads.Learnt,
-  descend-below t,
-  descend.Post,
-  lower-reads.Asked,
-  lower-reads.Learnt,
-) (descend-at t) descend.Post
+descend-mul-lower : (t : ℕ) → descend-lts.Need-mul-lower (descend-claims t) (descend-at t) descend.Post
 descend-mul-lower t c = omega (arith, descend-sizes _ _ _ _ _ _ _ _ (c .before .before .before .before .before .before .before .before .pre .1) (c .before .before .before .before .before .before .if1 .left) _ (c .before .before .before .before .before .tree-size .ensures))
 
-descend-sub-lower : (t : ℕ) → descend-lts.Need-sub-lower (
-  descend-leaf-reads.Asked,
-  descend-leaf-reads.Learnt,
-  tree-size-reads.Asked,
-  tree-size-reads.Learnt,
-  descend-below t,
-  descend.Post,
-  lower-reads.Asked,
-  lower-reads.Learnt,
-) (descend-at t) descend.Post
+descend-sub-lower : (t : ℕ) → descend-lts.Need-sub-lower (descend-claims t) (descend-at t) descend.Post
 descend-sub-lower t c = omega (arith, descend-sizes _ _ _ _ _ _ _ _ (c .before .before .before .before .before .before .before .before .pre .1) (c .before .before .before .before .before .before .if1 .left) _ (c .before .before .before .before .before .tree-size .ensures))
 
-descend-add-lower : (t : ℕ) → descend-lts.Need-add-lower (
-  descend-leaf-reads.Asked,
-  descend-leaf-reads.Learnt,
-  tree-size-reads.Asked,
-  tree-size-reads.Learnt,
-  descend-below t,
-  descend.Post,
-  lower-reads.Asked,
-  lower-reads.Learnt,
-) (descend-at t) descend.Post
+descend-add-lower : (t : ℕ) → descend-lts.Need-add-lower (descend-claims t) (descend-at t) descend.Post
 descend-add-lower t c = omega (arith, descend-sizes _ _ _ _ _ _ _ _ (c .before .before .before .before .before .before .before .before .pre .1) (c .before .before .before .before .before .before .if1 .left) _ (c .before .before .before .before .before .tree-size .ensures))
 
-descend-lower-requires : (t : ℕ) → descend-lts.Need-lower-requires (
-  descend-leaf-reads.Asked,
-  descend-leaf-reads.Learnt,
-  tree-size-reads.Asked,
-  tree-size-reads.Learnt,
-  descend-below t,
-  descend.Post,
-  lower-reads.Asked,
-  lower-reads.Learnt,
-) (descend-at t) descend.Post
+descend-lower-requires : (t : ℕ) → descend-lts.Need-lower-requires (descend-claims t) (descend-at t) descend.Post
 descend-lower-requires t c κs = descend-lower _ _ _ _ _ _ _ _ (c .before .before .before .before .before .before .before .before .pre .1) (c .before .before .before .before .before .before .if1 .left) _ (c .before .before .before .before .before .tree-size .ensures) _ (c .before .before .before .descend .ensures)
 
-descend-add-descend : (t : ℕ) → descend-lts.Need-add-descend (
-  descend-leaf-reads.Asked,
-  descend-leaf-reads.Learnt,
-  tree-size-reads.Asked,
-  tree-size-reads.Learnt,
-  descend-below t,
-  descend.Post,
-  lower-reads.Asked,
-  lower-reads.Learnt,
-) (descend-at t) descend.Post
+descend-add-descend : (t : ℕ) → descend-lts.Need-add-descend (descend-claims t) (descend-at t) descend.Post
 descend-add-descend t c = omega (arith, descend-sizes _ _ _ _ _ _ _ _ (c .before .before .before .before .before .before .before .before .before .before .before .before .pre .1) (c .before .before .before .before .before .before .before .before .before .before .if1 .left) _ (c .before .before .before .before .before .before .before .before .before .tree-size .ensures))
 
-descend-add-descend-2 : (t : ℕ) → descend-lts.Need-add-descend-2 (
-  descend-leaf-reads.Asked,
-  descend-leaf-reads.Learnt,
-  tree-size-reads.Asked,
-  tree-size-reads.Learnt,
-  descend-below t,
-  descend.Post,
-  lower-reads.Asked,
-  lower-reads.Learnt,
-) (descend-at t) descend.Post
+descend-add-descend-2 : (t : ℕ) → descend-lts.Need-add-descend-2 (descend-claims t) (descend-at t) descend.Post
 descend-add-descend-2 t c = omega (arith, descend-sizes _ _ _ _ _ _ _ _ (c .before .before .before .before .before .before .before .before .before .before .before .before .pre .1) (c .before .before .before .before .before .before .before .before .before .before .if1 .left) _ (c .before .before .before .before .before .before .before .before .before .tree-size .ensures))
 
-descend-sub-descend-2 : (t : ℕ) → descend-lts.Need-sub-descend-2 (
-  descend-leaf-reads.Asked,
-  descend-leaf-reads.Learnt,
-  tree-size-reads.Asked,
-  tree-size-reads.Learnt,
-  descend-below t,
-  descend.Post,
-  lower-reads.Asked,
-  lower-reads.Learnt,
-) (descend-at t) descend.Post
+descend-sub-descend-2 : (t : ℕ) → descend-lts.Need-sub-descend-2 (descend-claims t) (descend-at t) descend.Post
 descend-sub-descend-2 t c = omega (arith, descend-sizes _ _ _ _ _ _ _ _ (c .before .before .before .before .before .before .before .before .before .before .before .before .pre .1) (c .before .before .before .before .before .before .before .before .before .before .if1 .left) _ (c .before .before .before .before .before .before .before .before .before .tree-size .ensures))
 
-descend-descend-requires-2 : (t : ℕ) → descend-lts.Need-descend-requires-2 (
-  descend-leaf-reads.Asked,
-  descend-leaf-reads.Learnt,
-  tree-size-reads.Asked,
-  tree-size-reads.Learnt,
-  descend-below t,
-  descend.Post,
-  lower-reads.Asked,
-  lower-reads.Learnt,
-) (descend-at t) descend.Post
+descend-descend-requires-2 : (t : ℕ) → descend-lts.Need-descend-requires-2 (descend-claims t) (descend-at t) descend.Post
 descend-descend-requires-2 t c κs = (omega (arith, descend-sizes _ _ _ _ _ _ _ _ (c .before .before .before .before .before .before .before .before .before .before .before .before .pre .1) (c .before .before .before .before .before .before .before .before .before .before .if1 .left) _ (c .before .before .before .before .before .before .before .before .before .tree-size .ensures)), descend-right _ _ _ _ _ _ _ _ (c .before .before .before .before .before .before .before .before .before .before .before .before .pre .1) (c .before .before .before .before .before .before .before .before .before .before .if1 .left) _ (c .before .before .before .before .before .before .before .before .before .tree-size .ensures) _ (c .before .before .before .before .before .before .before .descend .ensures) _ (c .before .before .before .lower .ensures))
 
-descend-same-length-2 : (t : ℕ) → descend-lts.Need-same-length-2 (
-  descend-leaf-reads.Asked,
-  descend-leaf-reads.Learnt,
-  tree-size-reads.Asked,
-  tree-size-reads.Learnt,
-  descend-below t,
-  descend.Post,
-  lower-reads.Asked,
-  lower-reads.Learnt,
-) (descend-at t) descend.Post
+descend-same-length-2 : (t : ℕ) → descend-lts.Need-same-length-2 (descend-claims t) (descend-at t) descend.Post
 descend-same-length-2 t c = c .before .before .descend2 .kept .1 .0 ∙ c .before .before .before .before .before .before .lower .kept .1 .0 ∙ c .before .before .before .before .before .before .before .before .before .before .descend .kept .1 .0
 
-descend-returns-2 : (t : ℕ) → descend-lts.Need-returns-2 (
-  descend-leaf-reads.Asked,
-  descend-leaf-reads.Learnt,
-  tree-size-reads.Asked,
-  tree-size-reads.Learnt,
-  descend-below t,
-  descend.Post,
-  lower-reads.Asked,
-  lower-reads.Learnt,
-) (descend-at t) descend.Post
+descend-returns-2 : (t : ℕ) → descend-lts.Need-returns-2 (descend-claims t) (descend-at t) descend.Post
 descend-returns-2 t c = descend-output _ _ _ _ _ _ _ _ (c .before .before .before .before .before .before .before .before .before .before .before .before .before .before .before .pre .1) (c .before .before .before .before .before .before .before .before .before .before .before .before .before .if1 .left) _ (c .before .before .before .before .before .before .before .before .before .before .before .before .tree-size .ensures) _ (c .before .before .before .before .before .before .before .before .before .before .descend .ensures) _ (c .before .before .before .before .before .before .lower .ensures) _ (c .before .before .descend2 .ensures)
 
 pub +descend-spec : {M : Type 1} → statement M

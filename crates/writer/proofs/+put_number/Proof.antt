@@ -22,88 +22,47 @@ abbrev put-number-below : ℕ → In 1 put-number-kinds.ps
 put-number-below t =
     and 1 put-number-kinds.ps (falls 1 put-number-kinds.ps _<_ μ-put-number t) put-number.Pre
 
-put-number-add-out :
-    (t : ℕ) →
-    put-number-lts.Need-add-out
-    (put-number-below t, put-number.Post)
-    (put-number-at t)
-    put-number.Post
+-- what the call asks and promises
+abbrev put-number-claims : ℕ → put-number-lts.Claims
+put-number-claims t = (put-number-below t, put-number.Post)
+
+put-number-add-out : (t : ℕ) → put-number-lts.Need-add-out (put-number-claims t) (put-number-at t) put-number.Post
 put-number-add-out t c = omega arith
 
-put-number-cast-out :
-    (t : ℕ) →
-    put-number-lts.Need-cast-out
-    (put-number-below t, put-number.Post)
-    (put-number-at t)
-    put-number.Post
+put-number-cast-out : (t : ℕ) → put-number-lts.Need-cast-out (put-number-claims t) (put-number-at t) put-number.Post
 put-number-cast-out t c = omega arith
 
-put-number-slice-write-out : (t : ℕ) → put-number-lts.Need-slice-write-out (
-  put-number-below t,
-  put-number.Post,
-) (put-number-at t) put-number.Post
+put-number-slice-write-out : (t : ℕ) → put-number-lts.Need-slice-write-out (put-number-claims t) (put-number-at t) put-number.Post
 put-number-slice-write-out t c = omega arith
 
-put-number-add-result : (t : ℕ) → put-number-lts.Need-add-result (
-  put-number-below t,
-  put-number.Post,
-) (put-number-at t) put-number.Post
+put-number-add-result : (t : ℕ) → put-number-lts.Need-add-result (put-number-claims t) (put-number-at t) put-number.Post
 put-number-add-result t c = omega arith
 
-put-number-same-length : (t : ℕ) → put-number-lts.Need-same-length (
-  put-number-below t,
-  put-number.Post,
-) (put-number-at t) put-number.Post
+put-number-same-length : (t : ℕ) → put-number-lts.Need-same-length (put-number-claims t) (put-number-at t) put-number.Post
 put-number-same-length t c = search needs
 
-put-number-returns :
-    (t : ℕ) →
-    put-number-lts.Need-returns
-    (put-number-below t, put-number.Post)
-    (put-number-at t)
-    put-number.Post
+put-number-returns : (t : ℕ) → put-number-lts.Need-returns (put-number-claims t) (put-number-at t) put-number.Post
 put-number-returns t c = put-small _ _ _ (omega arith) (c .if1 .taken)
 
-put-number-put-number-requires : (t : ℕ) → put-number-lts.Need-put-number-requires (
-  put-number-below t,
-  put-number.Post,
-) (put-number-at t) put-number.Post
+put-number-put-number-requires : (t : ℕ) → put-number-lts.Need-put-number-requires (put-number-claims t) (put-number-at t) put-number.Post
 put-number-put-number-requires t c κs = omega arith
 
-put-number-add-out-2 : (t : ℕ) → put-number-lts.Need-add-out-2 (
-  put-number-below t,
-  put-number.Post,
-) (put-number-at t) put-number.Post
+put-number-add-out-2 : (t : ℕ) → put-number-lts.Need-add-out-2 (put-number-claims t) (put-number-at t) put-number.Post
 put-number-add-out-2 t c = omega arith
 
-put-number-cast-out-2 : (t : ℕ) → put-number-lts.Need-cast-out-2 (
-  put-number-below t,
-  put-number.Post,
-) (put-number-at t) put-number.Post
+put-number-cast-out-2 : (t : ℕ) → put-number-lts.Need-cast-out-2 (put-number-claims t) (put-number-at t) put-number.Post
 put-number-cast-out-2 t c = omega arith
 
-put-number-slice-write-out-2 : (t : ℕ) → put-number-lts.Need-slice-write-out-2 (
-  put-number-below t,
-  put-number.Post,
-) (put-number-at t) put-number.Post
+put-number-slice-write-out-2 : (t : ℕ) → put-number-lts.Need-slice-write-out-2 (put-number-claims t) (put-number-at t) put-number.Post
 put-number-slice-write-out-2 t c = omega (arith, large-inside _ _ _ (omega arith) (c .before .before .before .before .if1 .left) (omega arith) _ _ (c .before .before .put-number .ensures))
 
-put-number-add-result-2 : (t : ℕ) → put-number-lts.Need-add-result-2 (
-  put-number-below t,
-  put-number.Post,
-) (put-number-at t) put-number.Post
+put-number-add-result-2 : (t : ℕ) → put-number-lts.Need-add-result-2 (put-number-claims t) (put-number-at t) put-number.Post
 put-number-add-result-2 t c = omega (arith, large-inside _ _ _ (omega arith) (c .before .before .before .before .if1 .left) (omega arith) _ _ (c .before .before .put-number .ensures))
 
-put-number-same-length-2 : (t : ℕ) → put-number-lts.Need-same-length-2 (
-  put-number-below t,
-  put-number.Post,
-) (put-number-at t) put-number.Post
+put-number-same-length-2 : (t : ℕ) → put-number-lts.Need-same-length-2 (put-number-claims t) (put-number-at t) put-number.Post
 put-number-same-length-2 t c = search needs
 
-put-number-returns-2 : (t : ℕ) → put-number-lts.Need-returns-2 (
-  put-number-below t,
-  put-number.Post,
-) (put-number-at t) put-number.Post
+put-number-returns-2 : (t : ℕ) → put-number-lts.Need-returns-2 (put-number-claims t) (put-number-at t) put-number.Post
 put-number-returns-2 t c = put-large _ _ _ (omega arith) (c .before .before .before .before .if1 .left) (omega arith) _ _ (c .before .before .put-number .ensures)
 
 pub +put-number-spec : {M : Type 1} → statement M
