@@ -11,6 +11,7 @@ import argparse
 import os
 import sys
 
+import check_classical
 import check_figures
 import check_identities
 import check_refusals
@@ -24,6 +25,7 @@ PARTS = (
     check_wrong_variants,
     check_refusals,
     check_texts,
+    check_classical,
     check_identities,
 )
 

@@ -1,24 +1,20 @@
-"""Identities and second ways, on random and classical families.
+"""Identities and second ways, on random families and on the greatest.
 
 Sizes run over the ends of the tree's levels; moduli are prime, composite and
 powers of two. Every size meets at least one modulus of each kind.
 """
 
 from dataclasses import replace
-from fractions import Fraction
-from math import comb, factorial, gcd
+from math import gcd
 
 import curves
 import second_ways
 from families import (
-    CLASSICAL,
     COMPOSITES,
     OTHER_SIZES,
     POWERS_OF_TWO,
     PRIMES,
     SIZES,
-    classical_family,
-    classical_row,
     greatest_family,
     random_curve,
     random_family,
@@ -27,20 +23,6 @@ from families import (
 
 ROUNDS_SHORT, ROUNDS_LONG = 8, 2
 LARGE_PRIME = 2147483647
-
-
-def even_moment(value):
-    """A sequence of moments whose odd ones are zero."""
-    return lambda k: value(k // 2) if k % 2 == 0 else Fraction(0)
-
-
-CLASSICAL_MOMENTS = {
-    "Chebyshev T": even_moment(lambda h: Fraction(comb(2 * h, h), 4**h)),
-    "Chebyshev U": even_moment(lambda h: Fraction(comb(2 * h, h), 2 * (h + 1) * 4**h)),
-    "Legendre": even_moment(lambda h: Fraction(1, 2 * h + 1)),
-    "Laguerre": lambda k: Fraction(-factorial(k)),
-    "Hermite": even_moment(lambda h: Fraction(factorial(2 * h), 2 * 4**h * factorial(h))),
-}
 
 
 def inner(left, right, modulus):
@@ -144,18 +126,6 @@ def check_orthogonal(tally, family):
             tally.equal("orthogonal", (family, i, j), (expected, expected), (by_moments, by_norms))
 
 
-def check_classical(tally, name, row_count):
-    """The moments of a classical family, its own next row closing it."""
-    family = classical_family(name, LARGE_PRIME, row_count, 1)
-    closing = classical_row(name, LARGE_PRIME, row_count + 1)
-    known = [CLASSICAL_MOMENTS[name](k) for k in range(2 * row_count + 1)]
-    expected = [
-        curves.divide(moment.numerator % LARGE_PRIME, moment.denominator % LARGE_PRIME, LARGE_PRIME)
-        for moment in known
-    ]
-    tally.equal("classical", (name, row_count), expected, curves.moments(family, closing))
-
-
 def check_family(tally, source, family):
     """All identities on one family, with the paper's closing row and another."""
     modulus = family.modulus
@@ -181,6 +151,3 @@ def check(tally, source):
                     check_orthogonal(tally, family)
     for row_count in (0, 1, 2, 127):
         check_family(tally, source, greatest_family(LARGE_PRIME, row_count))
-    for name in CLASSICAL:
-        for row_count in (0, 1, 2, 3, 8, 15, 127):
-            check_classical(tally, name, row_count)

@@ -1,9 +1,4 @@
-"""Families and curves to try: random, greatest and classical ones.
-
-The classical families are scaled to whole numbers, F_i being i! times the
-usual polynomial for Legendre and Laguerre. Their c_1 multiplies F_{-1} = 0
-and is free, so it is an argument.
-"""
+"""Families and curves to try: random and greatest ones, and their sizes and moduli."""
 
 from math import gcd
 
@@ -15,14 +10,6 @@ PRIMES = (2, 3, 5, 7, 257, 65537, 1000003, 2147483629, 2147483647)
 COMPOSITES = (6, 15, 1001, 1000000, 2147483645, 2147483646)
 POWERS_OF_TWO = (4, 8, 1024, 2**30)
 MODULI = PRIMES + COMPOSITES + POWERS_OF_TWO
-
-CLASSICAL = {
-    "Chebyshev T": lambda i: (1 if i == 1 else 2, 0, -1),
-    "Chebyshev U": lambda i: (2, 0, -1),
-    "Legendre": lambda i: (2 * i - 1, 0, -((i - 1) ** 2)),
-    "Laguerre": lambda i: (-1, 2 * i - 1, -((i - 1) ** 2)),
-    "Hermite": lambda i: (2, 0, -2 * (i - 1)),
-}
 
 
 def random_unit(source, modulus):
@@ -51,15 +38,3 @@ def random_curve(source, modulus, length):
 def greatest_family(modulus, row_count):
     """The accepted family whose entries are all as great as they may be."""
     return Family(modulus, *((modulus - 1,) * row_count for _ in range(3)))
-
-
-def classical_row(name, prime, i):
-    """Row i of a classical family modulo a prime."""
-    return tuple(factor % prime for factor in CLASSICAL[name](i))
-
-
-def classical_family(name, prime, row_count, first_c):
-    """The first rows of a classical family, with c_1 as stated."""
-    rows = [classical_row(name, prime, i) for i in range(1, row_count + 1)]
-    a, b, c = (tuple(row[place] for row in rows) for place in range(3))
-    return Family(prime, a, b, (first_c, *c[1:]) if row_count else ())

@@ -9,14 +9,14 @@ from dataclasses import replace
 from itertools import combinations
 
 import cases
+import classical
 import faults
 from cases import family_case, inverse_case
+from classical import classical_family, least_prime
 from families import (
-    CLASSICAL,
     MODULI,
     OTHER_SIZES,
     SIZES,
-    classical_family,
     greatest_family,
     random_curve,
     random_family,
@@ -67,19 +67,30 @@ def greatest_families():
 
 
 def classical_families(first_c):
-    """The five classical families with a stated c_1, modulo primes."""
-    for name in CLASSICAL:
+    """The classical families with a stated c_1, modulo three primes and the least one."""
+    for name in classical.ROWS:
         for prime, sizes in (
             (257, (1, 2, 5, 127)),
-            (65537, (3, 8, 16)),
-            (2147483647, (1, 4, 12)),
+            (65537, (3, 8, 16, 64)),
+            (2147483647, (1, 4, 12, 127)),
         ):
             for row_count in sizes:
                 yield classical_family(name, prime, row_count, first_c)
+        for row_count in (1, 2, 3, 6, 33, 127):
+            yield classical_family(name, least_prime(name, row_count), row_count, first_c)
+
+
+def unit_curves(family):
+    """For each place the curve with 1 there and 0 elsewhere."""
+    for place in range(family.n):
+        yield tuple(int(place == other) for other in range(family.n))
 
 
 def accepted_cases(source, call):
-    """Accepted calls: random, greatest, classical, and special curves."""
+    """Accepted calls: random, greatest, classical, and special curves.
+
+    Expand turns the unit curves on a classical family into its polynomials.
+    """
     for family in (*sized_families(source), *short_families(source)):
         yield family_case(call, family, random_curve(source, family.modulus, family.n))
     for family in greatest_families():
@@ -90,15 +101,19 @@ def accepted_cases(source, call):
         for row_count in (0, 1, 2, 3, 6):
             family = random_family(source, 1001, row_count)
             yield family_case(call, family, (0,) * family.n)
-            for place in range(family.n):
-                yield family_case(call, family, (0,) * place + (1,) + (0,) * (row_count - place))
+            for curve in unit_curves(family):
+                yield family_case(call, family, curve)
+        for name in classical.ROWS:
+            family = classical_family(name, 257, 5, 1)
+            for curve in unit_curves(family):
+                yield family_case(call, family, curve)
 
 
 def story_cases(source, call):
     """One factor that is zero, that is m, or that shares a factor with m.
 
     In a and in c, at the first, a middle and the last row; the classical
-    families with their own c_1 = 0 as well, and Legendre's where 2i - 1 is m.
+    families with c_1 = 0 as well, and Legendre's where 2i - 1 is m.
     """
     for modulus, row_count in STORY_BASES:
         case = accepted_case(source, call, modulus, row_count)
@@ -113,8 +128,9 @@ def story_cases(source, call):
         if len(family.a) < 40:
             yield family_case(call, family, random_curve(source, family.modulus, family.n))
     for prime in (3, 7, 13):
-        family = classical_family("Legendre", prime, prime, 1)
-        yield family_case(call, family, random_curve(source, prime, family.n))
+        for name, row_count in (("Legendre", (prime + 1) // 2), ("Legendre times i!", prime)):
+            family = classical_family(name, prime, row_count, 1)
+            yield family_case(call, family, random_curve(source, prime, family.n))
 
 
 def accepted_case(source, call, modulus, row_count):

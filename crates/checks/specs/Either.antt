@@ -13,7 +13,3 @@ or-left false t e = or-left-not t e
 pub or-right : (s t : Bool) → t ≡ true → (s || t) ≡ true
 or-right true t e = refl
 or-right false t e = e
-
-pub or-false : (s t : Bool) → s ≡ false → t ≡ false → (s || t) ≡ false
-or-false true t p q = p
-or-false false t p q = q

@@ -6,8 +6,8 @@ use mathlib.Core.List.{List, [], _∷_}
 use Prim.Native.Nat.{ℕ}
 use Rattle.definitions.specs.Family.{Family, family}
 use Rattle.definitions.specs.Refusals.{Verdict, finished, refused, verdict, some, notBelow, noInverse, entriesTest, aInverseTest, cInverseTest}
-use Rattle.theory.specs.Verdicts.{verdict-here, verdict-next, some-true}
-use Rattle.checks.specs.Either.{or-left, or-right, or-false}
+use Rattle.theory.specs.Verdicts.{verdict-here, verdict-next, some-true, or-false}
+use Rattle.checks.specs.Either.{or-left, or-right}
 use Rattle.checks.specs.Groups.{rowTests}
 use Rattle.checks.specs.Passes.{First, BelowAnswer, FactorAnswer}
 use Rattle.checks.specs.declared.Entries.{Entries}
@@ -59,7 +59,7 @@ module _ (m : ℕ) (a b c : List ℕ) where
     past-entries : rows ≡ verdict (aInverseTest f ∷ cInverseTest f ∷ []) []
     unfolding rowTests entriesTest
     past-entries = verdict-next (entriesTest f) (aInverseTest f ∷ cInverseTest f ∷ []) []
-        (or-false (some (notBelow m) a || some (notBelow m) b) (some (notBelow m) c) (or-false (some (notBelow m) a) (some (notBelow m) b) aBelow bBelow) cBelow)
+        (or-false (some (notBelow m) a || some (notBelow m) b) (some (notBelow m) c) .1 (or-false (some (notBelow m) a) (some (notBelow m) b) .1 (aBelow, bBelow), cBelow))
 
     pub a-without : some (noInverse m) a ≡ true → refused 10 ≡ rows
     unfolding aInverseTest

@@ -10,14 +10,10 @@ use Rattle.definitions.specs.Answers.{answered}
 use Rattle.definitions.specs.declared.Answer.{Answer}
 use Rattle.definitions.specs.Family.{greatestModulus, mostRows}
 use Rattle.definitions.specs.Refusals.{Test, Verdict, test, finished, refused, verdict, differ, workLength, modulusTest, outputTest, workTest}
-use Rattle.theory.specs.Verdicts.{None, verdict-here, verdict-next}
+use Rattle.theory.specs.Verdicts.{None, verdict-here, verdict-next, differ-false, or-false}
 use Rattle.checks.specs.Calls.{check-refuses, check-passes}
-use Rattle.checks.specs.Either.{or-right, or-false}
+use Rattle.checks.specs.Either.{or-right}
 use Rattle.checks.specs.Groups.{shapeTests, lengthTests}
-
-differ-same : (x y : ℕ) → x ≡ y → differ x y ≡ false
-unfolding differ
-differ-same x y e = rw (eq-eqb x y e)
 
 pub differ-other : (x y : ℕ) → (x ≡ y → ⊥) → differ x y ≡ true
 unfolding differ
@@ -35,7 +31,7 @@ module _ (m : ℕ) where
 
   pub modulus-fits : 2 ≤ m → m ≤ greatestModulus → finished [] ≡ verdict (modulusTest m ∷ []) []
   unfolding modulusTest verdict
-  modulus-fits low high = sym (verdict-next (modulusTest m) [] [] (or-false (ltb m 2) (ltb greatestModulus m) (le-ltb m 2 low) (le-ltb greatestModulus m high)))
+  modulus-fits low high = sym (verdict-next (modulusTest m) [] [] (or-false (ltb m 2) (ltb greatestModulus m) .1 (le-ltb m 2 low, le-ltb greatestModulus m high)))
 
 -- ---- 3, 4, 5, of which the first is a check of its own
 module _ (m a b c : ℕ) (range : Answer) (e : answered range ≡ verdict (modulusTest m ∷ []) []) where
@@ -66,7 +62,7 @@ module _ (m a b c : ℕ) (range : Answer) (e : answered range ≡ verdict (modul
     module _ (bCount : b ≡ a) (cCount : c ≡ a) where
       past-counts : shape ≡ verdict (rowsTest ∷ []) []
       past-counts =
-          past-modulus ∙ verdict-next countsTest (rowsTest ∷ []) [] (or-false (differ b a) (differ c a) (differ-same b a bCount) (differ-same c a cCount))
+          past-modulus ∙ verdict-next countsTest (rowsTest ∷ []) [] (or-false (differ b a) (differ c a) .1 (differ-false b a .1 bCount, differ-false c a .1 cCount))
 
       pub rows-many : mostRows < a → refused 5 ≡ shape
       rows-many h = sym (past-counts ∙ verdict-here rowsTest [] [] (lt-ltb mostRows a h))
@@ -83,7 +79,7 @@ module _ (wanted output : ℕ) where
 
   pub output-passes : output ≡ wanted → finished [] ≡ verdict (outputTest wanted output ∷ []) []
   unfolding outputTest verdict
-  output-passes e = sym (verdict-next (outputTest wanted output) [] [] (differ-same output wanted e))
+  output-passes e = sym (verdict-next (outputTest wanted output) [] [] (differ-false output wanted .1 e))
 
   pub curve-other : (curve : ℕ) → (curve ≡ wanted → ⊥) → refused 6 ≡ verdict (lengthTests wanted curve output) []
   unfolding lengthTests
@@ -91,7 +87,7 @@ module _ (wanted output : ℕ) where
 
   pub curve-passes : (curve : ℕ) → curve ≡ wanted → verdict (lengthTests wanted curve output) [] ≡ verdict (outputTest wanted output ∷ []) []
   unfolding lengthTests
-  curve-passes curve e = verdict-next (test 6 (differ curve wanted)) (outputTest wanted output ∷ []) [] (differ-same curve wanted e)
+  curve-passes curve e = verdict-next (test 6 (differ curve wanted)) (outputTest wanted output ∷ []) [] (differ-false curve wanted .1 e)
 
 pub work-short : (work : ℕ) → work < workLength → refused 8 ≡ verdict (workTest work ∷ []) []
 unfolding workTest
@@ -101,7 +97,9 @@ pub work-passes : (work : ℕ) → workLength ≤ work → finished [] ≡ verdi
 unfolding workTest verdict
 work-passes work h = sym (verdict-next (workTest work) [] [] (le-ltb work workLength h))
 
--- what passing says of the rows
-pub shape-rows : (m a b c : ℕ) → None (shapeTests m a b c) → a ≤ mostRows
+-- what passing says of the counts
+pub shape-counts : (m a b c : ℕ) → None (shapeTests m a b c) → (b ≡ a) × (c ≡ a) × (a ≤ mostRows)
 unfolding shapeTests
-shape-rows m a b c n = ltb-false mostRows a (n .1 .1 .0)
+shape-counts m a b c n =
+    let even = or-false (differ b a) (differ c a) .0 (n .1 .0) in
+    (differ-false b a .0 (even .0), differ-false c a .0 (even .1), ltb-false mostRows a (n .1 .1 .0))

@@ -50,8 +50,8 @@ fn answer(
     let rows = a.count;
     let entries = curve.count;
     let xs = loaded(text, a.at, rows);
-    let ys = loaded(text, b.at, rows);
-    let zs = loaded(text, c.at, rows);
+    let ys = loaded(text, b.at, b.count);
+    let zs = loaded(text, c.at, c.count);
     let us = loaded(text, curve.at, entries);
     let mut list = [0u32; 255];
     let count = operations::result_count(operation, rows);

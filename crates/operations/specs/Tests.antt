@@ -2,23 +2,25 @@
 --   curveCount, resultCount   how many numbers an operation takes, and hands out, on a family of r rows
 --   sizeTests                 3 to 8: the modulus and the lengths, before a list is loaded
 --   valueTests f u            9 to 12: the entries
--- Proved: a job's tests are these two parts (job-tests); what `sizes` answers at each place where it does. Assumes nothing.
-use mathlib.Core.Path.{_≡_, refl, sym, _∙_, ap}
+--   Fits                      what the counts and lengths are when sizeTests pass
+-- Proved: a job's tests are these two parts (job-tests); what `sizes` answers at each place where it does, and what its passing
+-- means; bounds of the counts. Assumes nothing.
 use mathlib.Core.List.{List, [], _∷_, _++_}
-use Prim.Native.Nat.{ℕ, suc, _*_, _-_, _<_, _≤_}
+use mathlib.Core.Path.{_≡_, refl, sym, _∙_}
+use Prim.Native.Nat.{ℕ, suc, _+_, _*_, _-_, _<_, _≤_}
+use native.Mathlib.Omega.{arith}
 use lib.ListN.{length}
-use borrow.Author.Tests.{lt-ltb, le-ltb}
+use borrow.Author.Tests.{lt-ltb, le-ltb, ltb-false}
 use Rattle.definitions.specs.Answers.{answered}
 use Rattle.definitions.specs.Family.{Family, mostRows}
-use Rattle.definitions.specs.Refusals.{Test, Verdict, test, refused, verdict, differ, lengthsTest, rowCountTest, curveLengthTest, workTest, curveEntriesTest}
-use Rattle.definitions.specs.Text.{Job}
+use Rattle.definitions.specs.Refusals.{Test, Verdict, test, refused, verdict, differ, workLength, lengthsTest, rowCountTest, curveLengthTest, workTest, curveEntriesTest}
 use Rattle.definitions.specs.TextCall.{textOutputLength, emptyCurveTest, curveTest, textOutputTest, jobTests}
 use Rattle.definitions.specs.declared.Answer.{Answer}
 use Rattle.definitions.specs.declared.Operation.{Operation}
-use Rattle.theory.specs.Verdicts.{verdict-here, verdict-next, differ-false}
+use Rattle.theory.specs.Verdicts.{None, none-append, verdict-here, verdict-next, differ-false, work-passes}
 use Rattle.checks.specs.Calls.{check-none, check-refuses, check-passes}
-use Rattle.checks.specs.Groups.{shapeTests, shapeOf, rowTests}
-use Rattle.checks.specs.Shape.{differ-other, shape-rows}
+use Rattle.checks.specs.Groups.{shapeTests, rowTests}
+use Rattle.checks.specs.Shape.{differ-other, shape-counts}
 
 unfoldable pub curveCount : Operation → ℕ → ℕ
 curveCount Operation.Expand r = suc r
@@ -57,6 +59,9 @@ job-tests f Operation.Moments u output work = refl
 job-tests f Operation.Norms u output work = refl
 
 -- ---- what `sizes` answers
+pub few-rows : (m a b c : ℕ) (shape : Answer) → answered shape ≡ verdict (shapeTests m a b c) [] → shape ≡ Answer.Finished → a ≤ mostRows
+few-rows m a b c shape e q = shape-counts m a b c (check-none shape (shapeTests m a b c) e q) .2
+
 module _ (m : ℕ) (operation : Operation) (a b c u output work : ℕ) (shape : Answer) (e : answered shape ≡ verdict (shapeTests m a b c) []) where
   abbrev whole : Verdict
   whole = verdict (sizeTests m operation a b c u output work) []
@@ -73,9 +78,6 @@ module _ (m : ℕ) (operation : Operation) (a b c u output work : ℕ) (shape : 
     unfolding sizeTests
     past-shape = sym (check-passes shape (shapeTests m a b c) e (lentTests operation a u output work) q)
 
-    pub few-rows : a ≤ mostRows
-    few-rows = shape-rows m a b c (check-none shape (shapeTests m a b c) e q)
-
     pub curve-refused : (u ≡ curveCount operation a → ⊥) → refused 6 ≡ whole
     curve-refused n = sym (past-shape ∙ verdict-here curveTest′ (textOutputTest output ∷ workTest work ∷ []) [] (differ-other u (curveCount operation a) n))
 
@@ -91,3 +93,42 @@ module _ (m : ℕ) (operation : Operation) (a b c u output work : ℕ) (shape : 
       unfolding textOutputTest
       work-settles h r q =
           q ∙ sym (past-curve ∙ verdict-next (textOutputTest output) (workTest work ∷ []) [] (le-ltb output textOutputLength h))
+
+-- ---- what it means that they pass
+pub record Fits (operation : Operation) (a b c u output work : ℕ) : Type 0 where
+  pub bRows : b ≡ a
+  pub cRows : c ≡ a
+  pub few : a ≤ mostRows
+  pub curve : u ≡ curveCount operation a
+  pub text : textOutputLength ≤ output
+  pub room : workLength ≤ work
+
+pub sizes-fit : (m : ℕ) (operation : Operation) (a b c u output work : ℕ) → None (sizeTests m operation a b c u output work) → Fits operation a b c u output work
+unfolding sizeTests textOutputTest
+sizes-fit m operation a b c u output work n =
+    let parts = none-append (shapeTests m a b c) (lentTests operation a u output work) .0 n in
+    let counts = shape-counts m a b c (parts .0) in
+    record {
+      bRows = counts .0;
+      cRows = counts .1;
+      few = counts .2;
+      curve = differ-false u (curveCount operation a) .0 (parts .1 .0);
+      text = ltb-false output textOutputLength (parts .1 .1 .0);
+      room = work-passes work .0 (parts .1 .1 .1 .0);
+    }
+
+pub curve-few : (operation : Operation) (r : ℕ) → curveCount operation r ≤ suc r
+unfolding curveCount
+curve-few Operation.Expand r = omega arith
+curve-few Operation.Adjoint r = omega arith
+curve-few Operation.Decompose r = omega arith
+curve-few Operation.Moments r = omega arith
+curve-few Operation.Norms r = omega arith
+
+pub result-few : (operation : Operation) (r : ℕ) → resultCount operation r ≤ 2 * r + 1
+unfolding resultCount
+result-few Operation.Expand r = omega arith
+result-few Operation.Adjoint r = omega arith
+result-few Operation.Decompose r = omega arith
+result-few Operation.Moments r = omega arith
+result-few Operation.Norms r = omega arith

@@ -34,7 +34,7 @@ pub convertible-decomposable : (f : Family) → Convertible f → Decomposable f
 convertible-decomposable f c = record { modulus = c .modulus; aInverse = λ i h. c .aInverse i (omega arith) }
 
 -- ---- Decompose answers a curve, whatever the family
-decomposeBelow-length : (f : Family) (k : ℕ) (p : List ℕ) → length (decomposeBelow f k p) ≡ k
+pub decomposeBelow-length : (f : Family) (k : ℕ) (p : List ℕ) → length (decomposeBelow f k p) ≡ k
 unfolding decomposeBelow
 decomposeBelow-length f zero p = refl
 decomposeBelow-length f (suc k) p = snoc-length (decomposeBelow f k (lessTop f k (top f k p) p)) (top f k p)

@@ -123,7 +123,7 @@ module _ (m : ℕ) (xs : List ℕ) (d : ℕ) where
   some-noInverse-false h = simp (some-false (noInverse m) xs d, noInverse-false) Iff·rfl
 
 -- of each test, what it is that it does not hold
-or-false : (s t : Bool) → ((s || t) ≡ false) ↔ ((s ≡ false) × (t ≡ false))
+pub or-false : (s t : Bool) → ((s || t) ≡ false) ↔ ((s ≡ false) × (t ≡ false))
 or-false true t = (λ e. absurd (true≢false e), λ p. absurd (true≢false (p .0)))
 or-false false t = (λ e. (refl, e), λ p. p .1)
 

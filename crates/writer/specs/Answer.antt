@@ -1,6 +1,6 @@
 -- The answer text put into an output.
 --   Room out xs                              the output has the 4,096 bytes that an answer is lent, and the list at most 255 numbers
---   AnswerWritten operation xs r old new     r is the length of the answer text, and new is that text and then what old held
+--   AnswerWritten operation xs r old new     r is the length of the answer text, at most 4,096, and new is that text and then what old held
 -- Proved: the line of each operation; the whole text from its four parts. Assumes nothing.
 use mathlib.Core.Path.{_≡_, sym, _∙_, ap}
 use mathlib.Core.List.{List, [], _∷_, _++_, append-assoc}
@@ -20,6 +20,7 @@ pub record Room (out xs : List ℕ) : Type 0 where
 
 pub record AnswerWritten (operation : Operation) (xs : List ℕ) (r : ℕ) (old new : List ℕ) : Type 0 where
   pub answer : r ≡ length (answerText operation xs)
+  pub short : r ≤ textOutputLength
   pub written : new ≡ answerText operation xs ++ drop r old
 
 pub put-named : (old new : List ℕ) (next : ℕ) (operation o : Operation) → operation ≡ o
@@ -58,4 +59,8 @@ module _ (old : List ℕ) (operation : Operation) (xs : List ℕ) (room : Room o
       let q = put-then old 0 _ (17 + 11 * length xs) out₃ at₃ allNumbers (newline ∷ []) 1 _ _ (omega (arith, room .long, room .few)) (put-one out₃ at₃ newline last-fits) in
       let r = put-as old 0 _ _ _ _ q (answerText operation xs) (18 + 11 * length xs) (answer-parts operation xs) (omega arith) in
       let place : at₃ + 1 ≡ length (answerText operation xs) = omega (arith, r .place) in
-      record { answer = place; written = r .stored ∙ over-front old (answerText operation xs) ∙ ap (λ n. answerText operation xs ++ drop n old) (sym place) }
+      record {
+        answer = place;
+        short = omega (arith, place, r .short, room .few);
+        written = r .stored ∙ over-front old (answerText operation xs) ∙ ap (λ n. answerText operation xs ++ drop n old) (sym place);
+      }

@@ -9,6 +9,10 @@ use native.Mathlib.Omega.{arith}
 use borrow.Author.Needs.{needs}
 use Rattle.definitions.specs.Family.{Family}
 use Rattle.definitions.specs.Refusals.{Test, finished, verdict, modulusTest, lengthsTest, rowCountTest, curveLengthTest, outputTest, workTest, entriesTest, aInverseTest, cInverseTest, curveEntriesTest, numberTest, numberInverseTest, plainTests, treeTests, momentsTests, normsTests, inverseTests}
+use Rattle.definitions.specs.Text.{Job, meant}
+use Rattle.definitions.specs.Reading.{Read, found, malformed, readJob}
+use Rattle.definitions.specs.TextCall.{textLengthTest, emptyCurveTest, curveTest, textOutputTest, jobTests, formTests, textTests}
+use Rattle.definitions.specs.declared.Operation.{Operation}
 use Rattle.theory.specs.Verdicts.{verdict-here, verdict-next}
 use Rattle.zahupnik.specs.Returned.{number}
 
@@ -47,3 +51,23 @@ norms-zero f output = zero-finished (normsTests f output) (search needs)
 pub inverse-zero : (m x : ℕ) → number (verdict (inverseTests m x) []) ≡ 0 → verdict (inverseTests m x) [] ≡ finished []
 unfolding inverseTests modulusTest numberTest numberInverseTest
 inverse-zero m x = zero-finished (inverseTests m x) (search needs)
+
+job-positive : (j : Job) (output work : ℕ) → Positive (jobTests j output work)
+unfolding jobTests modulusTest lengthsTest rowCountTest curveLengthTest emptyCurveTest curveTest textOutputTest workTest entriesTest aInverseTest cInverseTest curveEntriesTest
+job-positive j output work = by (j .operation)
+  where
+    by : (o : Operation) → Positive (jobTests (record { family = j .family; operation = o; curve = j .curve }) output work)
+    by Operation.Expand = search needs
+    by Operation.Adjoint = search needs
+    by Operation.Decompose = search needs
+    by Operation.Moments = search needs
+    by Operation.Norms = search needs
+
+form-positive : (r : Read) (output work : ℕ) → Positive (formTests r output work)
+unfolding formTests
+form-positive malformed output work = search needs
+form-positive (found w) output work = (omega arith, job-positive (meant w) output work)
+
+pub text-zero : (t : List ℕ) (output work : ℕ) → number (verdict (textTests t output work) []) ≡ 0 → verdict (textTests t output work) [] ≡ finished []
+unfolding textTests textLengthTest
+text-zero t output work = zero-finished (textTests t output work) (omega arith, form-positive (readJob t) output work)

@@ -1,14 +1,15 @@
 // The public calls for C, as include/zahupnik.h declares them: numbers and lent lists only, and each returns 0 or the refusal
 // number. None has a 'requires', and each has one 'ensures' that settles the number and what is lent on every input.
 ghost use mathlib.Core.Path.{_≡_};
-ghost use mathlib.Core.List.{[], _∷_};
-ghost use lib.ListN.{length};
+ghost use mathlib.Core.List.{[], _∷_, _++_};
+ghost use lib.ListN.{length, drop};
 ghost use Rattle.definitions.specs.Answers.{answered};
 ghost use Rattle.definitions.specs.Conversion.{expand, adjoint, decompose};
 ghost use Rattle.definitions.specs.Family.{family};
 ghost use Rattle.definitions.specs.Number as Number;
 ghost use Rattle.definitions.specs.Orthogonality.{norms, moments};
 ghost use Rattle.definitions.specs.Refusals.{plainTests, treeTests, normsTests, momentsTests, inverseTests};
+ghost use Rattle.definitions.specs.TextCall.{textTests, reply};
 ghost use Rattle.zahupnik.specs.Returned.{number, Returned, ReturnedIn};
 use definitions::Answer;
 use definitions::Valued;
@@ -151,4 +152,23 @@ pub extern "C" fn zahupnik_moments(
     ensures { λ r. ⌜ ReturnedIn (momentsTests (family m (now (a .entry)) (now (b .entry)) (now (c .entry))) (length (now (output .entry))) (length (now (work .entry)))) (moments (family m (now (a .entry)) (now (b .entry)) (now (c .entry)))) r (now (output .entry)) (now (output .exit)) (now (work .entry)) (now (work .exit)) ⌝ }
 {
     number(conversion::moments(m, a, b, c, output, work))
+}
+
+// The text call, with the length of the answer text written to the lent number. Refused as job::convert_text is.
+#[no_mangle]
+pub extern "C" fn zahupnik_convert_text(
+    text: &[u8],
+    output: &mut [u8],
+    work: &mut [u32],
+    count: &mut u32,
+) -> u32
+    ensures { λ r. ⌜ ReturnedIn (textTests (now (text .entry)) (length (now (output .entry))) (length (now (work .entry)))) (reply (now (text .entry)) ++ drop (length (reply (now (text .entry)))) (now (output .entry))) r (now (output .entry)) (now (output .exit)) (now (work .entry)) (now (work .exit)) × Returned (textTests (now (text .entry)) (length (now (output .entry))) (length (now (work .entry)))) (length (reply (now (text .entry))) ∷ []) r (now (count .entry) ∷ []) (now (count .exit) ∷ []) ⌝ }
+{
+    match job::convert_text(text, output, work) {
+        Valued::Value(bytes) => {
+            *count = bytes;
+            0
+        }
+        Valued::Refused(k) => k,
+    }
 }

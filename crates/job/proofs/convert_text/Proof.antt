@@ -1,0 +1,68 @@
+-- `convert_text` meets its promise: at each test its verdict, and past them that of the job. Assumes nothing.
+use mathlib.Core.Path.{subst}
+use Rattle.reader.specs.Form.{Formed}
+use Rattle.job.specs.Texts.{too-long, no-form, sizes-refused, sizes-passed}
+use borrow.Author.Needs.{needs}
+use Rattle.job.proofs.convert_text.Statement.{statement}
+use Rattle.job.proofs.convert_text.Tie as tie
+
+returns : tie.Need-returns
+returns c = too-long _ _ _ (c .if1 .taken)
+
+job-form-requires : tie.Need-job-form-requires
+job-form-requires c κs = search needs
+
+enum-known-modulus : tie.Need-enum-known-modulus
+enum-known-modulus c = search needs
+
+enum-told : tie.Need-enum-told
+enum-told c = search needs
+
+returns-2 : tie.Need-returns-2
+returns-2 c = no-form _ _ _ (c .before .before .before .if1 .left) (subst (Formed _) (c .enum-told .given .1) (c .before .before .job-form .ensures))
+
+sizes-requires : tie.Need-sizes-requires
+sizes-requires c κs = search needs
+
+enum-told-2 : tie.Need-enum-told-2
+enum-told-2 c = search needs
+
+enum-told-3 : tie.Need-enum-told-3
+enum-told-3 c = search needs
+
+with-length-requires : tie.Need-with-length-requires
+with-length-requires c κs = search needs
+
+returns-3 : tie.Need-returns-3
+returns-3 c = sizes-refused _ _ _ _ _ _ _ _ _ (c .before .before .before .before .before .before .before .before .if1 .left) (subst (Formed _) (c .before .before .before .before .before .modulus .given .1) (c .before .before .before .before .before .before .before .job-form .ensures)) _ (c .before .before .before .sizes .ensures) _ (c .before .enum-told3 .given .1) _ (c .with-length .ensures)
+
+answer-requires : tie.Need-answer-requires
+answer-requires c κs = sizes-passed _ _ _ _ _ _ _ _ _ (c .before .before .before .before .before .before .before .before .before .if1 .left) (subst (Formed _) (c .before .before .before .before .before .before .modulus .given .1) (c .before .before .before .before .before .before .before .before .job-form .ensures)) _ (c .before .before .before .before .sizes .ensures) (c .before .before .enum-told2 .given .1)
+
+same-length : tie.Need-same-length
+same-length c = search needs
+
+same-length-2 : tie.Need-same-length-2
+same-length-2 c = search needs
+
+returns-4 : tie.Need-returns-4
+returns-4 c = search needs
+
+pub convert-text-spec : {M : Type 1} → statement M
+convert-text-spec =
+    tie.close
+    (tie.spec
+    returns
+    job-form-requires
+    enum-known-modulus
+    enum-told
+    returns-2
+    sizes-requires
+    enum-told-2
+    enum-told-3
+    with-length-requires
+    returns-3
+    answer-requires
+    same-length
+    same-length-2
+    returns-4)

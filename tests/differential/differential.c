@@ -1,0 +1,169 @@
+/* Holds the library against a separate implementation of the scope paper (model.h) on random cases of every call.
+ *
+ * usage: differential [CASES [SEED [FIRST]]]
+ *
+ * Compares the number returned, all that a call writes, and that it writes nothing else (trial.h). Prints how often each call
+ * gave each answer and exits 0; shows the first case that differs and exits 1. It exits 1 too if some call never gave one of
+ * the answers that it can give, unless FIRST, the number of the first case, is stated. Bad arguments exit with 2.
+ */
+#include <inttypes.h>
+#include <stdio.h>
+#include <stdlib.h>
+
+#include "cases.h"
+#include "text.h"
+#include "trial.h"
+#include "zahupnik.h"
+
+static const uint64_t CASES = 1000000, SEED = 20240229;
+
+enum { ANSWERS = 14 };
+
+/* A call by its name in the header without zahupnik_, which answers it can give, how it is run on lists, how often it gave each
+ * answer, and whether it finished with so many rows. The text call is not run on lists. */
+struct call {
+    const char *name;
+    const char *answers;
+    enum operation operation;
+    enum way way;
+    uint32_t (*run)(const struct lent *x, uint32_t *output, uint32_t *work);
+    unsigned long met[ANSWERS];
+    bool finished[MOST_ROWS + 1];
+};
+
+#define LIST(list) x->list.entries, x->list.length
+#define FAMILY x->m, LIST(a), LIST(b), LIST(c)
+#define OUTPUT output, x->output_length
+#define WORK work, x->work_length
+#define RUN(name, ...)                                                             \
+    static uint32_t name(const struct lent *x, uint32_t *output, uint32_t *work) { \
+        (void)work;                                                                \
+        return zahupnik_##name(__VA_ARGS__);                                       \
+    }
+RUN(invert, x->m, x->curve.entries[0], output)
+RUN(plain_expand, FAMILY, LIST(curve), OUTPUT)
+RUN(plain_adjoint, FAMILY, LIST(curve), OUTPUT)
+RUN(plain_decompose, FAMILY, LIST(curve), OUTPUT)
+RUN(norms, FAMILY, OUTPUT)
+RUN(tree_expand, FAMILY, LIST(curve), OUTPUT, WORK)
+RUN(tree_adjoint, FAMILY, LIST(curve), OUTPUT, WORK)
+RUN(tree_decompose, FAMILY, LIST(curve), OUTPUT, WORK)
+RUN(moments, FAMILY, OUTPUT, WORK)
+
+/* Answers: a sign for each number from 0 to 13, a point where the call cannot give it. */
+static struct call calls[] = {
+    {"invert", "0..3........CD", INVERSE, PLAIN, invert, {0}, {0}},
+    {"plain_expand", "0..34567.9ABC.", EXPAND, PLAIN, plain_expand, {0}, {0}},
+    {"plain_adjoint", "0..34567.9ABC.", ADJOINT, PLAIN, plain_adjoint, {0}, {0}},
+    {"plain_decompose", "0..34567.9ABC.", DECOMPOSE, PLAIN, plain_decompose, {0}, {0}},
+    {"norms", "0..345.7.9AB..", NORMS, PLAIN, norms, {0}, {0}},
+    {"tree_expand", "0..3456789ABC.", EXPAND, TREE, tree_expand, {0}, {0}},
+    {"tree_adjoint", "0..3456789ABC.", ADJOINT, TREE, tree_adjoint, {0}, {0}},
+    {"tree_decompose", "0..3456789ABC.", DECOMPOSE, TREE, tree_decompose, {0}, {0}},
+    {"moments", "0..345.789AB..", MOMENTS, TREE, moments, {0}, {0}},
+#ifdef ZAHUPNIK_TEXT_TOO_LONG
+    {.name = "convert_text", .answers = "0123456789ABC.", .run = NULL},
+#endif
+};
+enum { COUNT = sizeof calls / sizeof *calls };
+
+static bool can_give(const struct call *call, int answer) { return call->answers[answer] != '.'; }
+
+static struct list lend_list(struct trial *trial, struct random *random, const char *name, struct list list) {
+    struct lending lending = {name, sizeof(uint32_t), list.entries, list.length, NULL, 0};
+    return (struct list){lend(trial, random, lending), list.length};
+}
+
+/* Runs a random case of a call on lists and holds it against the model; the answer. */
+static uint32_t run_on_lists(const struct call *call, struct trial *trial, struct random *random) {
+    static const uint32_t zeros[LEAST_WORK];
+    uint32_t result[MOST_RESULTS], *output, *work = NULL;
+    struct lent x = make_case(random, call->operation, call->way), lent = x;
+    trial->m = &x.m;
+    trial->rows = x.a.length;
+    trial->number = refusal(&x);
+    if (trial->number == 0) hand_out(&x, result);
+    if (takes_family(&x)) {
+        lent.a = lend_list(trial, random, "a", x.a);
+        lent.b = lend_list(trial, random, "b", x.b);
+        lent.c = lend_list(trial, random, "c", x.c);
+    }
+    if (takes_curve(&x)) lent.curve = lend_list(trial, random, "curve", x.curve);
+    output = lend_numbers(trial, random, "output", x.output_length, result, result_length(&x));
+    if (takes_work(&x)) work = lend_numbers(trial, random, "working list", x.work_length, zeros, LEAST_WORK);
+    compare(trial, call->run(&lent, output, work));
+    return trial->number;
+}
+
+static void run_case(uint64_t seed, uint64_t number_of_case) {
+    struct random random = random_of_case(seed, number_of_case);
+    struct call *call = &ONE_OF(&random, calls);
+    struct trial trial = {.call = call->name, .seed = seed, .number_of_case = number_of_case};
+#ifdef ZAHUPNIK_TEXT_TOO_LONG
+    uint32_t answer = call->run ? run_on_lists(call, &trial, &random) : run_on_text(&trial, &random);
+#else
+    uint32_t answer = run_on_lists(call, &trial, &random);
+#endif
+    call->met[answer]++;
+    if (answer == 0) call->finished[trial.rows] = true;
+}
+
+/* How often each call gave each answer, and with how many different numbers of rows it finished. */
+static void print_table(void) {
+    printf("%-15s", "answer");
+    for (int answer = 0; answer < ANSWERS; answer++) printf(" %6d", answer);
+    printf("  rows\n");
+    for (size_t i = 0; i < COUNT; i++) {
+        printf("%-15s", calls[i].name);
+        for (int answer = 0; answer < ANSWERS; answer++) {
+            if (can_give(&calls[i], answer))
+                printf(" %6lu", calls[i].met[answer]);
+            else
+                printf(" %6s", "-");
+        }
+        int numbers_of_rows = 0;
+        for (int rows = 0; rows <= MOST_ROWS; rows++) numbers_of_rows += calls[i].finished[rows];
+        printf(" %5d\n", numbers_of_rows);
+    }
+}
+
+/* Whether every call gave each answer that it can give; says which is the first that was not met. */
+static bool met_all(void) {
+    for (size_t i = 0; i < COUNT; i++) {
+        for (int answer = 0; answer < ANSWERS; answer++) {
+            if (can_give(&calls[i], answer) && calls[i].met[answer] == 0) {
+                fprintf(stderr, "differential: no case of %s had the answer %d: take more cases\n", calls[i].name, answer);
+                return false;
+            }
+        }
+    }
+    return true;
+}
+
+/* An argument: a whole number in decimal that fits into 64 bits. */
+static uint64_t argument(int argc, char **argv, int place, uint64_t otherwise) {
+    uint64_t value = 0;
+    if (place >= argc) return otherwise;
+    const char *word = argv[place], *digit = word;
+    for (; *digit >= '0' && *digit <= '9' && value <= (UINT64_MAX - (uint64_t)(*digit - '0')) / 10; digit++)
+        value = value * 10 + (uint64_t)(*digit - '0');
+    if (*digit || digit == word) {
+        fprintf(stderr, "differential: '%s' is not a whole number below 2^64\n", word);
+        exit(2);
+    }
+    return value;
+}
+
+int main(int argc, char **argv) {
+    if (argc > 4) {
+        fprintf(stderr, "usage: differential [CASES [SEED [FIRST]]]\n");
+        return 2;
+    }
+    uint64_t cases = argument(argc, argv, 1, CASES), seed = argument(argc, argv, 2, SEED), first = argument(argc, argv, 3, 0);
+    prepare_trials(WORK_ROOM * sizeof(uint32_t));
+    for (uint64_t i = 0; i < cases; i++) run_case(seed, first + i);
+    print_table();
+    if (argc < 4 && !met_all()) return 1;
+    printf("differential: %" PRIu64 " cases agree, seed %" PRIu64 "\n", cases, seed);
+    return 0;
+}

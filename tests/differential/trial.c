@@ -1,0 +1,167 @@
+/* What trial.h declares. */
+#define _DEFAULT_SOURCE
+#include "trial.h"
+
+#include <inttypes.h>
+#include <signal.h>
+#include <stdio.h>
+#include <stdlib.h>
+#include <string.h>
+#include <sys/mman.h>
+#include <unistd.h>
+
+enum { ZONE = 256, ZONE_BYTE = 0xA5, DIRT_BYTES = 1 << 18 };
+
+static unsigned char *ends[MOST_LENDINGS];
+static uint32_t dirt_numbers[DIRT_BYTES / sizeof(uint32_t)];
+static unsigned char untouched[ZONE];
+static const struct trial *volatile running;
+
+static const char *plural(size_t count) { return count == 1 ? "" : "s"; }
+
+static uint32_t number_at(const void *numbers, size_t width, size_t place) {
+    return width == 1 ? ((const unsigned char *)numbers)[place] : ((const uint32_t *)numbers)[place];
+}
+
+/* A byte of a text as it is written in C, a number in decimal. */
+static void show(const void *numbers, size_t width, size_t length) {
+    for (size_t i = 0; i < length; i++) {
+        uint32_t number = number_at(numbers, width, i);
+        if (width != 1)
+            fprintf(stderr, " %" PRIu32, number);
+        else if (number == '\n')
+            fprintf(stderr, "\\n");
+        else if (number < ' ' || number > '~' || number == '\\' || number == '"')
+            fprintf(stderr, "\\%03" PRIo32, number);
+        else
+            fprintf(stderr, "%c", (int)number);
+    }
+    fprintf(stderr, "\n");
+}
+
+/* The whole case. Of what the call may write the length says enough: what it held before comes back with the seed. */
+static void show_case(const struct trial *trial) {
+    fprintf(stderr, "differential: seed %" PRIu64 ", case %" PRIu64 ": %s\n", trial->seed, trial->number_of_case, trial->call);
+    if (trial->m) fprintf(stderr, " m %" PRIu32 "\n", *trial->m);
+    for (size_t i = 0; i < trial->lendings; i++) {
+        const struct lending *x = &trial->lending[i];
+        fprintf(stderr, " %s, %zu %s%s", x->name, x->length, x->width == 1 ? "byte" : "number", plural(x->length));
+        if (x->front) {
+            fprintf(stderr, "\n");
+        } else {
+            fprintf(stderr, x->width == 1 ? ": " : ":");
+            show(x->before, x->width, x->length);
+        }
+    }
+}
+
+static void show_end(const struct trial *trial) {
+    fprintf(stderr, " to repeat it: differential 1 %" PRIu64 " %" PRIu64 "\n", trial->seed, trial->number_of_case);
+}
+
+static void on_fault(int number) {
+    (void)number;
+    if (running) {
+        show_case(running);
+        fprintf(stderr, " the library touched memory that it was not lent\n");
+        show_end(running);
+    } else {
+        fprintf(stderr, "differential: this program broke off outside the library\n");
+    }
+    _Exit(1);
+}
+
+/* Memory between two pages that nobody may touch; where it ends. */
+static unsigned char *guarded_end(size_t bytes) {
+    size_t page = (size_t)sysconf(_SC_PAGESIZE), room = (bytes + page - 1) / page * page;
+    unsigned char *pages = mmap(NULL, room + 2 * page, PROT_NONE, MAP_PRIVATE | MAP_ANONYMOUS, -1, 0);
+    if (pages == MAP_FAILED || mprotect(pages + page, room, PROT_READ | PROT_WRITE)) {
+        fprintf(stderr, "differential: no memory for the lists\n");
+        exit(1);
+    }
+    return pages + page + room;
+}
+
+void prepare_trials(size_t most_bytes) {
+    struct random random = {0};
+    for (size_t i = 0; i < MOST_LENDINGS; i++) ends[i] = guarded_end(most_bytes + ZONE);
+    for (size_t i = 0; i < sizeof dirt_numbers / sizeof *dirt_numbers; i++)
+        dirt_numbers[i] = i / 64 % 8 ? (uint32_t)next_word(&random) : UINT32_MAX;
+    memset(untouched, ZONE_BYTE, sizeof untouched);
+    signal(SIGSEGV, on_fault);
+    signal(SIGBUS, on_fault);
+}
+
+const void *dirt(struct random *random, size_t bytes) {
+    return dirt_numbers + below(random, (DIRT_BYTES - bytes) / sizeof *dirt_numbers);
+}
+
+void *lend(struct trial *trial, struct random *random, struct lending lending) {
+    size_t place = trial->lendings++, bytes = lending.length * lending.width;
+    trial->lending[place] = lending;
+    trial->at[place] = NULL;
+    if (bytes || one_in(random, 2)) {
+        trial->at[place] = ends[place] - bytes;
+        memset(trial->at[place] - ZONE, ZONE_BYTE, ZONE);
+        if (bytes) memcpy(trial->at[place], lending.before, bytes);
+    }
+    running = trial;
+    return trial->at[place];
+}
+
+uint32_t *lend_numbers(struct trial *trial, struct random *random, const char *name, size_t length, const uint32_t *front,
+                       size_t front_length) {
+    const void *before = dirt(random, length * sizeof *front);
+    return lend(trial, random, (struct lending){name, sizeof *front, before, length, front, front_length});
+}
+
+static void show_returned(const char *which, uint32_t number) {
+    fprintf(stderr, " %s: %s %" PRIu32 "\n", which, number ? "refusal" : "finished,", number);
+}
+
+/* Shows the first number that differs, and all of them if they are few enough to be read. */
+static void show_difference(const struct lending *x, const unsigned char *at, size_t front_length) {
+    size_t i = 0;
+    uint32_t expected = 0, got = 0;
+    for (; i < x->length && expected == got; i++) {
+        expected = i < front_length ? number_at(x->front, x->width, i) : number_at(x->before, x->width, i);
+        got = number_at(at, x->width, i);
+    }
+    if (expected == got) {
+        fprintf(stderr, " %s: what stands before it was written over\n", x->name);
+        return;
+    }
+    fprintf(stderr, " %s: differs first at place %zu, expected %" PRIu32 ", got %" PRIu32 "\n", x->name, i - 1, expected, got);
+    if (x->length > 6000) return;
+    fprintf(stderr, "  expected%s", x->width == 1 ? " " : "");
+    show(front_length ? x->front : x->before, x->width, front_length ? front_length : x->length);
+    fprintf(stderr, "  got%s", x->width == 1 ? " " : "");
+    show(at, x->width, front_length ? front_length : x->length);
+}
+
+static bool holds(const struct lending *x, const unsigned char *at, size_t front_length) {
+    size_t front = front_length * x->width, all = x->length * x->width;
+    if (!at) return true;
+    return memcmp(at - ZONE, untouched, ZONE) == 0 && (!front || memcmp(at, x->front, front) == 0) &&
+           (all == front || memcmp(at + front, (const unsigned char *)x->before + front, all - front) == 0);
+}
+
+void compare(const struct trial *trial, uint32_t returned) {
+    bool same = returned == trial->number;
+    running = NULL;
+    for (size_t i = 0; i < trial->lendings; i++) {
+        const struct lending *x = &trial->lending[i];
+        same = holds(x, trial->at[i], trial->number ? 0 : x->front_length) && same;
+    }
+    if (same) return;
+    show_case(trial);
+    show_returned("expected", trial->number);
+    show_returned("got", returned);
+    for (size_t i = 0; i < trial->lendings; i++) {
+        const struct lending *x = &trial->lending[i];
+        size_t front_length = trial->number ? 0 : x->front_length;
+        if (!holds(x, trial->at[i], front_length)) show_difference(x, trial->at[i], front_length);
+    }
+    show_end(trial);
+    exit(1);
+}

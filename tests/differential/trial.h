@@ -1,0 +1,56 @@
+/* One call of the library under watch: what it is lent, what it has to leave there, and what it did leave.
+ *
+ * Whatever is lent ends at a page that nobody may touch, and before it stands a zone whose bytes must not change: the library
+ * is compiled without a checker of memory.
+ */
+#ifndef TRIAL_H
+#define TRIAL_H
+
+#include <stddef.h>
+#include <stdint.h>
+
+#include "random.h"
+
+enum { MOST_LENDINGS = 6 };
+
+/* Numbers that are lent: how many, of how many bytes each, and what they are before the call. When a call has finished, the
+ * first of what it may write are those at front; the others are as before, and so are all of them when it is refused. What it
+ * may not write has no front. */
+struct lending {
+    const char *name;
+    size_t width;
+    const void *before;
+    size_t length;
+    const void *front;
+    size_t front_length;
+};
+
+/* A case of a call. Number is what it has to return; a text has no m of its own. Rows says how long its family is. */
+struct trial {
+    const char *call;
+    uint64_t seed, number_of_case;
+    const uint32_t *m;
+    uint32_t number;
+    size_t rows, lendings;
+    struct lending lending[MOST_LENDINGS];
+    unsigned char *at[MOST_LENDINGS];
+};
+
+/* To be called once, before the first trial. Any lending of a trial may take so many bytes. */
+void prepare_trials(size_t most_bytes);
+
+/* What an output or a working list of so many bytes may hold before a call; never the same for long. */
+const void *dirt(struct random *random, size_t bytes);
+
+/* Lends numbers, and returns where they are: for none of them sometimes NULL. */
+void *lend(struct trial *trial, struct random *random, struct lending lending);
+
+/* Lends 32-bit numbers that the call may write, dirty, with what a finished call leaves at their front. */
+uint32_t *lend_numbers(struct trial *trial, struct random *random, const char *name, size_t length, const uint32_t *front,
+                       size_t front_length);
+
+/* Holds the number that the call returned, and all that it was lent, against what has to be. At a difference the case is shown
+ * and the program ends with 1. It ends so too if the library touches what it may not, between the first lending and here. */
+void compare(const struct trial *trial, uint32_t returned);
+
+#endif

@@ -1,0 +1,34 @@
+# What the runs of the library from C share, to be sourced by bash in the repository's root: the compiler's words, and
+# build_library, which makes the static library. The script that sources this sets `built`, the folder for what it builds, and
+# `name`, which opens its messages.
+archive=target/staticlib/libzahupnik.a
+sanitize=('-fsanitize=address,undefined' -fno-sanitize-recover=all)
+
+fail() {
+    printf '%s: %s\n' "$name" "$*" >&2
+    exit 1
+}
+compile() { # PROGRAM SOURCES AND OTHER WORDS FOR cc..
+    cc -std=c11 -Wall -Wextra -Werror -O2 -Iinclude -o "$built/$1" "${@:2}" "$archive" || fail "$1 does not compile or link"
+}
+run() { # PROGRAM [ARGUMENTS..]
+    "$built/$1" "${@:2}" || fail "$1 ended with $?"
+}
+sanitizes() { # whether cc and this machine have the sanitizers
+    cc "${sanitize[@]}" -x c -o "$built/sanitized" - <<<'int main(void) { return 0; }' && "$built/sanitized"
+}
+functions() { # of what the header declares, or of what nm lists, the functions of zahupnik
+    sed -nE 's/^(uint32_t|.* T) (zahupnik_[a-z_]+).*/\2/p' | sort
+}
+build_library() {
+    command -v rt >/dev/null || fail "rt, the command of the Rattle kit, is not on the PATH"
+    command -v cc >/dev/null || fail "cc, a C compiler, is not on the PATH"
+    [ "$(uname -m)" = x86_64 ] || fail "the static library is for x86-64, and this machine is $(uname -m)"
+    mkdir -p "$built"
+    rt staticlib zahupnik >"$built/staticlib.log" 2>&1 || {
+        cat "$built/staticlib.log" >&2
+        fail "rt staticlib zahupnik failed"
+    }
+    diff <(functions <include/zahupnik.h) <(nm "$archive" | functions) >&2 ||
+        fail "the functions that the header declares (<) and those that the library has (>) differ"
+}
