@@ -11,7 +11,15 @@ from itertools import combinations
 import cases
 import check_texts
 import jobs
-from check_figures import P10_FAMILY, P12_FAMILY, SHOWN_JOB, R, ones, run_only_texts, text_of_length
+from check_figures import (
+    P10_FAMILY,
+    P12_FAMILY,
+    SHOWN_JOB,
+    R,
+    ones,
+    run_only_texts,
+    text_of_length,
+)
 from families import greatest_family, random_curve, random_family
 from splitmix import SplitMix64
 

@@ -28,6 +28,11 @@ def unquoted(text):
     return ESCAPE.sub(lambda found: bytes([int(found[1], 16)]) if found[1] else b"\n", text)
 
 
+def program_answer(verdict, answer):
+    """What the program has to print."""
+    return answer if verdict == b"0" else b"refused=%s\n" % verdict
+
+
 def fields(path, pattern):
     """The fields of each line of a file."""
     with open(path, "rb") as file:
@@ -65,8 +70,10 @@ def main(program, in_path, out_path):
     if len(lines) != len(answers) or not lines:
         raise Unusable(f"{in_path} has {len(lines)} lines and {out_path} {len(answers)}")
     texts = [
-        (number, unquoted(text), unquoted(answer) if verdict == b"0" else b"refused=%s\n" % verdict)
-        for number, ((output, working, text), (verdict, answer)) in enumerate(zip(lines, answers), 1)
+        (number, unquoted(text), program_answer(verdict, unquoted(answer)))
+        for number, ((output, working, text), (verdict, answer)) in enumerate(
+            zip(lines, answers), 1
+        )
         if int(output) >= OUTPUT and int(working) >= WORKING
     ]
     difference = first_difference(program, texts)
