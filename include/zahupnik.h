@@ -9,13 +9,13 @@
  * comment lists the refusals that it tests, in this order, each over all rows or entries before the next; the first that is the
  * case is returned.
  *
- * A function of the tree way, and zahupnik_moments, is lent a working list besides, of any length from ZAHUPNIK_LEAST_WORK on, and
- * what it holds does not matter. When the function has finished, the first ZAHUPNIK_LEAST_WORK numbers of it are zero, and what
- * lies beyond is untouched.
+ * A function of the tree way, zahupnik_moments and zahupnik_convert_text are lent a working list besides, of any length from
+ * ZAHUPNIK_LEAST_WORK on, and what it holds does not matter. When the function has finished, the first ZAHUPNIK_LEAST_WORK numbers
+ * of it are zero, and what lies beyond is untouched.
  *
  * What the caller owes: behind a pointer there are as many initialised numbers as the length beside it says, and the one number
- * behind `inverse`; a list of length 0 may have any pointer, NULL too. What a call writes (the inverse, the output, the working
- * list) overlaps nothing else that it is lent, and nobody else touches what is lent while the call runs.
+ * behind `inverse` and `length`; a list of length 0 may have any pointer, NULL too. What a call writes (the inverse, the length, the
+ * output, the working list) overlaps nothing else that it is lent, and nobody else touches what is lent while the call runs.
  *
  * Nothing is allocated and nothing is kept, so calls from several threads do not disturb one another.
  *
@@ -35,13 +35,17 @@ extern "C" {
 #define ZAHUPNIK_GREATEST_MODULUS UINT32_C(2147483647)
 #define ZAHUPNIK_MOST_ROWS 127
 #define ZAHUPNIK_LEAST_WORK 16384
+#define ZAHUPNIK_MOST_TEXT 8192
+#define ZAHUPNIK_LEAST_TEXT_OUTPUT 4096
 
 #define ZAHUPNIK_FINISHED 0
+#define ZAHUPNIK_TEXT_TOO_LONG 1  /* the job text has more than ZAHUPNIK_MOST_TEXT bytes */
+#define ZAHUPNIK_TEXT_FORM 2      /* the job text is not of the form */
 #define ZAHUPNIK_MODULUS 3        /* m is below 2 or above ZAHUPNIK_GREATEST_MODULUS */
 #define ZAHUPNIK_LENGTHS 4        /* the lists a, b and c are not equally long */
 #define ZAHUPNIK_ROWS 5           /* there are more than ZAHUPNIK_MOST_ROWS rows */
-#define ZAHUPNIK_CURVE_LENGTH 6   /* the curve, or the list of coefficients, is not n long */
-#define ZAHUPNIK_OUTPUT_LENGTH 7  /* the output is not as long as the result */
+#define ZAHUPNIK_CURVE_LENGTH 6   /* the curve, or the list of coefficients, is not n long; or not empty in a job for moments or norms */
+#define ZAHUPNIK_OUTPUT_LENGTH 7  /* the output is not as long as the result, or shorter than ZAHUPNIK_LEAST_TEXT_OUTPUT bytes for a text */
 #define ZAHUPNIK_WORK_TOO_SHORT 8 /* the working list is shorter than ZAHUPNIK_LEAST_WORK */
 #define ZAHUPNIK_ENTRY 9          /* an entry of a, b or c is not below m */
 #define ZAHUPNIK_A_INVERSE 10     /* some a has no inverse modulo m */
@@ -104,6 +108,17 @@ uint32_t zahupnik_tree_decompose(uint32_t m, const uint32_t *a, size_t a_length,
 uint32_t zahupnik_moments(uint32_t m, const uint32_t *a, size_t a_length, const uint32_t *b, size_t b_length,
                           const uint32_t *c, size_t c_length, uint32_t *output, size_t output_length, uint32_t *work,
                           size_t work_length);
+
+/* The text call: does the job that stands in a text, by the tree way; output becomes the answer text and *length its length. What
+ * output holds past the answer text is untouched.
+ * A job text is six lines, each ended by byte 10: mod= and m; a=, b= and c= with the rows; op= and expand, adjoint, decompose,
+ * moments or norms; v= with the curve, which is empty for moments and norms. Between two numbers stands one space. A number is
+ * decimal, without a leading zero (0 itself excepted), at most 4294967295. Nothing else may follow.
+ * An answer text is two lines: op= and the operation; out= and the result. It has no zero byte at its end.
+ * Lengths: text ZAHUPNIK_MOST_TEXT or less; output ZAHUPNIK_LEAST_TEXT_OUTPUT or more; work ZAHUPNIK_LEAST_WORK or more.
+ * Refuses with 1 2 3 4 5 6 7 8 9 10 11 12. */
+uint32_t zahupnik_convert_text(const uint8_t *text, size_t text_length, uint8_t *output, size_t output_length, uint32_t *work,
+                               size_t work_length, uint32_t *length);
 
 #ifdef __cplusplus
 }

@@ -61,9 +61,7 @@ static struct call calls[] = {
     {"tree_adjoint", "0..3456789ABC.", ADJOINT, TREE, tree_adjoint, {0}, {0}},
     {"tree_decompose", "0..3456789ABC.", DECOMPOSE, TREE, tree_decompose, {0}, {0}},
     {"moments", "0..345.789AB..", MOMENTS, TREE, moments, {0}, {0}},
-#ifdef ZAHUPNIK_TEXT_TOO_LONG
     {.name = "convert_text", .answers = "0123456789ABC.", .run = NULL},
-#endif
 };
 enum { COUNT = sizeof calls / sizeof *calls };
 
@@ -99,11 +97,7 @@ static void run_case(uint64_t seed, uint64_t number_of_case) {
     struct random random = random_of_case(seed, number_of_case);
     struct call *call = &ONE_OF(&random, calls);
     struct trial trial = {.call = call->name, .seed = seed, .number_of_case = number_of_case};
-#ifdef ZAHUPNIK_TEXT_TOO_LONG
     uint32_t answer = call->run ? run_on_lists(call, &trial, &random) : run_on_text(&trial, &random);
-#else
-    uint32_t answer = run_on_lists(call, &trial, &random);
-#endif
     call->met[answer]++;
     if (answer == 0) call->finished[trial.rows] = true;
 }

@@ -1,11 +1,10 @@
-/* What text.h declares. Without the text call in the header there is nothing here to run. */
+/* What text.h declares. */
 #include "text.h"
 
 #include "text_cases.h"
 #include "text_model.h"
 #include "zahupnik.h"
 
-#ifdef ZAHUPNIK_TEXT_TOO_LONG
 uint32_t run_on_text(struct trial *trial, struct random *random) {
     static const uint32_t zeros[LEAST_WORK];
     static struct text text;
@@ -27,4 +26,3 @@ uint32_t run_on_text(struct trial *trial, struct random *random) {
     compare(trial, zahupnik_convert_text(lent, text.length, output, output_length, work, work_length, length));
     return trial->number;
 }
-#endif

@@ -5,8 +5,7 @@
 #include "random.h"
 #include "trial.h"
 
-/* Runs a random case of the text call and holds it against the model of texts; the answer. Only where the header has the call.
- */
+/* Runs a random case of the text call and holds it against the model of texts; the answer. */
 uint32_t run_on_text(struct trial *trial, struct random *random);
 
 #endif

@@ -8,6 +8,7 @@
 #include <inttypes.h>
 #include <stdio.h>
 #include <stdlib.h>
+#include <string.h>
 
 #include "zahupnik.h"
 
@@ -150,6 +151,48 @@ static void on_number(void) {
     inverts("0 modulo 15", 15, 0, ZAHUPNIK_NO_INVERSE, UINT32_MAX);
 }
 
+/* The text call returns the number; it leaves the answer text and its length, or everything as it was. */
+static void answers(const char *with, const char *text, size_t text_length, size_t output_length, size_t work_length,
+                    uint32_t number, const char *answer) {
+    static uint8_t output[ZAHUPNIK_LEAST_TEXT_OUTPUT + 3];
+    static uint32_t work[WORK_ROOM];
+    uint32_t length = UINT32_MAX;
+    size_t written = strlen(answer), cleared = number == ZAHUPNIK_FINISHED ? ZAHUPNIK_LEAST_WORK : 0;
+    memset(output, UINT8_MAX, sizeof output);
+    for (size_t i = 0; i < WORK_ROOM; i++) work[i] = (uint32_t)(UINT32_MAX - i);
+    expect("convert_text", with, "the number returned",
+           zahupnik_convert_text((const uint8_t *)text, text_length, output, output_length, work, work_length, &length), number);
+    expect("convert_text", with, "the length", length, number == ZAHUPNIK_FINISHED ? (uint32_t)written : UINT32_MAX);
+    for (size_t i = 0; i < sizeof output; i++)
+        expect("convert_text", with, "a byte of the output", output[i], i < written ? (uint8_t)answer[i] : UINT8_MAX);
+    for (size_t i = 0; i < WORK_ROOM; i++)
+        expect("convert_text", with, "a number of the working list", work[i], i < cleared ? 0 : (uint32_t)(UINT32_MAX - i));
+    cases++;
+}
+
+static void on_text(void) {
+    const size_t bytes = ZAHUPNIK_LEAST_TEXT_OUTPUT, work = ZAHUPNIK_LEAST_WORK, most = ZAHUPNIK_MOST_TEXT;
+    const char *job = "mod=7\na=1 2\nb=0 3\nc=1 5\nop=expand\nv=3 0 1\n", *answer = "op=expand\nout=1 3 2\n";
+    const size_t length = strlen(job);
+    answers("the paper's job", job, length, bytes, work, ZAHUPNIK_FINISHED, answer);
+    answers("more room", job, length, bytes + 3, work + 3, ZAHUPNIK_FINISHED, answer);
+    answers("too little room", job, length, bytes - 1, work - 1, ZAHUPNIK_OUTPUT_LENGTH, "");
+    answers("too short a working list", job, length, bytes, work - 1, ZAHUPNIK_WORK_TOO_SHORT, "");
+    answers("no byte 10 at the end", job, length - 1, bytes, work, ZAHUPNIK_TEXT_FORM, "");
+    answers("no text", NULL, 0, bytes, work, ZAHUPNIK_TEXT_FORM, "");
+
+    /* Of the form, and with far too many numbers in v: as long as a text may be, and one byte longer. */
+    char text[ZAHUPNIK_MOST_TEXT + 1];
+    memset(text, '1', sizeof text);
+    const size_t head = (size_t)sprintf(text, "mod=7\na=\nb=\nc=\nop=expand\nv=");
+    text[head] = '1';
+    for (size_t i = head + 2; i < most - 2; i += 2) text[i] = ' ';
+    text[most - 1] = '\n';
+    answers("as long a text as may be", text, most, bytes, work, ZAHUPNIK_CURVE_LENGTH, "");
+    memmove(text + head + 1, text + head, most - head);
+    answers("a byte more", text, most + 1, bytes, work, ZAHUPNIK_TEXT_TOO_LONG, "");
+}
+
 /* The call returns the number and leaves the entry in the output, which held UINT32_MAX. */
 #define NO_LIST NULL, 0
 #define NO_ROWS 7, NO_LIST, NO_LIST, NO_LIST
@@ -200,6 +243,7 @@ int main(void) {
     }
     on_number();
     on_null();
+    on_text();
     printf("limits: %lu cases are as the header says\n", cases);
     return 0;
 }

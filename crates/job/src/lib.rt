@@ -71,8 +71,8 @@ fn answer(
     let Answer::Finished = tested else {
         return with_length(tested, 0);
     };
-    let length = writer::write_answer(output, operation, &list[0..count]);
-    Valued::Value(length as u32)
+    let length = writer::write_answer(output, operation, &list[0..count]) as u32;
+    Valued::Value(length)
 }
 
 // The text call: the answer text of a job text, and its length. After an accepted call the first 16,384 numbers of the working list

@@ -66,8 +66,8 @@ part-write-answer-end c = count-fits _ _ _ _ _ _ _ _ _ (c .before .before .befor
 write-answer-requires : tie.Need-write-answer-requires
 write-answer-requires c κs = room _ _ _ _ _ _ _ _ _ (c .before .before .before .before .before .before .before .before .before .before .before .before .before .before .before .before .before .before .before .before .before .before .before .pre) _ _ _ _ (c .before .before .before .before .before .before .before .before .before .before .before .before .before .before .before .before .before .before .before .loaded .ensures) (c .before .before .before .before .before .before .before .before .before .before .before .before .before .before .before .before .before .before .loaded2 .ensures) (c .before .before .before .before .before .before .before .before .before .before .before .before .before .before .before .before .before .loaded3 .ensures) (c .before .before .before .before .before .before .before .before .before .before .before .before .before .before .before .before .loaded4 .ensures) _ (c .before .before .before .before .before .before .before .before .before .before .before .before .before .before .before .result-count .ensures) _ _ _ _ (c .before .before .before .before .before .before .before .before .convert-parts .ensures)
 
-cast-t40 : tie.Need-cast-t40
-cast-t40 c = omega (arith, c .before .before .write-answer .ensures .short)
+cast-length : tie.Need-cast-length
+cast-length c = omega (arith, c .before .before .write-answer .ensures .short)
 
 same-length-2 : tie.Need-same-length-2
 same-length-2 c = search needs
@@ -102,7 +102,7 @@ answer-spec =
     part-write-answer-start
     part-write-answer-end
     write-answer-requires
-    cast-t40
+    cast-length
     same-length-2
     same-length-3
     returns-2)
