@@ -4,7 +4,7 @@
 --   Because m x reason   why x has no inverse: it is zero, or it shares a factor with m
 --   FactorAnswer m xs r  r says whether every entry has an inverse, and why the first without one has none
 --   Passed bad xs i      a pass in progress: none of the first i entries is bad
--- Proved: how a pass begins, goes on and ends. Assumes nothing.
+-- Proved: how a pass begins, goes on and ends; a product that has an inverse spares the pass. Assumes nothing.
 use mathlib.Core.Path.{_≡_, subst, sym}
 use mathlib.Core.Bool.{Bool, true, false}
 use mathlib.Core.List.{List}
@@ -13,9 +13,11 @@ use Prim.Native.Nat.{ℕ, _+_, _<_, _≤_}
 use native.Mathlib.Nat.{eq-or-lt-of-le}
 use native.Mathlib.Omega.{arith}
 use lib.ListN.{length, getD}
+use Rattle.definitions.specs.Number.{HasInverse}
 use Rattle.definitions.specs.Refusals.{some, notBelow, noInverse}
 use Rattle.theory.specs.Euclid.{GreatestFactor}
-use Rattle.theory.specs.Verdicts.{some-false}
+use Rattle.theory.specs.RunningProduct.{runningProduct, running-each}
+use Rattle.theory.specs.Verdicts.{some-false, some-noInverse-false}
 use Rattle.checks.specs.declared.Entries.{Entries}
 use Rattle.checks.specs.declared.Factors.{Factors}
 use Rattle.checks.specs.declared.Reason.{Reason}
@@ -61,3 +63,7 @@ module _ (bad : ℕ → Bool) (xs : List ℕ) where
 
     pub passed-ends : length xs ≤ i → some bad xs ≡ false
     passed-ends l = some-false bad xs 0 .1 (λ j g. h .clear j (omega arith))
+
+-- every entry has an inverse if the product of all has one
+pub all-by-product : (m : ℕ) (xs : List ℕ) → 0 < m → HasInverse m (runningProduct m (λ i. getD xs i 0) (length xs)) → some (noInverse m) xs ≡ false
+all-by-product m xs pos h = some-noInverse-false m xs 0 pos .1 (running-each m (λ i. getD xs i 0) (length xs) h)

@@ -12,6 +12,7 @@ ghost use Rattle.checks.specs.Groups.{shapeTests, rowTests, lengthTests}
 use definitions::Answer;
 use residue::Inversion;
 use residue::invert;
+use residue::running_product;
 
 // Whether every entry of a list is below the modulus: if not, the place of the first that is not.
 pub enum Entries {
@@ -44,10 +45,15 @@ pub fn entries_below(m: u32, list: &[u32]) -> Entries
     Entries::Residues
 }
 
+// One inverse settles it where the product of all has one; only if it has none are the entries looked at one by one.
 pub fn invertible(m: u32, list: &[u32]) -> Factors
     requires { ⌜ 0 < m ⌝ }
     ensures { λ r. ⌜ FactorAnswer m (now (list .entry)) r ⌝ }
 {
+    let whole = invert(m, running_product(m, list));
+    let Inversion::Absent(_) = whole else {
+        return Factors::Invertible;
+    };
     let mut i: usize = 0;
     while i < list.len() {
         let x = list[i];

@@ -16,7 +16,8 @@ use Rattle.definitions.specs.Number.{table}
 use Rattle.definitions.specs.Orthogonality.{reversal, quotient, moments}
 use Rattle.theory.specs.Extended.{F-below, G-below}
 use Rattle.theory.specs.Lists.{filled, filled-length, filled-below, filled-from}
-use Rattle.theory.specs.NormInverse.{leadingInverse, leadingInverse-below, leading-inverse}
+use Rattle.theory.specs.NormInverse.{leading-inverse}
+use Rattle.theory.specs.RunningProduct.{runningProduct, running-below}
 use Rattle.theory.specs.Products.{Below}
 use Rattle.plain.specs.FirstRows.{entry-inside, entry-past}
 use Rattle.plain.specs.Input.{closedRows}
@@ -32,22 +33,22 @@ entryOr list count last i = getD (take count list) i last
 
 pub record Multiplied (m : ℕ) (inverses : List ℕ) (inverse n result i : ℕ) : Type 0 where
   pub reached : i ≤ n
-  pub is : result ≡ leadingInverse m (entryOr inverses (n - 1) inverse) i
+  pub is : result ≡ runningProduct m (entryOr inverses (n - 1) inverse) i
 
 module _ {m : ℕ} {inverses : List ℕ} {inverse n : ℕ} where
   pub multiplied-starts : Multiplied m inverses inverse n 1 0
-  unfolding leadingInverse
+  unfolding runningProduct
   multiplied-starts = record { reached = omega arith; is = refl }
 
   module _ {result i : ℕ} (h : Multiplied m inverses inverse n result i) where
     pub multiplied-next : {x y : ℕ} → i < n → x ≡ getD (take (n - 1) inverses) i inverse → y ≡ result * x % m → Multiplied m inverses inverse n y (i + 1)
-    unfolding leadingInverse entryOr
+    unfolding runningProduct entryOr
     multiplied-next l e g = record { reached = omega arith; is = g ∙ rw (e, h .is, add-one) }
 
-    pub multiplied-ends : n ≤ i → result ≡ leadingInverse m (entryOr inverses (n - 1) inverse) n
+    pub multiplied-ends : n ≤ i → result ≡ runningProduct m (entryOr inverses (n - 1) inverse) n
     multiplied-ends l =
         let e : i ≡ n = omega (arith, h .reached) in
-        h .is ∙ ap (leadingInverse m (entryOr inverses (n - 1) inverse)) e
+        h .is ∙ ap (runningProduct m (entryOr inverses (n - 1) inverse)) e
 
 -- the inverses beside the rows, and that of the closing row
 pub closed-inverts : (m : ℕ) (a inverses : List ℕ) (p inverse n : ℕ) → LeadingInput m a inverses p inverse n
@@ -92,7 +93,7 @@ module _ (m : ℕ) (a b c inverses : List ℕ) (p q r inverse n : ℕ) (output w
   two : 2 ≤ f .m
   two = closed-modulus m a b c p q r n (input .closed)
 
-  leading-is : F f n n * leadingInverse m (entryOr inverses (n - 1) inverse) n % m ≡ 1
+  leading-is : F f n n * runningProduct m (entryOr inverses (n - 1) inverse) n % m ≡ 1
   unfolding closedRows rowAt entryOr
   leading-is = leading-inverse f two (entryOr inverses (n - 1) inverse) n (λ i _. closed-inverts m a inverses p inverse n (input .leading) i)
 
@@ -109,7 +110,7 @@ module _ (m : ℕ) (a b c inverses : List ℕ) (p q r inverse n : ℕ) (output w
         }
 
     module _ (divisor numerator work′ : List ℕ) (h : Polynomials f n blank divisor blank′ numerator work work′) where
-      pub moments-quotient : (top : ℕ) → top ≡ leadingInverse m (entryOr inverses (n - 1) inverse) n → QuotientInput m numerator divisor n top (2 * n - 1) output
+      pub moments-quotient : (top : ℕ) → top ≡ runningProduct m (entryOr inverses (n - 1) inverse) n → QuotientInput m numerator divisor n top (2 * n - 1) output
       unfolding closedRows
       moments-quotient top e =
           let least : 2 ≤ m = input .closed .sizes .modulus .least in
@@ -121,7 +122,7 @@ module _ (m : ℕ) (a b c inverses : List ℕ) (p q r inverse n : ℕ) (output w
               gLong = omega arith;
               gBelow = front-below 255 n (G f (n - 1)) blank′ numerator z′ (h .numeratorIs) m (omega arith) (λ i _. G-below f two (n - 1) i);
               dBelow = front-below 255 (suc n) (F f n) blank divisor z (h .divisorIs) m (omega arith) (λ i _. F-below f two n i);
-              inverseBelow = rw e (leadingInverse-below m least (entryOr inverses (n - 1) inverse) n);
+              inverseBelow = rw e (running-below m (entryOr inverses (n - 1) inverse) least n);
               inverts = ap₂ (λ x y. x * y % m) (front-entry 255 (suc n) (F f n) blank divisor z (h .divisorIs) n (omega arith)) e ∙ leading-is;
             };
             room = input .outputLong;

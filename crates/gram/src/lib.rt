@@ -8,7 +8,7 @@ ghost use Rattle.definitions.specs.Conversion.{decompose};
 ghost use Rattle.definitions.specs.Orthogonality.{moments};
 ghost use Rattle.theory.specs.Extended.{lastUnit};
 ghost use Rattle.theory.specs.Lists.{filled};
-ghost use Rattle.theory.specs.NormInverse.{leadingInverse};
+ghost use Rattle.theory.specs.RunningProduct.{runningProduct};
 ghost use Rattle.theory.specs.Tree.{treeExpand};
 ghost use Rattle.plain.specs.Input.{closedRows};
 ghost use Rattle.subproduct.specs.Leaf.{familyOf, rowOf};
@@ -91,7 +91,7 @@ fn polynomials(
 // The product of the inverses of the a, that of the closing row too.
 fn leading_inverse(m: u32, inverses: &[u32], inverse: u32, n: usize) -> u32
     requires { ⌜ (0 < m) × (1 ≤ n) × (n - 1 ≤ length (now inverses)) ⌝ }
-    ensures { λ v. ⌜ v ≡ leadingInverse m (entryOr (now (inverses .entry)) (n - 1) inverse) n ⌝ }
+    ensures { λ v. ⌜ v ≡ runningProduct m (entryOr (now (inverses .entry)) (n - 1) inverse) n ⌝ }
 {
     let rows = n - 1;
     let mut result: u32 = 1;

@@ -42,6 +42,10 @@ module _ (m x : ℕ) where
   pub inverted-absent : {r : Inversion} {g : ℕ} → Inverted m x r → r ≡ Inversion.Absent g → SharesFactor m x g
   inverted-absent answer e = subst (Inverted m x) e answer
 
+  pub found-has : (y : ℕ) → IsInverse m x y → HasInverse m x
+  unfolding HasInverse
+  found-has y found = (y, found .product)
+
   pub found-passes : (y : ℕ) → IsInverse m x y → noInverse m x ≡ false
   unfolding HasInverse
   found-passes y found =

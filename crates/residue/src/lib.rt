@@ -2,7 +2,9 @@
 // Arguments need not be below m; the results of sum, product and difference are.
 ghost use mathlib.Core.Path.{_≡_};
 ghost use Prim.Native.Nat.{_+_, _*_, _%_, _<_};
+ghost use lib.ListN.{length, getD};
 ghost use Rattle.definitions.specs.Number.{negative};
+ghost use Rattle.theory.specs.RunningProduct.{runningProduct};
 ghost use Rattle.residue.specs.Inversion.{Inverted};
 
 // The remainder of x, of 64 bits.
@@ -27,6 +29,20 @@ pub fn product(m: u32, x: u32, y: u32) -> u32
     ensures { λ r. ⌜ r ≡ x * y % m ⌝ }
 {
     remainder(m, (x as u64) * (y as u64))
+}
+
+// The remainder of the product of all entries, 1 if there is none.
+pub fn running_product(m: u32, list: &[u32]) -> u32
+    requires { ⌜ 0 < m ⌝ }
+    ensures { λ r. ⌜ r ≡ runningProduct m (λ i. getD (now (list .entry)) i 0) (length (now (list .entry))) ⌝ }
+{
+    let mut result: u32 = 1;
+    let mut i: usize = 0;
+    while i < list.len() {
+        result = product(m, result, list[i]);
+        i += 1;
+    }
+    result
 }
 
 // What with x adds up to a multiple of m: from 1 to m, and m where x is a multiple of m.

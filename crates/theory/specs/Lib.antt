@@ -1,6 +1,6 @@
 -- What is true of the definitions, for every modulus from 2 on and every convertible family:
 --   lists, sums and verdicts: Lists, Sums, Verdicts, Acceptance
---   numbers modulo m: inverses, residues, the greatest common factor: Inverse, Residue, Curves, Euclid
+--   numbers modulo m: inverses, residues, the greatest common factor: Inverse, RunningProduct, Residue, Curves, Euclid
 --   the recurrence over any ring, and the definitions read in the ring of residues: Recurrence, Operator, Combination, Bridge, Entries, Closing, Alone
 --   round trips, linearity, the transposed identity: RoundTrip, Linear, TransposedIdentity
 --   moments, norms and the product law (demand 3): Reversal, Determinant, Favard, Form, Orthogonal, Quotient, Moments, ProductLaw, Gram, NormInverse
@@ -14,6 +14,7 @@ pub mod Sums
 pub mod Verdicts
 pub mod Acceptance
 pub mod Inverse
+pub mod RunningProduct
 pub mod Residue
 pub mod Curves
 pub mod Euclid

@@ -1,8 +1,7 @@
 -- The inverses that the moments, and Decompose by the moments, divide by: products of numbers that are at hand.
---   leadingInverse m v k   v_0 .. v_{k-1}: for the inverses v of the a, the inverse of the leading coefficient of F_k
 --   signedInverse m w i    (-1)^i w_1 .. w_i: for the inverses w of the c, the inverse of (-1)^i c_2 .. c_{i+1}
--- Proved: that they are these inverses, and that a_{i+1} times the second is the inverse of norm i. The rows are counted from
--- place 0, as `rowAt` does. Assumes nothing.
+-- Proved: that it is this inverse, and that a_{i+1} times it is the inverse of norm i; that the running product of the inverses of
+-- the a is the inverse of the leading coefficient of F_k. The rows are counted from place 0, as `rowAt` does. Assumes nothing.
 use mathlib.Core.Path.{_≡_, sym, _∙_, ap}
 use mathlib.Core.List.{[], _∷_}
 use Prim.Native.Nat.{ℕ, zero, suc, _*_, _%_, _<_, _≤_}
@@ -18,20 +17,11 @@ use Rattle.definitions.specs.Orthogonality.{signedProduct, norm}
 use Rattle.theory.specs.Inverse.{inverse-unique}
 use Rattle.theory.specs.Residue.{residue-negative, residue-product-one, residue-inverse}
 use Rattle.theory.specs.RoundTrip.{leading-product}
-
-unfoldable pub leadingInverse : ℕ → (ℕ → ℕ) → ℕ → ℕ
-leadingInverse m v zero = 1
-leadingInverse m v (suc k) = leadingInverse m v k * v k % m
+use Rattle.theory.specs.RunningProduct.{runningProduct}
 
 unfoldable pub signedInverse : ℕ → (ℕ → ℕ) → ℕ → ℕ
 signedInverse m w zero = 1
 signedInverse m w (suc i) = signedInverse m w i * negative m (w (suc i)) % m
-
-module _ (m : ℕ) (two : 2 ≤ m) where
-  pub leadingInverse-below : (v : ℕ → ℕ) (k : ℕ) → leadingInverse m v k < m
-  unfolding leadingInverse
-  leadingInverse-below v zero = two
-  leadingInverse-below v (suc k) = mod-lt _ (omega arith)
 
 module _ (f : Family) (two : 2 ≤ f .m) where
   abbrev m : ℕ
@@ -53,19 +43,19 @@ module _ (f : Family) (two : 2 ≤ f .m) where
 
   -- ---- a_1 .. a_k
   module _ (v : ℕ → ℕ) where
-    leading-residue : (k : ℕ) → ((i : ℕ) → i < k → rowAt f i .a * v i % m ≡ 1) → product Q k (λ i. res m pos (rowAt f i .a)) ⊗ res m pos (leadingInverse m v k) ≡ 𝟙
-    unfolding leadingInverse
+    leading-residue : (k : ℕ) → ((i : ℕ) → i < k → rowAt f i .a * v i % m ≡ 1) → product Q k (λ i. res m pos (rowAt f i .a)) ⊗ res m pos (runningProduct m v k) ≡ 𝟙
+    unfolding runningProduct
     leading-residue zero h = rw (product-empty Q, res-one m pos) (Q .mul-one 𝟙)
     leading-residue (suc k) h =
-        ap (λ t. t ⊗ res m pos (leadingInverse m v k * v k % m)) (product-last Q k (λ i. res m pos (rowAt f i .a)))
-        ∙ simp (res-mod m pos, res-mul m pos) (step (product Q k (λ i. res m pos (rowAt f i .a))) (res m pos (rowAt f k .a)) (res m pos (leadingInverse m v k)) (res m pos (v k))
+        ap (λ t. t ⊗ res m pos (runningProduct m v k * v k % m)) (product-last Q k (λ i. res m pos (rowAt f i .a)))
+        ∙ simp (res-mod m pos, res-mul m pos) (step (product Q k (λ i. res m pos (rowAt f i .a))) (res m pos (rowAt f k .a)) (res m pos (runningProduct m v k)) (res m pos (v k))
         (leading-residue k (λ i l. h i (omega arith))) (residue-product-one m pos (rowAt f k .a) (v k) (h k (omega arith))))
       where
         step : (p x q y : Car) → p ⊗ q ≡ 𝟙 → x ⊗ y ≡ 𝟙 → p ⊗ x ⊗ (q ⊗ y) ≡ 𝟙
         step p x q y d e = linear Q (p ∷ x ∷ q ∷ y ∷ []) (both Q (scaled Q (x ⊗ y) d) (scaled Q 𝟙 e)) (search reify depth 20) tt
 
-    pub leading-inverse : (k : ℕ) → ((i : ℕ) → i < k → rowAt f i .a * v i % m ≡ 1) → F f k k * leadingInverse m v k % m ≡ 1
-    leading-inverse k h = product-one (F f k k) (leadingInverse m v k) (ap (λ t. t ⊗ res m pos (leadingInverse m v k)) (leading-product f pos k) ∙ leading-residue k h)
+    pub leading-inverse : (k : ℕ) → ((i : ℕ) → i < k → rowAt f i .a * v i % m ≡ 1) → F f k k * runningProduct m v k % m ≡ 1
+    leading-inverse k h = product-one (F f k k) (runningProduct m v k) (ap (λ t. t ⊗ res m pos (runningProduct m v k)) (leading-product f pos k) ∙ leading-residue k h)
 
   -- ---- the norms
   module _ (w : ℕ → ℕ) where

@@ -1,12 +1,14 @@
--- `invertible` finds the first entry without an inverse, and whether it is zero or shares a factor with m. The loop's invariant: each
--- of those passed has an inverse. Assumes nothing.
+-- `invertible` finds the first entry without an inverse, and whether it is zero or shares a factor with m, or that there is none: at once if
+-- the product of all has an inverse. The loop's invariant: each of those passed has one. Assumes nothing.
+use mathlib.Core.Path.{subst}
 use Prim.Native.Nat.{_-_}
 use native.Mathlib.Omega.{arith}
 use lib.ListN.{length}
-use borrow.Author.Needs.{needs}
+use Rattle.definitions.specs.Number.{HasInverse}
 use Rattle.definitions.specs.Refusals.{noInverse}
-use Rattle.residue.specs.Inversion.{inverted-found, inverted-absent, found-passes, absent-fails}
-use Rattle.checks.specs.Passes.{Passed, passed-starts, passed-next, passed-first, passed-ends}
+use Rattle.residue.specs.Inversion.{inverted-found, inverted-absent, found-has, found-passes, absent-fails}
+use Rattle.checks.specs.Passes.{Passed, passed-starts, passed-next, passed-first, passed-ends, all-by-product}
+use borrow.Author.Needs.{needs}
 use Rattle.checks.proofs.invertible.Statement.{statement}
 use Rattle.checks.proofs.invertible.Tie as tie
 
@@ -15,6 +17,21 @@ Inv-loop m list i₀ i = Passed (noInverse m) list i
 
 abbrev μ-loop : tie.MeasureT-loop
 μ-loop m list i₀ i = length list - i
+
+running-product-requires : tie.Need-running-product-requires Inv-loop μ-loop
+running-product-requires c κs = search needs
+
+invert-requires : tie.Need-invert-requires Inv-loop μ-loop
+invert-requires c κs = tt
+
+enum-told : tie.Need-enum-told Inv-loop μ-loop
+enum-told c = search needs
+
+enum-told-2 : tie.Need-enum-told-2 Inv-loop μ-loop
+enum-told-2 c = search needs
+
+returns : tie.Need-returns Inv-loop μ-loop
+returns c = all-by-product _ _ (c .before .before .before .before .before .pre) (subst (HasInverse _) (c .before .before .before .running-product .ensures) (found-has _ _ _ (inverted-found _ _ (c .before .before .invert .ensures) (c .enum-told2 .given .1))))
 
 loop-holds : tie.Need-loop-holds Inv-loop μ-loop
 loop-holds c = passed-starts _ _
@@ -25,22 +42,21 @@ mul-x c = omega arith
 shared-slice-read-x : tie.Need-shared-slice-read-x Inv-loop μ-loop
 shared-slice-read-x c = omega arith
 
-invert-requires : tie.Need-invert-requires Inv-loop μ-loop
-invert-requires c κs = tt
+invert-requires-2 : tie.Need-invert-requires-2 Inv-loop μ-loop
+invert-requires-2 c κs = tt
 
 enum-known-inversion : tie.Need-enum-known-inversion Inv-loop μ-loop
 enum-known-inversion c = search needs
 
-returns : tie.Need-returns Inv-loop μ-loop
-returns c = (passed-first _ _ _ (c .before .before .before .before .before .before .before .loop .inv) (c .before .before .before .before .before .before .loop-test .taken) (absent-fails _ _ _ (c .before .before .before .before .before .before .before .before .before .pre) (inverted-absent _ _ (c .before .before .before .before .invert .ensures) (c .before .before .inversion .given .1))), c .if1 .taken)
-
 returns-2 : tie.Need-returns-2 Inv-loop μ-loop
-returns-2 c =
-    let absent = inverted-absent _ _ (c .before .before .before .before .invert .ensures) (c .before .before .inversion .given .1) in
-    (passed-first _ _ _ (c .before .before .before .before .before .before .before .loop .inv) (c .before .before .before .before .before .before .loop-test .taken) (absent-fails _ _ _ (c .before .before .before .before .before .before .before .before .before .pre) absent), record { notZero = c .if1 .left; factor = absent .factor })
+returns-2 c = (passed-first _ _ _ (c .before .before .before .before .before .before .before .loop .inv) (c .before .before .before .before .before .before .loop-test .taken) (absent-fails _ _ _ (c .before .before .before .before .before .before .before .before .before .before .before .before .before .pre) (inverted-absent _ _ (c .before .before .before .before .invert2 .ensures) (c .before .before .inversion .given .1))), c .if1 .taken)
 
-enum-told : tie.Need-enum-told Inv-loop μ-loop
-enum-told c = search needs
+returns-3 : tie.Need-returns-3 Inv-loop μ-loop
+returns-3 c = let absent = inverted-absent _ _ (c .before .before .before .before .invert2 .ensures) (c .before .before .inversion .given .1) in
+    (passed-first _ _ _ (c .before .before .before .before .before .before .before .loop .inv) (c .before .before .before .before .before .before .loop-test .taken) (absent-fails _ _ _ (c .before .before .before .before .before .before .before .before .before .before .before .before .before .pre) absent), record { notZero = c .if1 .left; factor = absent .factor })
+
+enum-told-3 : tie.Need-enum-told-3 Inv-loop μ-loop
+enum-told-3 c = search needs
 
 add-i : tie.Need-add-i Inv-loop μ-loop
 add-i c = omega arith
@@ -49,10 +65,10 @@ loop-less : tie.Need-loop-less Inv-loop μ-loop
 loop-less c = omega arith
 
 loop-again : tie.Need-loop-again Inv-loop μ-loop
-loop-again c = passed-next _ _ _ (c .before .before .before .before .before .loop .inv) (c .before .before .before .before .loop-test .taken) (found-passes _ _ _ (inverted-found _ _ (c .before .before .invert .ensures) (c .enum-told .given .1)))
+loop-again c = passed-next _ _ _ (c .before .before .before .before .before .loop .inv) (c .before .before .before .before .loop-test .taken) (found-passes _ _ _ (inverted-found _ _ (c .before .before .invert2 .ensures) (c .enum-told3 .given .1)))
 
-returns-3 : tie.Need-returns-3 Inv-loop μ-loop
-returns-3 c = passed-ends _ _ _ (c .before .loop .inv) (c .loop-test .left)
+returns-4 : tie.Need-returns-4 Inv-loop μ-loop
+returns-4 c = passed-ends _ _ _ (c .before .loop .inv) (c .loop-test .left)
 
 pub invertible-spec : {M : Type 1} → statement M
 invertible-spec =
@@ -60,15 +76,20 @@ invertible-spec =
     (tie.spec
     Inv-loop
     μ-loop
+    running-product-requires
+    invert-requires
+    enum-told
+    enum-told-2
+    returns
     loop-holds
     mul-x
     shared-slice-read-x
-    invert-requires
+    invert-requires-2
     enum-known-inversion
-    returns
     returns-2
-    enum-told
+    returns-3
+    enum-told-3
     add-i
     loop-less
     loop-again
-    returns-3)
+    returns-4)
