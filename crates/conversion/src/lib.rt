@@ -89,7 +89,7 @@ pub fn plain_decompose(
         return tested;
     };
     let mut inverses = polynomial::zeros();
-    plain::inverses(m, a, a.len(), &mut inverses);
+    reciprocals::inverses(m, a, a.len(), &mut inverses);
     plain::decompose(m, &inverses, b, c, coefficients, a.len() + 1, output);
     Answer::Finished
 }
@@ -104,7 +104,7 @@ pub fn norms(m: u32, a: &[u32], b: &[u32], c: &[u32], output: &mut [u32]) -> Ans
         return tested;
     };
     let mut inverses = polynomial::zeros();
-    plain::inverses(m, a, a.len(), &mut inverses);
+    reciprocals::inverses(m, a, a.len(), &mut inverses);
     plain::norms(m, &inverses, c, 1, 1, a.len() + 1, output);
     Answer::Finished
 }
@@ -169,9 +169,9 @@ pub fn tree_decompose(
         return tested;
     };
     let mut inverses = polynomial::zeros();
-    plain::inverses(m, a, a.len(), &mut inverses);
+    reciprocals::inverses(m, a, a.len(), &mut inverses);
     let mut reciprocals = polynomial::zeros();
-    plain::inverses(m, c, c.len(), &mut reciprocals);
+    reciprocals::inverses(m, c, c.len(), &mut reciprocals);
     gram::decompose(
         m,
         a,
@@ -210,7 +210,7 @@ pub fn moments(
         return tested;
     };
     let mut inverses = polynomial::zeros();
-    plain::inverses(m, a, a.len(), &mut inverses);
+    reciprocals::inverses(m, a, a.len(), &mut inverses);
     gram::moments(m, a, b, c, &inverses, 1, 1, 1, 1, a.len() + 1, output, work);
     Answer::Finished
 }

@@ -6,4 +6,3 @@ pub mod Expanding
 pub mod Adjoining
 pub mod Decomposing
 pub mod Norming
-pub mod Inverting

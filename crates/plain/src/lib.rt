@@ -7,7 +7,6 @@ ghost use Prim.Native.Nat.{ℕ, _-_, _<_, _≤_};
 ghost use lib.ListN.{length, getD, take, drop};
 ghost use Rattle.definitions.specs.Conversion.{expand, adjoint, decompose};
 ghost use Rattle.definitions.specs.Family.{Row};
-ghost use Rattle.definitions.specs.Number.{inverse};
 ghost use Rattle.definitions.specs.Orthogonality.{norms};
 ghost use Rattle.theory.specs.Lists.{filled};
 ghost use Rattle.plain.specs.Decomposing.{oppositeProduct};
@@ -17,8 +16,6 @@ use polynomial::horner_row;
 use polynomial::lower_row;
 use polynomial::raise_row;
 use polynomial::zeros;
-use residue::Inversion;
-use residue::invert;
 use residue::opposite;
 use residue::product;
 
@@ -146,29 +143,6 @@ pub fn norms(
         output[i] = product(m, signed, p);
         let r = row_entry(c, rows, i + 1, close);
         signed = product(m, signed, opposite(m, r));
-        i += 1;
-    }
-}
-
-// The inverse of x modulo m, and 0 where there is none.
-fn inverse_or_zero(m: u32, x: u32) -> u32
-    ensures { λ r. ⌜ r ≡ inverse m x ⌝ }
-{
-    let answer = invert(m, x);
-    match answer {
-        Inversion::Found(y) => y,
-        Inversion::Absent(_) => 0,
-    }
-}
-
-// The inverses of the first n entries, each 0 where there is none.
-pub fn inverses(m: u32, list: &[u32], n: usize, output: &mut [u32])
-    requires { ⌜ (n ≤ length (now list)) × (n ≤ length (now output)) ⌝ }
-    ensures { λ _. ⌜ now (output .exit) ≡ filled (λ i. inverse m (getD (now (list .entry)) i 0)) n (now (output .entry)) ⌝ }
-{
-    let mut i: usize = 0;
-    while i < n {
-        output[i] = inverse_or_zero(m, list[i]);
         i += 1;
     }
 }

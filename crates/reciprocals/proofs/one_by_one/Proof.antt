@@ -1,13 +1,13 @@
--- `inverses` meets its contract: its loop fills the output from the front. The measure is what is left of the count.
+-- `one_by_one` meets its contract: its loop fills the output from the front. The measure is what is left of the count.
 -- Assumes nothing.
 use Prim.Native.Nat.{_-_, _≤_}
 use native.Mathlib.Omega.{arith}
-use borrow.Author.Needs.{needs}
 use lib.ListN.{getD}
 use Rattle.definitions.specs.Number.{inverse}
 use Rattle.theory.specs.Lists.{Filling, filling-start, filling-next, filling-stop}
-use Rattle.plain.proofs.inverses.Statement.{statement}
-use Rattle.plain.proofs.inverses.Tie as tie
+use borrow.Author.Needs.{needs}
+use Rattle.reciprocals.proofs.one_by_one.Statement.{statement}
+use Rattle.reciprocals.proofs.one_by_one.Tie as tie
 
 abbrev Inv-loop : tie.InvT-loop
 Inv-loop m list n output₀ i₀ output i = (i ≤ n) × Filling (λ j. inverse m (getD list j 0)) i output₀ output
@@ -48,8 +48,8 @@ same-length c = c .before .loop .inv .1 .sameLength
 returns : tie.Need-returns Inv-loop μ-loop
 returns c = filling-stop (c .before .loop .inv .1) _ (omega arith)
 
-pub inverses-spec : {M : Type 1} → statement M
-inverses-spec =
+pub one-by-one-spec : {M : Type 1} → statement M
+one-by-one-spec =
     tie.close
     (tie.spec
     Inv-loop

@@ -1,9 +1,9 @@
 -- `inverse_or_zero` meets its contract: what `invert` answers is the definition's inverse, or says that there is none. Assumes nothing.
-use borrow.Author.Needs.{needs}
-use Rattle.plain.specs.Inverting.{absent-zero}
 use Rattle.residue.specs.Inversion.{inverted-found, inverted-absent}
-use Rattle.plain.proofs.inverse_or_zero.Statement.{statement}
-use Rattle.plain.proofs.inverse_or_zero.Tie as tie
+use Rattle.reciprocals.specs.Inverting.{absent-zero}
+use borrow.Author.Needs.{needs}
+use Rattle.reciprocals.proofs.inverse_or_zero.Statement.{statement}
+use Rattle.reciprocals.proofs.inverse_or_zero.Tie as tie
 
 invert-requires : tie.Need-invert-requires
 invert-requires c κs = search needs

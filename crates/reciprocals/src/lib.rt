@@ -1,0 +1,79 @@
+// The inverses of all entries of a list modulo m, from one inverse where the product of all has one.
+ghost use mathlib.Core.Path.{_≡_};
+ghost use Prim.Native.Nat.{_<_, _≤_};
+ghost use lib.ListN.{length, getD};
+ghost use Rattle.definitions.specs.Number as Number;
+ghost use Rattle.theory.specs.Lists.{filled};
+ghost use Rattle.theory.specs.RunningProduct.{runningProduct};
+ghost use Rattle.reciprocals.specs.Sharing.{Sharable};
+use residue::Inversion;
+use residue::invert;
+use residue::product;
+
+// The inverse of x modulo m, and 0 where there is none.
+fn inverse_or_zero(m: u32, x: u32) -> u32
+    ensures { λ r. ⌜ r ≡ Number.inverse m x ⌝ }
+{
+    let answer = invert(m, x);
+    match answer {
+        Inversion::Found(y) => y,
+        Inversion::Absent(_) => 0,
+    }
+}
+
+fn one_by_one(m: u32, list: &[u32], n: usize, output: &mut [u32])
+    requires { ⌜ (n ≤ length (now list)) × (n ≤ length (now output)) ⌝ }
+    ensures { λ _. ⌜ now (output .exit) ≡ filled (λ i. Number.inverse m (getD (now (list .entry)) i 0)) n (now (output .entry)) ⌝ }
+{
+    let mut i: usize = 0;
+    while i < n {
+        output[i] = inverse_or_zero(m, list[i]);
+        i += 1;
+    }
+}
+
+// Leaves the product of the entries before i at place i, for the first n places, and answers the product of all n.
+fn running_products(m: u32, list: &[u32], n: usize, output: &mut [u32]) -> u32
+    requires { ⌜ (0 < m) × (n ≤ length (now list)) × (n ≤ length (now output)) ⌝ }
+    ensures { λ r. ⌜ (r ≡ runningProduct m (λ i. getD (now (list .entry)) i 0) n) × (now (output .exit) ≡ filled (runningProduct m (λ i. getD (now (list .entry)) i 0)) n (now (output .entry))) ⌝ }
+{
+    let mut whole: u32 = 1;
+    let mut i: usize = 0;
+    while i < n {
+        output[i] = whole;
+        whole = product(m, whole, list[i]);
+        i += 1;
+    }
+    whole
+}
+
+// From the product before each entry, and the inverse of the product of all, the inverse of each: the last entry first.
+fn share_inverse(m: u32, list: &[u32], n: usize, inverse: u32, output: &mut [u32])
+    requires { ⌜ Sharable m (now list) n inverse (now output) ⌝ }
+    ensures { λ _. ⌜ now (output .exit) ≡ filled (λ i. Number.inverse m (getD (now (list .entry)) i 0)) n (now (output .entry)) ⌝ }
+{
+    let mut shared = inverse;
+    let mut i = n;
+    while 0 < i {
+        i -= 1;
+        output[i] = product(m, shared, output[i]);
+        shared = product(m, shared, list[i]);
+    }
+}
+
+// The inverses of the first n entries, each 0 where there is none.
+pub fn inverses(m: u32, list: &[u32], n: usize, output: &mut [u32])
+    requires { ⌜ (n ≤ length (now list)) × (n ≤ length (now output)) ⌝ }
+    ensures { λ _. ⌜ now (output .exit) ≡ filled (λ i. Number.inverse m (getD (now (list .entry)) i 0)) n (now (output .entry)) ⌝ }
+{
+    if m < 2 {
+        one_by_one(m, list, n, output);
+        return;
+    }
+    let whole = invert(m, running_products(m, list, n, output));
+    let Inversion::Found(inverse) = whole else {
+        one_by_one(m, list, n, output);
+        return;
+    };
+    share_inverse(m, list, n, inverse, output);
+}
