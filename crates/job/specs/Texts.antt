@@ -3,7 +3,7 @@
 --   Ready            a job stands in a text of at most 8,192 bytes, and the tests on sizes pass
 -- Proved: what a refusal leaves, and what the finished kind does, is what the text call promises. Assumes nothing.
 use mathlib.Core.Bool.{true, false}
-use mathlib.Core.List.{List, [], _∷_, _++_, append-nil}
+use mathlib.Core.List.{List, [], _∷_, _++_}
 use mathlib.Core.Path.{_≡_, refl, sym, _∙_, ap, ap₂}
 use Prim.Native.Nat.{ℕ, _-_, _<_, _≤_}
 use native.Mathlib.Nat.{sub-zero}
@@ -20,7 +20,7 @@ use Rattle.definitions.specs.TextCall.{mostBytes, textLengthTest, formTests, te
 use Rattle.definitions.specs.declared.Answer.{Answer}
 use Rattle.definitions.specs.declared.Operation.{Operation}
 use Rattle.definitions.specs.declared.Valued.{Valued}
-use Rattle.theory.specs.Verdicts.{None, verdict-here, verdict-next, verdict-finished, verdict-stops, verdict-goes-on}
+use Rattle.theory.specs.Verdicts.{None, verdict-here, verdict-next, verdict-finished, verdict-stops, verdict-goes-on, withValues, verdict-values}
 use Rattle.operations.specs.Lists.{Parts, sized-by-tests, result-length}
 use Rattle.operations.specs.Tests.{resultCount, sizeTests, valueTests, sizesOf, job-tests, Fits, sizes-fit, curve-few, result-few}
 use Rattle.reader.specs.Form.{JobAt}
@@ -188,9 +188,10 @@ module _ (t : List ℕ) (modulus : ℕ) (operation : Operation) (a b c curve : S
 
         pub values-refused : (k : ℕ) → tested ≡ Answer.Refused k → (v : Valued) → v ≡ withLength 0 tested → TextConverted t v output output work work′
         values-refused k q v is =
-            let no = verdict-stops [] (length (reply t) ∷ []) (valueTests (meant job .family) (job .curve)) [] k (sym value-verdict ∙ ap answered q) in
+            let no : verdict (valueTests (meant job .family) (job .curve)) (length (reply t) ∷ []) ≡ refused k =
+            verdict-values (length (reply t) ∷ []) (valueTests (meant job .family) (job .curve)) ∙ ap (withValues (length (reply t) ∷ [])) (sym value-verdict ∙ ap answered q) in
             let stays : work′ ≡ work = done .wiped ∙ ap (λ r. after (answered r) (cleared work) work) q in
-            rw (is ∙ ap (withLength 0) q, stays) (refused-text t output work k (values-left _ ∙ sym (ap (λ ts. verdict ts (length (reply t) ∷ [])) (append-nil (valueTests (meant job .family) (job .curve)))) ∙ no))
+            rw (is ∙ ap (withLength 0) q, stays) (refused-text t output work k (values-left _ ∙ no))
 
         stored : tested ≡ Answer.Finished → list′ ≡ converted operation loadedFamily loadedCurve ++ drop count list
         stored q = done .written ∙ ap (λ r. after (answered r) (converted operation loadedFamily loadedCurve ++ drop count list) list) q

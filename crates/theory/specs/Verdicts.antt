@@ -1,7 +1,9 @@
 -- Verdicts, and each test of the refusals as a plain fact.
---   None ts   no test of ts holds
--- Proved: a verdict is finished if and only if no test holds, and a verdict is settled test by test; of each test, that it does
--- not hold is a plain fact about lengths, entries or inverses, and the fact is that it does not hold.
+--   None ts           no test of ts holds
+--   withValues vs v   the verdict v, with the values vs if it is finished
+-- Proved: a verdict is finished if and only if no test holds, a verdict is settled test by test, and its values make no difference to
+-- whether it is; of each test, that it does not hold is a plain fact about lengths, entries or inverses, and the fact is that it does
+-- not hold.
 -- Assumes nothing.
 use mathlib.Core.Path.{_≡_, refl, sym, _∙_, ap}
 use mathlib.Core.Bool.{Bool, true, false, not, _||_, not-eq-not, true≢false}
@@ -15,7 +17,7 @@ use lib.ListN.{length, getD}
 use borrow.Author.Tests.{eq-eqb, eqb-true, le-ltb, leb-false, lt-leb, ltb-false, not-false}
 use Rattle.definitions.specs.Number.{HasInverse, inverse}
 use Rattle.definitions.specs.Family.{Family, Modulus, mostRows, rows, size}
-use Rattle.definitions.specs.Refusals.{Test, finished, refused, verdict, some, differ, notBelow, noInverse, workLength, modulusTest, lengthsTest, rowCountTest, curveLengthTest, outputTest, workTest, entriesTest, aInverseTest, cInverseTest, curveEntriesTest, numberTest, numberInverseTest}
+use Rattle.definitions.specs.Refusals.{Test, Verdict, finished, refused, verdict, some, differ, notBelow, noInverse, workLength, modulusTest, lengthsTest, rowCountTest, curveLengthTest, outputTest, workTest, entriesTest, aInverseTest, cInverseTest, curveEntriesTest, numberTest, numberInverseTest}
 use Rattle.theory.specs.Inverse.{inverse-right}
 use Rattle.theory.specs.Lists.{Each}
 
@@ -44,6 +46,21 @@ verdict-finished (t ∷ ts) values = split (t .holds) refl (verdict-finished ts 
     split true q rest =
         (λ e. absurd (refused-not-finished (t .number) values (sym (verdict-here t ts values q) ∙ e)), λ n. absurd (true≢false (sym q ∙ n .0)))
     split false q rest = rw (verdict-next t ts values q) (λ e. (q, rest .0 e), λ n. rest .1 (n .1))
+
+-- a verdict, with the values that it gives if finished
+abbrev pub withValues : List ℕ → Verdict → Verdict
+withValues values (finished none) = finished values
+withValues values (refused k) = refused k
+
+pub verdict-values : (values : List ℕ) (ts : List Test) → verdict ts values ≡ withValues values (verdict ts [])
+unfolding verdict
+verdict-values values [] = refl
+verdict-values values (t ∷ ts) = split (t .holds) refl (verdict-values values ts)
+  where
+    split : (h : Bool) → t .holds ≡ h → verdict ts values ≡ withValues values (verdict ts [])
+        → verdict (t ∷ ts) values ≡ withValues values (verdict (t ∷ ts) [])
+    split true q rest = rw (verdict-here t ts values q, verdict-here t ts [] q)
+    split false q rest = rw (verdict-next t ts values q, verdict-next t ts [] q) rest
 
 -- tests that are made in two parts
 pub none-append : (ts us : List Test) → None (ts ++ us) ↔ (None ts × None us)

@@ -2,7 +2,6 @@
 -- Proved: a call that writes a list keeps its promise when its answer is turned into a number, with a working list or without;
 -- so do Inverse, whether it finishes or refuses, and the text call. Assumes nothing.
 use mathlib.Core.Path.{_≡_, refl, sym, _∙_, ap}
-use mathlib.Core.Bool.{Bool, true, false}
 use mathlib.Core.List.{List, [], _∷_, _++_}
 use Prim.Native.Nat.{ℕ}
 use lib.ListN.{length, drop}
@@ -11,7 +10,7 @@ use Rattle.definitions.specs.Refusals.{Test, Verdict, finished, refused, verdic
 use Rattle.definitions.specs.TextCall.{textTests, reply, TextConverted}
 use Rattle.definitions.specs.declared.Answer.{Answer}
 use Rattle.definitions.specs.declared.Valued.{Valued}
-use Rattle.theory.specs.Verdicts.{refused-not-finished, verdict-here, verdict-next}
+use Rattle.theory.specs.Verdicts.{refused-not-finished, withValues, verdict-values}
 use Rattle.zahupnik.specs.Returned.{number, Returned, ReturnedIn}
 
 pub list-returned : (tests : List Test) (result output output′ : List ℕ) (r : Answer) (k : ℕ)
@@ -29,21 +28,6 @@ list-returned-in tests result output output′ work work′ r k converted e = re
   written = converted .written ∙ ap (λ v. after v result output) (converted .answer);
   wiped = converted .wiped ∙ ap (λ v. after v (cleared work) work) (converted .answer);
 }
-
--- a verdict, with the values that it gives if finished
-abbrev withValues : List ℕ → Verdict → Verdict
-withValues values (finished none) = finished values
-withValues values (refused k) = refused k
-
-verdict-values : (values : List ℕ) (ts : List Test) → verdict ts values ≡ withValues values (verdict ts [])
-unfolding verdict
-verdict-values values [] = refl
-verdict-values values (t ∷ ts) = split (t .holds) refl (verdict-values values ts)
-  where
-    split : (h : Bool) → t .holds ≡ h → verdict ts values ≡ withValues values (verdict ts [])
-        → verdict (t ∷ ts) values ≡ withValues values (verdict (t ∷ ts) [])
-    split true q rest = rw (verdict-here t ts values q, verdict-here t ts [] q)
-    split false q rest = rw (verdict-next t ts values q, verdict-next t ts [] q) rest
 
 module _ (tests : List Test) (x old : ℕ) where
   pub value-returned : (y : ℕ) → finished (y ∷ []) ≡ verdict tests (x ∷ []) → Returned tests (x ∷ []) 0 (old ∷ []) (y ∷ [])
