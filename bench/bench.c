@@ -2,7 +2,7 @@
  *
  * usage: bench full|short|count
  *
- * full   r = 15, 31, 63 and 127, modulo a prime and a composite number: the median of SAMPLES samples of SAMPLE_TIME or more each,
+ * full   r = 15, 31, 63 and 127, modulo a prime and a composite number: the least of SAMPLES samples of SAMPLE_TIME or more each,
  *        where the participants take turns, so that what else the machine does hits all alike. Times are processor time.
  * short  r = 15 and 127, and single samples of a fraction of that: for the gate, where no time matters.
  * count  r = 127, each call once: for a run under callgrind, which writes the instructions of each call to a file of its own.
@@ -29,7 +29,11 @@
 #include "contest.h"
 #include "zahupnik.h"
 
-enum { FAMILIES = 16, SAMPLES = 9 };
+enum { FAMILIES = 16 };
+
+#define SAMPLES 15
+#define TEXT_OF(number) QUOTED(number)
+#define QUOTED(number) #number
 
 static const double SAMPLE_TIME = 0.020, SHORT_SAMPLE_TIME = 0.001;
 
@@ -185,10 +189,11 @@ static void compare(void) {
     }
 }
 
+/* The time is the least of a call's, over the samples. */
 struct participant {
     convert *convert;
     unsigned repetitions;
-    double samples[SAMPLES], time;
+    double time;
 };
 
 static double seconds(void) {
@@ -204,24 +209,18 @@ static double time_of(convert *convert, unsigned repetitions) {
     return seconds() - start;
 }
 
-static int by_size(const void *x, const void *y) {
-    double p = *(const double *)x, q = *(const double *)y;
-    return (p > q) - (p < q);
-}
-
 static void measure(struct participant *participants, size_t count, bool brief) {
     for (size_t i = 0; i < count; i++) {
         struct participant *p = &participants[i];
-        for (p->repetitions = 1; time_of(p->convert, p->repetitions) < (brief ? SHORT_SAMPLE_TIME : SAMPLE_TIME);) p->repetitions *= 2;
+        p->repetitions = 1;
+        while ((p->time = time_of(p->convert, p->repetitions)) < (brief ? SHORT_SAMPLE_TIME : SAMPLE_TIME)) p->repetitions *= 2;
+        p->time /= p->repetitions;
     }
-    size_t samples = brief ? 1 : SAMPLES;
-    for (size_t sample = 0; sample < samples; sample++)
-        for (size_t i = 0; i < count; i++)
-            participants[i].samples[sample] = time_of(participants[i].convert, participants[i].repetitions) / participants[i].repetitions;
-    for (size_t i = 0; i < count; i++) {
-        qsort(participants[i].samples, samples, sizeof *participants[i].samples, by_size);
-        participants[i].time = participants[i].samples[samples / 2];
-    }
+    for (size_t sample = brief ? SAMPLES : 1; sample < SAMPLES; sample++)
+        for (size_t i = 0; i < count; i++) {
+            double time = time_of(participants[i].convert, participants[i].repetitions) / participants[i].repetitions;
+            if (time < participants[i].time) participants[i].time = time;
+        }
 }
 
 static struct participant participants[CALLS + CONTESTANTS * OPERATIONS];
@@ -311,6 +310,11 @@ int main(int words, char **word) {
         fprintf(stderr, "usage: bench full|short|count\n");
         return 2;
     }
+    if (!counts)
+        printf("Each table stands after all in it gave equal answers on %d families, which then take turns. The library's calls make all of\n"
+               "their tests and the others none. Those that go by a tree build it in each call. Buffers are not cleared between calls:\n"
+               "a tree call clears its working list itself, and that is in its time. Times are processor time, %s.\n",
+               FAMILIES, brief ? "from single short samples, which measure little" : "the least of " TEXT_OF(SAMPLES) " samples");
     for (size_t i = 0; i < sizeof moduli / sizeof *moduli; i++)
         for (size_t k = 0; k < sizeof rows / sizeof *rows; k++) {
             size_t r = rows[k];
