@@ -1,0 +1,330 @@
+/* Times every call of the library with all of its tests, through the C interface, beside contestants that test nothing.
+ *
+ * usage: bench full|short|count
+ *
+ * full   r = 15, 31, 63 and 127, modulo a prime and a composite number: the least of SAMPLES samples of SAMPLE_TIME or more each,
+ *        where the participants take turns, so that what else the machine does hits all alike. Times are processor time.
+ * short  r = 15 and 127, and single samples of a fraction of that: for the gate, where no time matters.
+ * count  r = 127, each call once: for a run under callgrind, which writes the instructions of each call to a file of its own.
+ *
+ * Before it times anything it compares the answers of all participants on all FAMILIES families, and ends with 1 where two differ. Every
+ * call has another family than the call before it. Buffers are not cleared between calls: an output holds the last result, the
+ * working list the zeros that each tree call leaves, and clearing it is part of such a call.
+ */
+#include <inttypes.h>
+#include <stdbool.h>
+#include <stdio.h>
+#include <stdlib.h>
+#include <string.h>
+#include <time.h>
+
+#ifdef COUNT
+#include <valgrind/callgrind.h>
+#else
+#define CALLGRIND_ZERO_STATS
+#define CALLGRIND_DUMP_STATS_AT(name) ((void)(name))
+#endif
+
+#include "../tests/differential/random.h"
+#include "contest.h"
+#include "zahupnik.h"
+
+enum { FAMILIES = 16 };
+
+#define SAMPLES 15
+#define TEXT_OF(number) QUOTED(number)
+#define QUOTED(number) #number
+
+static const double SAMPLE_TIME = 0.020, SHORT_SAMPLE_TIME = 0.001;
+
+/* The packages stand last. */
+static const struct contestant *const contestants[] = {
+    &straightforward,
+    &best,
+#ifdef FLINT
+    &flint,
+#endif
+#ifdef NTL
+    &ntl,
+#endif
+};
+enum { PACKAGES = 2, CONTESTANTS = sizeof contestants / sizeof *contestants };
+
+static struct job jobs[FAMILIES];
+static uint32_t work[ZAHUPNIK_LEAST_WORK];
+static char job_texts[FAMILIES][ZAHUPNIK_MOST_TEXT];
+static size_t job_lengths[FAMILIES];
+
+static void fail(const char *call, const char *what, const struct job *x) {
+    fprintf(stderr, "bench: %s: %s (m = %" PRIu32 ", r = %zu, family %td)\n", call, what, x->m, x->r, x - jobs);
+    exit(1);
+}
+
+#define FAMILY x->m, x->a, x->r, x->b, x->r, x->c, x->r
+#define LIBRARY(name, ...)                                                                          \
+    static void name(const struct job *x, uint32_t *result) {                                       \
+        if (zahupnik_##name(__VA_ARGS__) != ZAHUPNIK_FINISHED) fail(#name, "refuses the family", x); \
+    }
+LIBRARY(invert, x->m, x->a[0], result)
+LIBRARY(plain_expand, FAMILY, x->v, x->r + 1, result, x->r + 1)
+LIBRARY(plain_adjoint, FAMILY, x->v, x->r + 1, result, x->r + 1)
+LIBRARY(plain_decompose, FAMILY, x->v, x->r + 1, result, x->r + 1)
+LIBRARY(norms, FAMILY, result, x->r + 1)
+LIBRARY(tree_expand, FAMILY, x->v, x->r + 1, result, x->r + 1, work, ZAHUPNIK_LEAST_WORK)
+LIBRARY(tree_adjoint, FAMILY, x->v, x->r + 1, result, x->r + 1, work, ZAHUPNIK_LEAST_WORK)
+LIBRARY(tree_decompose, FAMILY, x->v, x->r + 1, result, x->r + 1, work, ZAHUPNIK_LEAST_WORK)
+LIBRARY(moments, FAMILY, result, 2 * x->r + 1, work, ZAHUPNIK_LEAST_WORK)
+
+static uint8_t answer_text[ZAHUPNIK_LEAST_TEXT_OUTPUT];
+static uint32_t answer_length;
+
+/* The text call leaves its result in answer_text. */
+static void text_expand(const struct job *x, uint32_t *result) {
+    (void)result;
+    size_t at = (size_t)(x - jobs);
+    if (zahupnik_convert_text((const uint8_t *)job_texts[at], job_lengths[at], answer_text, sizeof answer_text, work,
+                              ZAHUPNIK_LEAST_WORK, &answer_length) != ZAHUPNIK_FINISHED)
+        fail("text_expand", "refuses the text", x);
+}
+
+/* What a call's time is held against. */
+enum bound { NONE, STRAIGHTFORWARD, PACKAGE, TREE };
+static const char *const against[] = {"", "straightforward C", "the quicker of FLINT and NTL", "tree Expand"};
+
+enum { TREE_EXPAND = 1 };
+static const struct call {
+    const char *name;
+    convert *convert;
+    enum operation operation;
+    enum bound bound;
+} calls[] = {
+    {"plain Expand", plain_expand, EXPAND, STRAIGHTFORWARD},
+    [TREE_EXPAND] = {"tree Expand", tree_expand, EXPAND, PACKAGE},
+    {"text, expand", text_expand, EXPAND, TREE},
+    {"plain Adjoint", plain_adjoint, ADJOINT, STRAIGHTFORWARD},
+    {"tree Adjoint", tree_adjoint, ADJOINT, PACKAGE},
+    {"plain Decompose", plain_decompose, DECOMPOSE, STRAIGHTFORWARD},
+    {"tree Decompose", tree_decompose, DECOMPOSE, PACKAGE},
+    {"Moments", moments, MOMENTS, NONE},
+    {"Norms", norms, NORMS, NONE},
+    {"Inverse", invert, INVERT, NONE},
+};
+enum { CALLS = sizeof calls / sizeof *calls };
+
+static size_t result_length(enum operation operation, size_t r) {
+    return operation == INVERT ? 1 : operation == MOMENTS ? 2 * r + 1 : r + 1;
+}
+
+static uint32_t common_divisor(uint32_t x, uint32_t y) {
+    while (y) {
+        uint32_t rest = x % y;
+        x = y;
+        y = rest;
+    }
+    return x;
+}
+
+static uint32_t unit(struct random *random, uint32_t m) {
+    uint32_t x;
+    do x = below(random, m);
+    while (common_divisor(m, x) != 1);
+    return x;
+}
+
+static size_t append_list(char *text, const char *key, const uint32_t *entries, size_t count) {
+    char *at = text + sprintf(text, "%s=", key);
+    for (size_t i = 0; i < count; i++) at += sprintf(at, "%s%" PRIu32, i ? " " : "", entries[i]);
+    *at++ = '\n';
+    return (size_t)(at - text);
+}
+
+static void make_jobs(uint32_t m, size_t r) {
+    for (size_t i = 0; i < FAMILIES; i++) {
+        struct random random = random_of_case(m, r * FAMILIES + i);
+        struct job *x = &jobs[i];
+        x->m = m, x->r = r;
+        for (size_t k = 0; k < r; k++) {
+            x->a[k] = unit(&random, m);
+            x->b[k] = below(&random, m);
+            x->c[k] = unit(&random, m);
+        }
+        for (size_t k = 0; k <= r; k++) x->v[k] = below(&random, m);
+        char *at = job_texts[i];
+        at += append_list(at, "mod", &m, 1);
+        at += append_list(at, "a", x->a, r);
+        at += append_list(at, "b", x->b, r);
+        at += append_list(at, "c", x->c, r);
+        at += sprintf(at, "op=expand\n");
+        at += append_list(at, "v", x->v, r + 1);
+        job_lengths[i] = (size_t)(at - job_texts[i]);
+    }
+}
+
+/* All participants give what the first contestant gives, on every family. */
+static void compare(void) {
+    static uint32_t expected[MOST_RESULTS], found[MOST_RESULTS];
+    static char text[ZAHUPNIK_LEAST_TEXT_OUTPUT];
+    for (size_t i = 0; i < FAMILIES; i++) {
+        const struct job *x = &jobs[i];
+        for (enum operation operation = 0; operation < OPERATIONS; operation++) {
+            size_t size = result_length(operation, x->r) * sizeof *found;
+            contestants[0]->convert[operation](x, expected);
+            for (size_t k = 1; k < CONTESTANTS; k++) {
+                memset(found, 0xFF, sizeof found);
+                contestants[k]->convert[operation](x, found);
+                if (memcmp(found, expected, size)) fail(contestants[k]->name, "gives another answer than straightforward C", x);
+            }
+            for (size_t k = 0; k < CALLS; k++) {
+                if (calls[k].operation != operation) continue;
+                memset(found, 0xFF, sizeof found);
+                calls[k].convert(x, found);
+                if (calls[k].convert == text_expand) {
+                    size_t length = (size_t)sprintf(text, "op=expand\n");
+                    length += append_list(text + length, "out", expected, x->r + 1);
+                    if (answer_length != length || memcmp(answer_text, text, length)) fail(calls[k].name, "gives another answer", x);
+                } else if (memcmp(found, expected, size))
+                    fail(calls[k].name, "gives another answer than straightforward C", x);
+            }
+        }
+    }
+}
+
+/* The time is the least of a call's, over the samples. */
+struct participant {
+    convert *convert;
+    unsigned repetitions;
+    double time;
+};
+
+static double seconds(void) {
+    struct timespec now;
+    clock_gettime(CLOCK_PROCESS_CPUTIME_ID, &now);
+    return (double)now.tv_sec + (double)now.tv_nsec * 1e-9;
+}
+
+static double time_of(convert *convert, unsigned repetitions) {
+    static uint32_t result[MOST_RESULTS];
+    double start = seconds();
+    for (unsigned i = 0; i < repetitions; i++) convert(&jobs[i % FAMILIES], result);
+    return seconds() - start;
+}
+
+static void measure(struct participant *participants, size_t count, bool brief) {
+    for (size_t i = 0; i < count; i++) {
+        struct participant *p = &participants[i];
+        p->repetitions = 1;
+        while ((p->time = time_of(p->convert, p->repetitions)) < (brief ? SHORT_SAMPLE_TIME : SAMPLE_TIME)) p->repetitions *= 2;
+        p->time /= p->repetitions;
+    }
+    for (size_t sample = brief ? SAMPLES : 1; sample < SAMPLES; sample++)
+        for (size_t i = 0; i < count; i++) {
+            double time = time_of(participants[i].convert, participants[i].repetitions) / participants[i].repetitions;
+            if (time < participants[i].time) participants[i].time = time;
+        }
+}
+
+static struct participant participants[CALLS + CONTESTANTS * OPERATIONS];
+
+static struct participant *of_contestant(size_t contestant, enum operation operation) {
+    return &participants[CALLS + contestant * OPERATIONS + operation];
+}
+
+static void print_table(uint32_t m, size_t r) {
+    printf("\nm = %" PRIu32 ", r = %zu: microseconds for a call, and the library's time over the contestant's\n\n", m, r);
+    printf("| call | library |");
+    for (size_t k = 0; k < CONTESTANTS; k++) printf(" %s | ratio |", contestants[k]->name);
+    printf("\n|---|---:|");
+    for (size_t k = 0; k < CONTESTANTS; k++) printf("---:|---:|");
+    printf("\n");
+    for (size_t i = 0; i < CALLS; i++) {
+        printf("| %s | %.2f |", calls[i].name, participants[i].time * 1e6);
+        for (size_t k = 0; k < CONTESTANTS; k++) {
+            double time = of_contestant(k, calls[i].operation)->time;
+            printf(" %.2f | %.2f |", time * 1e6, participants[i].time / time);
+        }
+        printf("\n");
+    }
+}
+
+/* The quicker of FLINT and NTL; 0 if neither is here. */
+static double quicker_package(enum operation operation) {
+    double least = 0;
+    for (size_t k = PACKAGES; k < CONTESTANTS; k++) {
+        double time = of_contestant(k, operation)->time;
+        if (k == PACKAGES || time < least) least = time;
+    }
+    return least;
+}
+
+/* The ratios that are held to a bound at the most rows (docs/PERFORMANCE.md). */
+static void print_bounds(uint32_t m) {
+    printf("\nm = %" PRIu32 ", r = %d: the ratios that have a bound\n\n| call | against | ratio | at most |\n|---|---|---:|---:|\n", m, MOST_ROWS);
+    for (size_t i = 0; i < CALLS; i++) {
+        double own = participants[i].time, other = 0;
+        switch (calls[i].bound) {
+        case STRAIGHTFORWARD: other = of_contestant(0, calls[i].operation)->time; break;
+        case PACKAGE: other = quicker_package(calls[i].operation); break;
+        case TREE: other = participants[TREE_EXPAND].time; break;
+        case NONE: break;
+        }
+        if (other > 0) printf("| %s | %s | %.2f | %.1f |\n", calls[i].name, against[calls[i].bound], own / other, calls[i].bound == TREE ? 1.3 : 1.0);
+    }
+}
+
+static void time_all(uint32_t m, size_t r, bool brief) {
+    for (size_t i = 0; i < CALLS; i++) participants[i].convert = calls[i].convert;
+    for (size_t k = 0; k < CONTESTANTS; k++)
+        for (enum operation operation = 0; operation < OPERATIONS; operation++)
+            of_contestant(k, operation)->convert = contestants[k]->convert[operation];
+    measure(participants, sizeof participants / sizeof *participants, brief);
+    print_table(m, r);
+    if (r == MOST_ROWS && !brief) print_bounds(m);
+}
+
+/* Each dump is named by the modulus, the contestant and the operation, or the call. */
+static void count(const char *name, const char *what, convert *convert, uint32_t m) {
+    static uint32_t result[MOST_RESULTS];
+    char label[80];
+    snprintf(label, sizeof label, "%" PRIu32 "/%s/%s", m, name, what);
+    convert(&jobs[0], result);
+    CALLGRIND_ZERO_STATS;
+    convert(&jobs[1], result);
+    CALLGRIND_DUMP_STATS_AT(label);
+}
+
+static void count_all(uint32_t m) {
+    for (size_t i = 0; i < CALLS; i++) count("library", calls[i].name, calls[i].convert, m);
+    for (size_t k = 0; k < CONTESTANTS; k++)
+        for (enum operation operation = 0; operation < OPERATIONS; operation++) {
+            static const char *const names[OPERATIONS] = {"Inverse", "Expand", "Adjoint", "Decompose", "Norms", "Moments"};
+            count(contestants[k]->name, names[operation], contestants[k]->convert[operation], m);
+        }
+}
+
+int main(int words, char **word) {
+    static const uint32_t moduli[] = {2147483647, 2147483646};
+    static const size_t rows[] = {15, 31, 63, 127};
+    bool full = words == 2 && !strcmp(word[1], "full"), brief = words == 2 && !strcmp(word[1], "short");
+    bool counts = words == 2 && !strcmp(word[1], "count");
+    if (!full && !brief && !counts) {
+        fprintf(stderr, "usage: bench full|short|count\n");
+        return 2;
+    }
+    if (!counts)
+        printf("Each table stands after all in it gave equal answers on %d families, which then take turns. The library's calls make all of\n"
+               "their tests and the others none. Those that go by a tree build it in each call. Buffers are not cleared between calls:\n"
+               "a tree call clears its working list itself, and that is in its time. Times are processor time, %s.\n",
+               FAMILIES, brief ? "from single short samples, which measure little" : "the least of " TEXT_OF(SAMPLES) " samples");
+    for (size_t i = 0; i < sizeof moduli / sizeof *moduli; i++)
+        for (size_t k = 0; k < sizeof rows / sizeof *rows; k++) {
+            size_t r = rows[k];
+            if ((brief && r != 15 && r != 127) || (counts && r != 127)) continue;
+            make_jobs(moduli[i], r);
+            compare();
+            if (counts)
+                count_all(moduli[i]);
+            else
+                time_all(moduli[i], r, brief);
+        }
+    return 0;
+}
