@@ -1,0 +1,90 @@
+/* What figures.h declares. */
+#include "figures.h"
+
+#include <string.h>
+
+#define R 7, 2, {1, 2}, {0, 3}, {1, 5}
+#define FOUR 35, 4, {2, 3, 4, 6}, {1, 0, 34, 5}, {3, 8, 9, 11}
+#define EIGHT 10, 8, {1, 3, 7, 9, 1, 3, 7, 9}, {0, 1, 2, 3, 4, 5, 6, 7}, {9, 7, 3, 1, 9, 7, 3, 1}
+#define P12_FAMILY 15, 1, {2}, {1}, {4}
+#define P10_FAMILY 15, 1, {3}, {0}, {5}
+#define TWO_FAULTS 15, 2, {3, 1}, {0, 0}, {1, 15}
+#define NO_ROWS(m) m, 0, {0}, {0}, {0}
+#define NO_CURVE \
+    { 0 }
+
+const struct figure FIGURES[] = {
+    {"P1", EXPAND, R, {3, 0, 1}, 0, {1, 3, 2}},
+    {"P2", ADJOINT, R, {1, 3, 2}, 0, {1, 3, 4}},
+    {"P3", DECOMPOSE, R, {1, 3, 2}, 0, {3, 0, 1}},
+    {"P4", MOMENTS, R, NO_CURVE, 0, {1, 0, 1, 2, 1}},
+    {"P5", NORMS, R, NO_CURVE, 0, {1, 1, 5}},
+    {"P6", EXPAND, NO_ROWS(2), {1}, 0, {1}},
+    {"P7", EXPAND, 2, 1, {1}, {1}, {1}, {1, 1}, 0, {0, 1}},
+    {"P8", INVERSE, NO_ROWS(15), {4}, 0, {4}},
+    {"P9", INVERSE, NO_ROWS(15), {6}, 13, {0}},
+    {"P10", EXPAND, P10_FAMILY, {1, 1}, 10, {0}},
+    {"P11", MOMENTS, NO_ROWS(7), NO_CURVE, 0, {1}},
+    {"P11", NORMS, NO_ROWS(7), NO_CURVE, 0, {1}},
+    {"P12", MOMENTS, P12_FAMILY, NO_CURVE, 0, {8, 11, 13}},
+    {"P12", NORMS, P12_FAMILY, NO_CURVE, 0, {8, 14}},
+    {"four", EXPAND, FOUR, {1, 2, 3, 4, 5}, 0, {6, 31, 7, 1, 20}},
+    {"four", ADJOINT, FOUR, {1, 2, 3, 4, 5}, 0, {1, 5, 32, 34, 4}},
+    {"four", DECOMPOSE, FOUR, {6, 31, 7, 1, 20}, 0, {1, 2, 3, 4, 5}},
+    {"four", MOMENTS, FOUR, NO_CURVE, 0, {18, 26, 33, 13, 20, 9, 30, 26, 19}},
+    {"four", NORMS, FOUR, NO_CURVE, 0, {18, 9, 18, 8, 22}},
+    {"eight", EXPAND, EIGHT, {1, 2, 3, 4, 5, 6, 7, 8, 9}, 0, {7, 8, 7, 4, 8, 0, 8, 2, 9}},
+    {"eight", ADJOINT, EIGHT, {1, 2, 3, 4, 5, 6, 7, 8, 9}, 0, {1, 2, 8, 5, 6, 0, 1, 6, 1}},
+    {"eight", DECOMPOSE, EIGHT, {7, 8, 7, 4, 8, 0, 8, 2, 9}, 0, {1, 2, 3, 4, 5, 6, 7, 8, 9}},
+    {"eight", MOMENTS, EIGHT, NO_CURVE, 0, {1, 0, 1, 3, 7, 3, 2, 4, 5, 1, 0, 4, 9, 7, 9, 3, 5}},
+    {"eight", NORMS, EIGHT, NO_CURVE, 0, {1, 1, 3, 1, 9, 9, 7, 9, 9}},
+    {"P10's family", ADJOINT, P10_FAMILY, {1, 1}, 10, {0}},
+    {"P10's family", DECOMPOSE, P10_FAMILY, {1, 1}, 10, {0}},
+    {"P10's family", MOMENTS, P10_FAMILY, NO_CURVE, 10, {0}},
+    {"P10's family", NORMS, P10_FAMILY, NO_CURVE, 10, {0}},
+    {"two faults", EXPAND, TWO_FAULTS, {15, 0, 0}, 9, {0}},
+    {"two faults", ADJOINT, TWO_FAULTS, {15, 0, 0}, 9, {0}},
+    {"two faults", DECOMPOSE, TWO_FAULTS, {15, 0, 0}, 9, {0}},
+    {"two faults", MOMENTS, TWO_FAULTS, NO_CURVE, 9, {0}},
+    {"two faults", NORMS, TWO_FAULTS, NO_CURVE, 9, {0}},
+    {"2 modulo 15", INVERSE, NO_ROWS(15), {2}, 0, {8}},
+    {.name = NULL},
+};
+
+#define JOB(m, a, v) "mod=" m "\na=" a "\nb=0 3\nc=1 5\nop=expand\nv=" v
+
+const struct text_figure TEXT_FIGURES[] = {
+    {"a=01 2", JOB("7", "01 2", "3 0 1\n"), 4096, 2},
+    {"a=1  2", JOB("7", "1  2", "3 0 1\n"), 4096, 2},
+    {"a byte 13", JOB("7\r", "1 2", "3 0 1\n"), 4096, 2},
+    {"no last byte 10", JOB("7", "1 2", "3 0 1"), 4096, 2},
+    {"a seventh line", JOB("7", "1 2", "3 0 1\nv=\n"), 4096, 2},
+    {"v=4294967296 0 1", JOB("7", "1 2", "4294967296 0 1\n"), 4096, 2},
+    {"4,095 bytes", JOB("7", "1 2", "3 0 1\n"), 4095, 7},
+    {"mod=1 and 4,095 bytes", JOB("1", "1 2", "3 0 1\n"), 4095, 3},
+    {"v=1 for norms", "mod=7\na=1 2\nb=0 3\nc=1 5\nop=norms\nv=1\n", 4096, 6},
+    {.name = NULL},
+};
+
+struct lent figure_lent(const struct figure *figure) {
+    struct lent x = {.operation = figure->operation, .m = figure->m};
+    x.a = (struct list){(uint32_t *)figure->a, figure->rows};
+    x.b = (struct list){(uint32_t *)figure->b, figure->rows};
+    x.c = (struct list){(uint32_t *)figure->c, figure->rows};
+    x.curve = (struct list){(uint32_t *)figure->curve, curve_length(&x)};
+    return x;
+}
+
+static bool same(struct list x, struct list y) {
+    return x.length == y.length && (!x.length || memcmp(x.entries, y.entries, x.length * sizeof *x.entries) == 0);
+}
+
+bool is_figure(const struct lent *x) {
+    for (const struct figure *figure = FIGURES; figure->name; figure++) {
+        struct lent y = figure_lent(figure);
+        if (x->operation == y.operation && x->m == y.m && same(x->a, y.a) && same(x->b, y.b) && same(x->c, y.c) &&
+            same(x->curve, y.curve))
+            return true;
+    }
+    return false;
+}

@@ -1,0 +1,30 @@
+/* The scope paper's calls once more, by Figures 1 to 3, with one slip at choice. Shares with the model the tests alone. */
+#ifndef SLIPS_H
+#define SLIPS_H
+
+#include "version.h"
+
+/* Each is a way to call with that slip alone; without_a_slip has none. */
+uint32_t without_a_slip(const struct call *call);
+
+/* The tree. A node is the right half's matrix times the left half's. */
+uint32_t halves_swapped(const struct call *call);      /* the left half's matrix times the right half's */
+uint32_t lowest_level_only(const struct call *call);   /* nodes over two pairs of rows are joined; above, the left half stands for both */
+uint32_t padding_shows(const struct call *call);       /* the tree is filled up with rows 1 1 1, and the curve with ones */
+
+/* Inverses. */
+uint32_t powering_untested(const struct call *call);   /* x^(m-2), and no test whether there is an inverse */
+uint32_t non_zero_taken(const struct call *call);      /* whatever is not zero taken to have an inverse */
+
+/* Norms. */
+uint32_t norm_over_a_i(const struct call *call);       /* norm i divided by a_i and not by a_{i+1}; norm 0 by a_1 */
+uint32_t norm_from_c_1(const struct call *call);       /* c_1 .. c_{i+1} and not c_2 .. c_{i+1} */
+uint32_t norm_to_c_i(const struct call *call);         /* c_1 .. c_i and not c_2 .. c_{i+1} */
+uint32_t norm_sign_lost(const struct call *call);      /* no (-1)^i */
+
+/* Moments. */
+uint32_t reversal_too_long(const struct call *call);   /* G_{n-1} reversed with length n + 1, as F_n is */
+uint32_t G_from_row_1(const struct call *call);        /* G begun with row 1, as F is */
+uint32_t closed_by_2(const struct call *call);         /* the closing row 2 1 1 */
+
+#endif

@@ -1,0 +1,74 @@
+/* Wrong versions of the library's calls, wrapped round the right ones (ld --wrap).
+ *
+ * The environment's WRONG says which: a call by its name in the header without zahupnik_, or `every`, then a colon, then the name of
+ * a version of it. Without WRONG the library stands as it is. One that is not known ends the program with 2.
+ */
+#ifndef VERSION_H
+#define VERSION_H
+
+#include "model.h"
+
+/* A call on lists as it was made: what it was lent, and where it writes. */
+struct call {
+    struct lent lent;
+    uint32_t *output, *work;
+};
+
+struct text_call {
+    const uint8_t *text;
+    size_t text_length;
+    uint8_t *output;
+    size_t output_length;
+    uint32_t *work;
+    size_t work_length;
+    uint32_t *length;
+};
+
+/* What the library does. */
+uint32_t right(const struct call *call);
+uint32_t right_text(const struct text_call *call);
+
+/* The calls that a version is a version of. */
+enum {
+    INVERT = 1 << 0,
+    PLAIN_EXPAND = 1 << 1,
+    PLAIN_ADJOINT = 1 << 2,
+    PLAIN_DECOMPOSE = 1 << 3,
+    NORMS_CALL = 1 << 4,
+    TREE_EXPAND = 1 << 5,
+    TREE_ADJOINT = 1 << 6,
+    TREE_DECOMPOSE = 1 << 7,
+    MOMENTS_CALL = 1 << 8,
+    CONVERT_TEXT = 1 << 9,
+    CALLS = 10,
+    ALL = (1 << CALLS) - 1,
+    PLAIN_CURVES = PLAIN_EXPAND | PLAIN_ADJOINT | PLAIN_DECOMPOSE,
+    TREE_CURVES = TREE_EXPAND | TREE_ADJOINT | TREE_DECOMPOSE,
+    BY_THE_TREE = TREE_CURVES | MOMENTS_CALL | CONVERT_TEXT,
+    BY_THE_NORMS = NORMS_CALL | TREE_DECOMPOSE | CONVERT_TEXT,
+    BY_THE_MOMENTS = MOMENTS_CALL | TREE_DECOMPOSE | CONVERT_TEXT,
+    ON_LISTS_ALONE = ALL & ~CONVERT_TEXT,
+    WITH_FAMILY = ALL & ~INVERT
+};
+
+/* The calls' names, in the order of the bits. */
+extern const char *const CALL_NAMES[CALLS];
+
+/* A version: a function on lists, on a text, or for both. Of the text call, one on lists alone converts the job that was read. A
+ * control is right: no test may tell it from the library. */
+struct version {
+    const char *name;
+    const char *what;
+    unsigned calls;
+    uint32_t (*on_lists)(const struct call *call);
+    uint32_t (*on_text)(const struct text_call *call);
+    bool control;
+};
+
+/* The table; it ends with a version that has no name. */
+extern const struct version VERSIONS[];
+
+/* The text call that reads its job and converts it by a version on lists. */
+uint32_t convert_job(const struct text_call *call, uint32_t (*on_lists)(const struct call *call));
+
+#endif

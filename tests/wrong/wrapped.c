@@ -1,0 +1,137 @@
+/* The functions of version.h, and those in the place of the library's, which do what was chosen. */
+#include <stdio.h>
+#include <stdlib.h>
+#include <string.h>
+
+#include "version.h"
+
+/* ---- the choice */
+
+/* Which calls have a wrong version, and which. */
+static unsigned wrong_calls;
+static const struct version *wrong;
+
+static bool opens(const char *word, const char *name) {
+    return !strncmp(word, name, strlen(name)) && word[strlen(name)] == ':';
+}
+
+static void choose(const char *word) {
+    if (opens(word, "every")) wrong_calls = ALL;
+    for (unsigned i = 0; i < CALLS; i++)
+        if (opens(word, CALL_NAMES[i])) wrong_calls = 1U << i;
+    for (const struct version *version = VERSIONS; version->name; version++)
+        if ((version->calls & wrong_calls) && !strcmp(strchr(word, ':') + 1, version->name)) wrong = version;
+    if (!wrong) {
+        fprintf(stderr, "wrong: there is no version '%s'\n", word);
+        exit(2);
+    }
+    wrong_calls &= wrong->calls;
+}
+
+/* The version of a call, or NULL if it is the library's own. */
+static const struct version *chosen(unsigned call) {
+    static bool asked;
+    if (!asked && getenv("WRONG")) choose(getenv("WRONG"));
+    asked = true;
+    return wrong_calls & call ? wrong : NULL;
+}
+
+/* ---- the right calls */
+
+#define FAMILY \
+    uint32_t m, const uint32_t *a, size_t a_length, const uint32_t *b, size_t b_length, const uint32_t *c, size_t c_length
+#define CURVE const uint32_t *curve, size_t curve_count
+#define OUTPUT uint32_t *output, size_t output_length
+#define WORK uint32_t *work, size_t work_length
+#define TEXTS const uint8_t *text, size_t text_length, uint8_t *output, size_t output_length, WORK, uint32_t *length
+
+/* What ld --wrap calls the library's functions, and the functions in their places. */
+#define WRAPPED(name, ...)                        \
+    uint32_t __real_zahupnik_##name(__VA_ARGS__); \
+    uint32_t __wrap_zahupnik_##name(__VA_ARGS__);
+WRAPPED(invert, uint32_t m, uint32_t x, uint32_t *inverse)
+WRAPPED(plain_expand, FAMILY, CURVE, OUTPUT)
+WRAPPED(plain_adjoint, FAMILY, CURVE, OUTPUT)
+WRAPPED(plain_decompose, FAMILY, CURVE, OUTPUT)
+WRAPPED(norms, FAMILY, OUTPUT)
+WRAPPED(tree_expand, FAMILY, CURVE, OUTPUT, WORK)
+WRAPPED(tree_adjoint, FAMILY, CURVE, OUTPUT, WORK)
+WRAPPED(tree_decompose, FAMILY, CURVE, OUTPUT, WORK)
+WRAPPED(moments, FAMILY, OUTPUT, WORK)
+WRAPPED(convert_text, TEXTS)
+
+#define LISTS x->m, x->a.entries, x->a.length, x->b.entries, x->b.length, x->c.entries, x->c.length
+#define OUT call->output, x->output_length
+#define BY(operation)                                                                                                  \
+    tree ? __real_zahupnik_tree_##operation(LISTS, x->curve.entries, x->curve.length, OUT, call->work, x->work_length) \
+         : __real_zahupnik_plain_##operation(LISTS, x->curve.entries, x->curve.length, OUT)
+
+uint32_t right(const struct call *call) {
+    const struct lent *x = &call->lent;
+    bool tree = x->way == TREE;
+    switch (x->operation) {
+    case INVERSE: return __real_zahupnik_invert(x->m, x->curve.entries[0], call->output);
+    case EXPAND: return BY(expand);
+    case ADJOINT: return BY(adjoint);
+    case DECOMPOSE: return BY(decompose);
+    case NORMS: return __real_zahupnik_norms(LISTS, OUT);
+    default: return __real_zahupnik_moments(LISTS, OUT, call->work, x->work_length);
+    }
+}
+
+uint32_t right_text(const struct text_call *call) {
+    return __real_zahupnik_convert_text(call->text, call->text_length, call->output, call->output_length, call->work,
+                                        call->work_length, call->length);
+}
+
+/* ---- the library's functions */
+
+static uint32_t answer(unsigned name, const struct call *call) {
+    const struct version *version = chosen(name);
+    return version ? version->on_lists(call) : right(call);
+}
+
+/* No version writes to what a call may not write. */
+static struct list lent_list(const uint32_t *entries, size_t length) { return (struct list){(uint32_t *)entries, length}; }
+
+static struct call call_of(enum operation operation, enum way way, FAMILY, CURVE, OUTPUT, WORK) {
+    struct lent lent = {.operation = operation, .way = way, .m = m, .output_length = output_length, .work_length = work_length};
+    lent.a = lent_list(a, a_length);
+    lent.b = lent_list(b, b_length);
+    lent.c = lent_list(c, c_length);
+    lent.curve = lent_list(curve, curve_count);
+    return (struct call){lent, output, work};
+}
+
+#define NONE NULL, 0
+#define ROWS m, a, a_length, b, b_length, c, c_length
+#define MADE(bit, ...)                         \
+    {                                          \
+        struct call call = call_of(__VA_ARGS__); \
+        return answer(bit, &call);             \
+    }
+#define PLAIN_CALL(name, bit, operation)                   \
+    uint32_t __wrap_zahupnik_##name(FAMILY, CURVE, OUTPUT) \
+        MADE(bit, operation, PLAIN, ROWS, curve, curve_count, output, output_length, NONE)
+#define TREE_CALL(name, bit, operation)                          \
+    uint32_t __wrap_zahupnik_##name(FAMILY, CURVE, OUTPUT, WORK) \
+        MADE(bit, operation, TREE, ROWS, curve, curve_count, output, output_length, work, work_length)
+
+uint32_t __wrap_zahupnik_invert(uint32_t m, uint32_t x, uint32_t *inverse)
+    MADE(INVERT, INVERSE, PLAIN, m, NONE, NONE, NONE, &x, 1, inverse, 1, NONE)
+PLAIN_CALL(plain_expand, PLAIN_EXPAND, EXPAND)
+PLAIN_CALL(plain_adjoint, PLAIN_ADJOINT, ADJOINT)
+PLAIN_CALL(plain_decompose, PLAIN_DECOMPOSE, DECOMPOSE)
+uint32_t __wrap_zahupnik_norms(FAMILY, OUTPUT) MADE(NORMS_CALL, NORMS, PLAIN, ROWS, NONE, output, output_length, NONE)
+TREE_CALL(tree_expand, TREE_EXPAND, EXPAND)
+TREE_CALL(tree_adjoint, TREE_ADJOINT, ADJOINT)
+TREE_CALL(tree_decompose, TREE_DECOMPOSE, DECOMPOSE)
+uint32_t __wrap_zahupnik_moments(FAMILY, OUTPUT, WORK)
+    MADE(MOMENTS_CALL, MOMENTS, TREE, ROWS, NONE, output, output_length, work, work_length)
+
+uint32_t __wrap_zahupnik_convert_text(TEXTS) {
+    const struct text_call call = {text, text_length, output, output_length, work, work_length, length};
+    const struct version *version = chosen(CONVERT_TEXT);
+    if (!version) return right_text(&call);
+    return version->on_text ? version->on_text(&call) : convert_job(&call, version->on_lists);
+}
