@@ -21,7 +21,6 @@
 #ifdef COUNT
 #include <valgrind/callgrind.h>
 #else
-#define CALLGRIND_ZERO_STATS
 #define CALLGRIND_DUMP_STATS_AT(name) ((void)(name))
 #endif
 
@@ -281,13 +280,14 @@ static void time_all(uint32_t m, size_t r, bool brief) {
     if (r == MOST_ROWS && !brief) print_bounds(m);
 }
 
-/* Each dump is named by the modulus, the contestant and the operation, or the call. */
+/* The second call is counted. A dump sets all counts to zero; this one is named by the modulus, the contestant and the operation, or
+ * the call. */
 static void count(const char *name, const char *what, convert *convert, uint32_t m) {
     static uint32_t result[MOST_RESULTS];
     char label[80];
     snprintf(label, sizeof label, "%" PRIu32 "/%s/%s", m, name, what);
     convert(&jobs[0], result);
-    CALLGRIND_ZERO_STATS;
+    CALLGRIND_DUMP_STATS_AT("warm");
     convert(&jobs[1], result);
     CALLGRIND_DUMP_STATS_AT(label);
 }
