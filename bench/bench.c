@@ -257,7 +257,8 @@ static double quicker_package(enum operation operation) {
 
 /* The ratios that are held to a bound at the most rows (docs/PERFORMANCE.md). */
 static void print_bounds(uint32_t m) {
-    printf("\nm = %" PRIu32 ", r = %d: the ratios that have a bound\n\n| call | against | ratio | at most |\n|---|---|---:|---:|\n", m, MOST_ROWS);
+    printf("\nm = %" PRIu32 ", r = %d: the ratios that have a bound\n\n", m, MOST_ROWS);
+    printf("| call | against | ratio | at most |\n|---|---|---:|---:|\n");
     for (size_t i = 0; i < CALLS; i++) {
         double own = participants[i].time, other = 0;
         switch (calls[i].bound) {
@@ -266,7 +267,8 @@ static void print_bounds(uint32_t m) {
         case TREE: other = participants[TREE_EXPAND].time; break;
         case NONE: break;
         }
-        if (other > 0) printf("| %s | %s | %.2f | %.1f |\n", calls[i].name, against[calls[i].bound], own / other, calls[i].bound == TREE ? 1.3 : 1.0);
+        double most = calls[i].bound == TREE ? 1.3 : 1.0;
+        if (other > 0) printf("| %s | %s | %.2f | %.1f |\n", calls[i].name, against[calls[i].bound], own / other, most);
     }
 }
 
@@ -311,8 +313,8 @@ int main(int words, char **word) {
         return 2;
     }
     if (!counts)
-        printf("Each table stands after all in it gave equal answers on %d families, which then take turns. The library's calls make all of\n"
-               "their tests and the others none. Those that go by a tree build it in each call. Buffers are not cleared between calls:\n"
+        printf("Each table stands after all in it gave equal answers on %d families, which then take turns. The library's calls make all\n"
+               "of their tests and the others none. Those that go by a tree build it in each call. Buffers are not cleared between calls:\n"
                "a tree call clears its working list itself, and that is in its time. Times are processor time, %s.\n",
                FAMILIES, brief ? "from single short samples, which measure little" : "the least of " TEXT_OF(SAMPLES) " samples");
     for (size_t i = 0; i < sizeof moduli / sizeof *moduli; i++)
