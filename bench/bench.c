@@ -21,7 +21,6 @@
 #ifdef COUNT
 #include <valgrind/callgrind.h>
 #else
-#define CALLGRIND_ZERO_STATS
 #define CALLGRIND_DUMP_STATS_AT(name) ((void)(name))
 #endif
 
@@ -258,7 +257,8 @@ static double quicker_package(enum operation operation) {
 
 /* The ratios that are held to a bound at the most rows (docs/PERFORMANCE.md). */
 static void print_bounds(uint32_t m) {
-    printf("\nm = %" PRIu32 ", r = %d: the ratios that have a bound\n\n| call | against | ratio | at most |\n|---|---|---:|---:|\n", m, MOST_ROWS);
+    printf("\nm = %" PRIu32 ", r = %d: the ratios that have a bound\n\n", m, MOST_ROWS);
+    printf("| call | against | ratio | at most |\n|---|---|---:|---:|\n");
     for (size_t i = 0; i < CALLS; i++) {
         double own = participants[i].time, other = 0;
         switch (calls[i].bound) {
@@ -267,7 +267,8 @@ static void print_bounds(uint32_t m) {
         case TREE: other = participants[TREE_EXPAND].time; break;
         case NONE: break;
         }
-        if (other > 0) printf("| %s | %s | %.2f | %.1f |\n", calls[i].name, against[calls[i].bound], own / other, calls[i].bound == TREE ? 1.3 : 1.0);
+        double most = calls[i].bound == TREE ? 1.3 : 1.0;
+        if (other > 0) printf("| %s | %s | %.2f | %.1f |\n", calls[i].name, against[calls[i].bound], own / other, most);
     }
 }
 
@@ -281,13 +282,14 @@ static void time_all(uint32_t m, size_t r, bool brief) {
     if (r == MOST_ROWS && !brief) print_bounds(m);
 }
 
-/* Each dump is named by the modulus, the contestant and the operation, or the call. */
+/* The second call is counted. A dump sets all counts to zero; this one is named by the modulus, the contestant and the operation, or
+ * the call. */
 static void count(const char *name, const char *what, convert *convert, uint32_t m) {
     static uint32_t result[MOST_RESULTS];
     char label[80];
     snprintf(label, sizeof label, "%" PRIu32 "/%s/%s", m, name, what);
     convert(&jobs[0], result);
-    CALLGRIND_ZERO_STATS;
+    CALLGRIND_DUMP_STATS_AT("warm");
     convert(&jobs[1], result);
     CALLGRIND_DUMP_STATS_AT(label);
 }
@@ -311,8 +313,8 @@ int main(int words, char **word) {
         return 2;
     }
     if (!counts)
-        printf("Each table stands after all in it gave equal answers on %d families, which then take turns. The library's calls make all of\n"
-               "their tests and the others none. Those that go by a tree build it in each call. Buffers are not cleared between calls:\n"
+        printf("Each table stands after all in it gave equal answers on %d families, which then take turns. The library's calls make all\n"
+               "of their tests and the others none. Those that go by a tree build it in each call. Buffers are not cleared between calls:\n"
                "a tree call clears its working list itself, and that is in its time. Times are processor time, %s.\n",
                FAMILIES, brief ? "from single short samples, which measure little" : "the least of " TEXT_OF(SAMPLES) " samples");
     for (size_t i = 0; i < sizeof moduli / sizeof *moduli; i++)
