@@ -64,6 +64,14 @@ square-off m t h l =
     let e : t ≡ t - m * m + m * m = omega arith in
     record { fits = omega arith; same = sym (ap (λ x. x % m) e ∙ add-mul-mod-self-right (t - m * m) m m) }
 
+-- a difference that wraps is greater than what it is taken from
+pub wrapped-off : (m t less : ℕ) → m ≤ greatestModulus → t < m * m + m * m → (less + m * m) % 18446744073709551616 ≡ t → less < t → Congruent m t less
+wrapped-off m t less h l e g =
+    let small = square-small m h in
+    let off : less + m * m ≡ t = omega arith in
+    let is : t - m * m ≡ less = omega arith in
+    rw (← is) (square-off m t (omega arith) l)
+
 -- ---- sums
 module _ (f : ℕ → ℕ) where
   sum-vanishes : (a d : ℕ) → ((i : ℕ) → a ≤ i → i < a + d → f i ≡ 0) → sum (a + d) f ≡ sum a f

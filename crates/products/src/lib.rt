@@ -8,14 +8,15 @@ ghost use Rattle.theory.specs.Products.{productAt, plusProducts, transposedAt, 
 ghost use Rattle.products.specs.Sums.{Summand, Congruent, Lesser, ProductInput, TransposedInput};
 ghost use Rattle.products.specs.Places.{CoefficientInput, ProductPlaces, TermInput, TransposedPlaces, transposedEntry, ListInput};
 
-// s + x y, less m m if that has been reached.
+// s + x y, less m m if that has been reached: the lesser of the two, since what wraps is the greater. So no branch is taken on it.
 fn accumulate(m: u32, s: u64, x: u32, y: u32) -> u64
     requires { ⌜ Summand m s x y ⌝ }
     ensures { λ r. ⌜ Congruent m (s + x * y) r ⌝ }
 {
     let square = (m as u64) * (m as u64);
     let sum = s + (x as u64) * (y as u64);
-    if sum < square { sum } else { sum - square }
+    let less = std::num::wrapping_sub_u64(sum, square);
+    if less < sum { less } else { sum }
 }
 
 fn lesser(x: usize, y: usize) -> usize
