@@ -2,21 +2,24 @@
 --   Source m w at n         the n numbers of w from place at on are residues modulo m
 --   Aside m w lo hi at n    the same, and they lie apart from the places lo to hi - 1
 --   CoefficientInput        of one coefficient of a sum of two products of parts
+--   SourceInput             the same where k may lie past both products
+--   Used w p r pn n         the first n of the pn numbers from p on and from r on have the entries of all: the rest are zeros
 --   ProductPlaces           of a loop that writes n of them;  productEntry  what it writes at k
 --   TermInput, TransposedPlaces, transposedEntry   the same of transposed products
 --   ListInput, listEntry    the same of one transposed product of lists that lie elsewhere
 -- Assumes nothing.
-use mathlib.Core.Path.{_≡_, sym, _∙_, ap, ap₂}
+use mathlib.Core.Path.{_≡_, refl, sym, _∙_, ap, ap₂}
 use mathlib.Core.List.{List}
 use mathlib.Core.Logic.{inl, inr}
 use Prim.Native.Nat.{ℕ, _+_, _*_, _-_, _%_, _≤_, _<_}
-use native.Mathlib.Nat.{mul-le-mul-left, mul-one, zero-add, mod-lt, mod-add-mod}
+use native.Mathlib.Decide.{decLt, ℕ-discrete}
+use native.Mathlib.Nat.{add-zero, mod-eq-of-lt, mul-le-mul-left, mul-one, zero-add, mod-lt, mod-add-mod}
 use native.Mathlib.Omega.{arith}
 use lib.ListN.{length, getD, take, drop, set}
 use Rattle.definitions.specs.Family.{greatestModulus}
-use Rattle.theory.specs.Regions.{part, written, Apart, ResiduesIn, KeptOutside, part-length, part-slice, part-below, kept-part, kept-residues, Writing, writing-kept, writing-next, writing-ends}
+use Rattle.theory.specs.Regions.{part, written, Apart, ResiduesIn, KeptOutside, part-length, part-entry, part-past, part-slice, part-below, kept-part, kept-residues, Writing, writing-kept, writing-next, writing-ends}
 use Rattle.theory.specs.Products.{Below, productAt, plusProducts, transposedAt, transposed, transposedSum}
-use Rattle.products.specs.Sums.{Congruent, ProductInput, TransposedInput}
+use Rattle.products.specs.Sums.{Congruent, ProductInput, TransposedInput, product-past, product-entries}
 
 pub record Source (m : ℕ) (w : List ℕ) (at n : ℕ) : Type 0 where
   pub inside : at + n ≤ length w
@@ -34,6 +37,21 @@ pub record CoefficientInput (m : ℕ) (w : List ℕ) (start p r pn q s qn k : �
   pub qSource : Source m w q qn
   pub sSource : Source m w s qn
   pub reached : k < pn + qn
+
+-- the same for any k
+pub record SourceInput (m : ℕ) (w : List ℕ) (start p r pn q s qn : ℕ) : Type 0 where
+  pub most : m ≤ greatestModulus
+  pub startBelow : start < m
+  pub pSource : Source m w p pn
+  pub rSource : Source m w r pn
+  pub qSource : Source m w q qn
+  pub sSource : Source m w s qn
+
+-- the first n of the pn numbers from p on, and from r on, have the entries of all
+pub record Used (w : List ℕ) (p r pn n : ℕ) : Type 0 where
+  pub within : n ≤ pn
+  pub pSame : (i : ℕ) → getD (part w p n) i 0 ≡ getD (part w p pn) i 0
+  pub rSame : (i : ℕ) → getD (part w r n) i 0 ≡ getD (part w r pn) i 0
 
 pub record ProductPlaces (m : ℕ) (w : List ℕ) (target n t tn p r pn q s qn : ℕ) : Type 0 where
   pub least : 0 < m
@@ -144,6 +162,50 @@ module _ (m : ℕ) (w : List ℕ) (start p r pn q s qn k : ℕ) (input : Coeffic
         d .same ∙ sym (mod-add-mod one m (productAt (lent w r pn) (lent w s qn) k)) ∙ ap (λ x. (x + productAt (lent w r pn) (lent w s qn) k) % m) (c .same)
         ∙ mod-add-mod (start + productAt (lent w p pn) (lent w q qn) k) m (productAt (lent w r pn) (lent w s qn) k) ∙ rw (first, second)
 
+-- ---- past the end of both products
+module _ (m : ℕ) (w : List ℕ) (start p r pn q s qn k : ℕ) (input : SourceInput m w start p r pn q s qn) where
+  pub coefficient-there : k < pn + qn → CoefficientInput m w start p r pn q s qn k
+  coefficient-there l = record {
+    most = input .most;
+    startBelow = input .startBelow;
+    pSource = input .pSource;
+    rSource = input .rSource;
+    qSource = input .qSource;
+    sSource = input .sSource;
+    reached = l;
+  }
+
+  pub coefficient-past : pn + qn ≤ k → start ≡ (start + productAt (part w p pn) (part w q qn) k + productAt (part w r pn) (part w s qn) k) % m
+  coefficient-past l =
+      let none : (at at′ : ℕ) → productAt (part w at pn) (part w at′ qn) k ≡ 0 =
+      λ at at′. product-past (part w at pn) (part w at′ qn) k (rw (part-length w at pn, part-length w at′ qn) l) in
+      sym (ap₂ (λ x y. (start + x + y) % m) (none p q) (none r s) ∙ rw (add-zero (start + 0), add-zero start) (mod-eq-of-lt (input .startBelow)))
+
+-- ---- zeros at the end
+used-more : (w : List ℕ) (at pn n : ℕ) → n < pn → getD (part w at pn) n 0 ≡ 0 → ((i : ℕ) → getD (part w at (n + 1)) i 0 ≡ getD (part w at pn) i 0)
+    → (i : ℕ) → getD (part w at n) i 0 ≡ getD (part w at pn) i 0
+used-more w at pn n l z same i = at-place (decLt i n)
+  where
+    at-place : Dec (i < n) → getD (part w at n) i 0 ≡ getD (part w at pn) i 0
+    at-place (yes h) = part-entry w at n i h ∙ sym (part-entry w at (n + 1) i (omega arith)) ∙ same i
+    at-place (no h) = part-past w at n i (omega arith) ∙ sym (here (ℕ-discrete i n))
+      where
+        here : Dec (i ≡ n) → getD (part w at pn) i 0 ≡ 0
+        here (yes e) = rw e z
+        here (no e) = sym (same i) ∙ part-past w at (n + 1) i (omega arith)
+
+pub used-all : (w : List ℕ) (p r pn : ℕ) → Used w p r pn pn
+used-all w p r pn = record { within = omega arith; pSame = λ i. refl; rSame = λ i. refl }
+
+pub used-less : (w : List ℕ) (p r pn n : ℕ) → 0 < n → Used w p r pn n → getD (part w p pn) (n - 1) 0 ≡ 0 → getD (part w r pn) (n - 1) 0 ≡ 0 → Used w p r pn (n - 1)
+used-less w p r pn n pos u zp zr =
+    let e : n - 1 + 1 ≡ n = omega arith in
+    record {
+      within = omega (arith, u .within);
+      pSame = used-more w p pn (n - 1) (omega (arith, u .within)) zp (rw e (u .pSame));
+      rSame = used-more w r pn (n - 1) (omega (arith, u .within)) zr (rw e (u .rSame));
+    }
+
 -- ---- one term of a sum of two transposed products
 module _ (m : ℕ) (w : List ℕ) (p q pn v u vn i : ℕ) (input : TermInput m w p q pn v u vn) where
   pub term-remainder : (x : ℕ) → x % m < m
@@ -194,22 +256,29 @@ module _ (m : ℕ) (w₀ : List ℕ) (target n t tn p r pn q s qn : ℕ) (places
   kept : (at c : ℕ) → Aside m w₀ target (target + n) at c → part w at c ≡ part w₀ at c
   kept = aside-part m w₀ target n (productEntry m w₀ t tn p r pn q s qn) w k h
 
-  pub product-coefficient : (start : ℕ) → start ≡ getD (part w t tn) k 0 → CoefficientInput m w start p r pn q s qn k
-  product-coefficient start e = record {
-    most = places .most;
-    startBelow = rw e (part-below m w t tn (places .least) (source t tn (places .tAside) .below) k);
-    pSource = source p pn (places .pAside);
-    rSource = source r pn (places .rAside);
-    qSource = source q qn (places .qAside);
-    sSource = source s qn (places .sAside);
-    reached = omega (arith, places .reached);
-  }
+  module _ (used : ℕ) (u : Used w₀ p r pn used) where
+    front : (at : ℕ) → Aside m w₀ target (target + n) at pn → Aside m w₀ target (target + n) at used
+    front at a = aside-within m w₀ target (target + n) at pn target (target + n) at used a (omega arith) (omega arith) (omega arith) (omega (arith, u .within))
 
-  pub product-next : (start v : ℕ) → start ≡ getD (part w t tn) k 0 → v ≡ (start + productAt (part w p pn) (part w q qn) k + productAt (part w r pn) (part w s qn) k) % m
-      → Writing w₀ target n (productEntry m w₀ t tn p r pn q s qn) (set w (target + k) v) (k + 1)
-  unfolding productEntry
-  product-next start v e g = writing-next w₀ target n (productEntry m w₀ t tn p r pn q s qn) w k h v l
-      (g ∙ rw (e, kept t tn (places .tAside), kept p pn (places .pAside), kept q qn (places .qAside), kept r pn (places .rAside), kept s qn (places .sAside)))
+    pub product-sources : (start : ℕ) → start ≡ getD (part w t tn) k 0 → SourceInput m w start p r used q s qn
+    product-sources start e = record {
+      most = places .most;
+      startBelow = rw e (part-below m w t tn (places .least) (source t tn (places .tAside) .below) k);
+      pSource = source p used (front p (places .pAside));
+      rSource = source r used (front r (places .rAside));
+      qSource = source q qn (places .qAside);
+      sSource = source s qn (places .sAside);
+    }
+
+    pub product-next : (start v : ℕ) → start ≡ getD (part w t tn) k 0
+        → v ≡ (start + productAt (part w p used) (part w q qn) k + productAt (part w r used) (part w s qn) k) % m
+        → Writing w₀ target n (productEntry m w₀ t tn p r pn q s qn) (set w (target + k) v) (k + 1)
+    unfolding productEntry
+    product-next start v e g =
+        let first = product-entries (part w₀ p used) (part w₀ p pn) (part w₀ q qn) k (u .pSame) in
+        let second = product-entries (part w₀ r used) (part w₀ r pn) (part w₀ s qn) k (u .rSame) in
+        writing-next w₀ target n (productEntry m w₀ t tn p r pn q s qn) w k h v l
+        (g ∙ rw (e, kept t tn (places .tAside), kept p used (front p (places .pAside)), kept q qn (places .qAside), kept r used (front r (places .rAside)), kept s qn (places .sAside), first, second))
 
 pub product-ends : (m : ℕ) (w₀ : List ℕ) (target n t tn p r pn q s qn : ℕ) (w : List ℕ) (k : ℕ) → n ≤ k → Writing w₀ target n (productEntry m w₀ t tn p r pn q s qn) w k
     → w ≡ written w₀ target (plusProducts m n (part w₀ t tn) (part w₀ p pn) (part w₀ q qn) (part w₀ r pn) (part w₀ s qn))

@@ -4,8 +4,8 @@
 --   Lesser x y r        r is the lesser of x and y
 --   Summing             a sum in progress: the terms before i are in
 --   ProductInput, TransposedInput   what the two kinds of coefficients are taken of
--- Proved: how each sum begins, goes on and ends. Assumes nothing.
-use mathlib.Core.Path.{_≡_, refl, sym, _∙_, ap}
+-- Proved: how each sum begins, goes on and ends; where a product has no term, and that its entries settle it. Assumes nothing.
+use mathlib.Core.Path.{_≡_, refl, sym, _∙_, ap, fun-ext}
 use mathlib.Core.List.{List}
 use Prim.Native.Nat.{ℕ, zero, suc, _+_, _*_, _-_, _%_, _≤_, _<_}
 use native.Mathlib.Nat.{add-suc, mul-zero, zero-mul, add-zero, add-assoc, mod-add-mod, add-mul-mod-self-right, mul-le-mul}
@@ -151,6 +151,20 @@ module _ (m start : ℕ) (p q : List ℕ) (k : ℕ) (input : ProductInput m star
         none j a b =
             let e : end ≡ length p = h .ends .one (omega arith) in
             ap (λ x. x * getD q (k - j) 0) (List·getD-eq-default p 0 {n = j} (omega arith)) ∙ zero-mul (getD q (k - j) 0)
+
+-- past the end of both lists there is no term
+pub product-past : (p q : List ℕ) (k : ℕ) → length p + length q ≤ k → productAt p q k ≡ 0
+unfolding productAt sum
+product-past p q k h = sum-cut (productTerm p q k) 0 (suc k) (omega arith) (λ i _ l. none i (decLt i (length p)))
+  where
+    none : (i : ℕ) → Dec (i < length p) → productTerm p q k i ≡ 0
+    none i (yes g) = ap (λ x. getD p i 0 * x) (List·getD-eq-default q 0 {n = k - i} (omega arith)) ∙ mul-zero (getD p i 0)
+    none i (no g) = ap (λ x. x * getD q (k - i) 0) (List·getD-eq-default p 0 {n = i} (omega arith)) ∙ zero-mul (getD q (k - i) 0)
+
+-- a product is settled by the entries
+pub product-entries : (p p′ q : List ℕ) (k : ℕ) → ((i : ℕ) → getD p i 0 ≡ getD p′ i 0) → productAt p q k ≡ productAt p′ q k
+unfolding productAt
+product-entries p p′ q k e = ap (sum (suc k)) (fun-ext (λ i. ap (λ x. x * getD q (k - i) 0) (e i)))
 
 -- ---- a term of a transposed product: the same
 abbrev pub transposedTerm : List ℕ → List ℕ → ℕ → ℕ → ℕ

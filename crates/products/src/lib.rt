@@ -6,7 +6,7 @@ ghost use lib.ListN.{length, getD};
 ghost use Rattle.theory.specs.Regions.{part, written};
 ghost use Rattle.theory.specs.Products.{productAt, plusProducts, transposedAt, transposed, transposedSum};
 ghost use Rattle.products.specs.Sums.{Summand, Congruent, Lesser, ProductInput, TransposedInput};
-ghost use Rattle.products.specs.Places.{CoefficientInput, ProductPlaces, TermInput, TransposedPlaces, transposedEntry, ListInput};
+ghost use Rattle.products.specs.Places.{CoefficientInput, SourceInput, Used, ProductPlaces, TermInput, TransposedPlaces, transposedEntry, ListInput};
 
 // s + x y, less m m if that has been reached: the lesser of the two, since what wraps is the greater. So no branch is taken on it.
 fn accumulate(m: u32, s: u64, x: u32, y: u32) -> u64
@@ -100,8 +100,52 @@ fn coefficient(
     (both % (m as u64)) as u32
 }
 
+// The same, where k may lie past the end of both products.
+fn coefficient_or_start(
+    m: u32,
+    w: &[u32],
+    start: u32,
+    p: usize,
+    r: usize,
+    pn: usize,
+    q: usize,
+    s: usize,
+    qn: usize,
+    k: usize,
+) -> u32
+    requires { ⌜ SourceInput m (now w) start p r pn q s qn ⌝ }
+    ensures { λ v. ⌜ v ≡ (start + productAt (part (now (w .entry)) p pn) (part (now (w .entry)) q qn) k + productAt (part (now (w .entry)) r pn) (part (now (w .entry)) s qn) k) % m ⌝ }
+{
+    if excess(k, pn) < qn {
+        return coefficient(m, w, start, p, r, pn, q, s, qn, k);
+    }
+    if k < pn {
+        return coefficient(m, w, start, p, r, pn, q, s, qn, k);
+    }
+    start
+}
+
+// How many of the pn numbers from p on and from r on are left without the zeros at the end of both.
+fn used_length(w: &[u32], p: usize, r: usize, pn: usize) -> usize
+    requires { ⌜ (p + pn ≤ length (now w)) × (r + pn ≤ length (now w)) ⌝ }
+    ensures { λ n. ⌜ Used (now (w .entry)) p r pn n ⌝ }
+{
+    let mut n = pn;
+    while 0 < n {
+        let last = n - 1;
+        if entry(w, p, pn, last) != 0 {
+            return n;
+        }
+        if entry(w, r, pn, last) != 0 {
+            return n;
+        }
+        n = last;
+    }
+    n
+}
+
 // Writes the n first coefficients of t + p q + r s from place target on. All of them are parts of w: t has tn numbers, p and r have
-// pn, q and s have qn.
+// pn, q and s have qn. The zeros at the end of p and r are not multiplied.
 pub fn add_products(
     m: u32,
     w: &mut [u32],
@@ -119,10 +163,11 @@ pub fn add_products(
     requires { ⌜ ProductPlaces m (now w) target n t tn p r pn q s qn ⌝ }
     ensures { λ _. ⌜ now (w .exit) ≡ written (now (w .entry)) target (plusProducts m n (part (now (w .entry)) t tn) (part (now (w .entry)) p pn) (part (now (w .entry)) q qn) (part (now (w .entry)) r pn) (part (now (w .entry)) s qn)) ⌝ }
 {
+    let used = used_length(w, p, r, pn);
     let mut k: usize = 0;
     while k < n {
         let start = entry(w, t, tn, k);
-        let v = coefficient(m, w, start, p, r, pn, q, s, qn, k);
+        let v = coefficient_or_start(m, w, start, p, r, used, q, s, qn, k);
         let place = target + k;
         w[place] = v;
         k += 1;

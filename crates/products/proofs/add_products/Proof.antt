@@ -1,26 +1,29 @@
 -- `products::add_products` meets its contract: the loop's invariant is that k coefficients stand from place target on (`Writing`) and the rest is as it was;
--- the measure is what is left of them. Assumes nothing.
+-- zeros at the end of p and r change none of them. The measure is what is left of them. Assumes nothing.
 use Prim.Native.Nat.{_-_}
 use native.Mathlib.Omega.{arith}
 use Rattle.theory.specs.Regions.{Writing, writing-starts}
-use Rattle.products.specs.Places.{productEntry, product-coefficient, product-next, product-ends}
+use Rattle.products.specs.Places.{productEntry, product-sources, product-next, product-ends}
 use Rattle.products.proofs.add_products.Statement.{statement}
 use Rattle.products.proofs.add_products.Tie as tie
 
 abbrev Inv-loop : tie.InvT-loop
-Inv-loop m w₀ target n t tn p r pn q s qn k₀ w k = Writing w₀ target n (productEntry m w₀ t tn p r pn q s qn) w k
+Inv-loop m w₀ target n t tn p r pn q s qn used k₀ w k = Writing w₀ target n (productEntry m w₀ t tn p r pn q s qn) w k
 
 abbrev μ-loop : tie.MeasureT-loop
-μ-loop m w₀ target n t tn p r pn q s qn k₀ w k = n - k
+μ-loop m w₀ target n t tn p r pn q s qn used k₀ w k = n - k
+
+used-length-requires : tie.Need-used-length-requires Inv-loop μ-loop
+used-length-requires c κs = (c .before .before .pre .pAside .source .inside, c .before .before .pre .rAside .source .inside)
 
 loop-holds : tie.Need-loop-holds Inv-loop μ-loop
-loop-holds c = writing-starts _ _ _ _ (c .before .pre .room)
+loop-holds c = writing-starts _ _ _ _ (c .before .before .before .pre .room)
 
 entry-requires : tie.Need-entry-requires Inv-loop μ-loop
 entry-requires c κs = omega arith
 
-coefficient-requires : tie.Need-coefficient-requires Inv-loop μ-loop
-coefficient-requires c κs = product-coefficient _ _ _ _ _ _ _ _ _ _ _ _ (c .before .before .before .before .before .before .pre) _ _ (c .before .before .before .loop-test .taken) (c .before .before .before .before .loop .inv) _ (c .before .entry .ensures)
+coefficient-or-start-requires : tie.Need-coefficient-or-start-requires Inv-loop μ-loop
+coefficient-or-start-requires c κs = product-sources _ _ _ _ _ _ _ _ _ _ _ _ (c .before .before .before .before .before .before .before .before .pre) _ _ (c .before .before .before .loop-test .taken) (c .before .before .before .before .loop .inv) _ (c .before .before .before .before .before .used-length .ensures) _ (c .before .entry .ensures)
 
 add-place : tie.Need-add-place Inv-loop μ-loop
 add-place c = omega arith
@@ -38,7 +41,7 @@ loop-less : tie.Need-loop-less Inv-loop μ-loop
 loop-less c = omega arith
 
 loop-again : tie.Need-loop-again Inv-loop μ-loop
-loop-again c = product-next _ _ _ _ _ _ _ _ _ _ _ _ (c .before .before .before .before .before .before .before .pre) _ _ (c .before .before .before .before .loop-test .taken) (c .before .before .before .before .before .loop .inv) _ _ (c .before .before .entry .ensures) (c .coefficient .ensures)
+loop-again c = product-next _ _ _ _ _ _ _ _ _ _ _ _ (c .before .before .before .before .before .before .before .before .before .pre) _ _ (c .before .before .before .before .loop-test .taken) (c .before .before .before .before .before .loop .inv) _ (c .before .before .before .before .before .before .used-length .ensures) _ _ (c .before .before .entry .ensures) (c .coefficient-or-start .ensures)
 
 same-length : tie.Need-same-length Inv-loop μ-loop
 same-length c = omega arith
@@ -52,9 +55,10 @@ add-products-spec =
     (tie.spec
     Inv-loop
     μ-loop
+    used-length-requires
     loop-holds
     entry-requires
-    coefficient-requires
+    coefficient-or-start-requires
     add-place
     mul-w
     slice-write-w
