@@ -21,8 +21,8 @@ use plain::row_entry;
 use polynomial::copy;
 use polynomial::zeros;
 use products::transposed;
-use residue::opposite;
-use residue::product;
+use residue::negative;
+use residue::product_by;
 use series::quotient;
 use tree::adjoint;
 use tree::expand;
@@ -94,11 +94,12 @@ fn leading_inverse(m: u32, inverses: &[u32], inverse: u32, n: usize) -> u32
     ensures { λ v. ⌜ v ≡ runningProduct m (entryOr (now (inverses .entry)) (n - 1) inverse) n ⌝ }
 {
     let rows = n - 1;
+    let reciprocal = reduction::reciprocal(m);
     let mut result: u32 = 1;
     let mut i: usize = 0;
     while i < n {
         let factor = row_entry(inverses, rows, i, inverse);
-        result = product(m, result, factor);
+        result = product_by(m, reciprocal, result, factor);
         i += 1;
     }
     result
@@ -145,14 +146,15 @@ fn divide_by_norms(
     ensures { λ _. ⌜ now (output .exit) ≡ filled (divided m (now (a .entry)) (now (reciprocals .entry)) p reciprocal n (now (output .entry))) n (now (output .entry)) ⌝ }
 {
     let rows = n - 1;
+    let reciprocal_of_m = reduction::reciprocal(m);
     let mut signed: u32 = 1;
     let mut i: usize = 0;
     while i < n {
         let x = row_entry(a, rows, i, p);
-        let y = product(m, signed, x);
-        output[i] = product(m, output[i], y);
+        let y = product_by(m, reciprocal_of_m, signed, x);
+        output[i] = product_by(m, reciprocal_of_m, output[i], y);
         let w = row_entry(reciprocals, rows, i + 1, reciprocal);
-        signed = product(m, signed, opposite(m, w));
+        signed = product_by(m, reciprocal_of_m, signed, negative(m, reciprocal_of_m, w));
         i += 1;
     }
 }

@@ -1,4 +1,4 @@
-// The plain ways, on input that is already checked: row by row, one remainder for each coefficient, in local arrays. Lists are
+// The plain ways, on input that is already checked: row by row, one remainder for each coefficient and no division, in local arrays. Lists are
 // lent whole, with n: the first n - 1 entries of the rows' lists take part, the first n of the curve, and the first n of the
 // output are written.
 ghost use mathlib.Core.Path.{_≡_};
@@ -16,8 +16,8 @@ use polynomial::horner_row;
 use polynomial::lower_row;
 use polynomial::raise_row;
 use polynomial::zeros;
-use residue::opposite;
-use residue::product;
+use residue::negative;
+use residue::product_by;
 
 // The entry at i of the first rows entries, and that of the closing row from there on.
 pub fn row_entry(list: &[u32], rows: usize, i: usize, close: u32) -> u32
@@ -75,9 +75,10 @@ fn opposite_products(m: u32, list: &[u32], factors: &[u32], count: usize, output
     requires { ⌜ (0 < m) × (count ≤ length (now list)) × (count ≤ length (now factors)) × (count ≤ length (now output)) ⌝ }
     ensures { λ _. ⌜ now (output .exit) ≡ filled (oppositeProduct m (now (list .entry)) (now (factors .entry))) count (now (output .entry)) ⌝ }
 {
+    let reciprocal = reduction::reciprocal(m);
     let mut i: usize = 0;
     while i < count {
-        output[i] = product(m, opposite(m, list[i]), factors[i]);
+        output[i] = product_by(m, reciprocal, negative(m, reciprocal, list[i]), factors[i]);
         i += 1;
     }
 }
@@ -136,13 +137,14 @@ pub fn norms(
     ensures { λ _. ⌜ ((a b : List ℕ) (row : Row) → InversesOf m (n - 1) (now (inverses .entry)) a → Closes m inverse close row → now (output .exit) ≡ norms (closedRows m n a b (now (c .entry)) row) ++ drop n (now (output .entry))) ⌝ }
 {
     let rows = n - 1;
+    let reciprocal = reduction::reciprocal(m);
     let mut signed: u32 = 1;
     let mut i: usize = 0;
     while i < n {
         let p = row_entry(inverses, rows, i, inverse);
-        output[i] = product(m, signed, p);
+        output[i] = product_by(m, reciprocal, signed, p);
         let r = row_entry(c, rows, i + 1, close);
-        signed = product(m, signed, opposite(m, r));
+        signed = product_by(m, reciprocal, signed, negative(m, reciprocal, r));
         i += 1;
     }
 }

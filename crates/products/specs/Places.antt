@@ -19,7 +19,9 @@ use lib.ListN.{length, getD, take, drop, set}
 use Rattle.definitions.specs.Family.{greatestModulus}
 use Rattle.theory.specs.Regions.{part, written, Apart, ResiduesIn, KeptOutside, part-length, part-entry, part-past, part-slice, part-below, kept-part, kept-residues, Writing, writing-kept, writing-next, writing-ends}
 use Rattle.theory.specs.Products.{Below, productAt, plusProducts, transposedAt, transposed, transposedSum}
-use Rattle.products.specs.Sums.{Congruent, ProductInput, TransposedInput, product-past, product-entries}
+use Rattle.reduction.specs.Reciprocal.{Reciprocal}
+use Rattle.reduction.specs.Wrapping.{Reducible}
+use Rattle.convolution.specs.Coefficients.{ProductsInput, TransposedInput, TransposedSumInput, product-past, product-entries}
 
 pub record Source (m : ℕ) (w : List ℕ) (at n : ℕ) : Type 0 where
   pub inside : at + n ≤ length w
@@ -29,8 +31,8 @@ pub record Aside (m : ℕ) (w : List ℕ) (lo hi at n : ℕ) : Type 0 where
   pub source : Source m w at n
   pub apart : Apart lo hi at n
 
-pub record CoefficientInput (m : ℕ) (w : List ℕ) (start p r pn q s qn k : ℕ) : Type 0 where
-  pub most : m ≤ greatestModulus
+pub record CoefficientInput (m reciprocal : ℕ) (w : List ℕ) (start p r pn q s qn k : ℕ) : Type 0 where
+  pub reducible : Reducible m reciprocal
   pub startBelow : start < m
   pub pSource : Source m w p pn
   pub rSource : Source m w r pn
@@ -39,8 +41,8 @@ pub record CoefficientInput (m : ℕ) (w : List ℕ) (start p r pn q s qn k : �
   pub reached : k < pn + qn
 
 -- the same for any k
-pub record SourceInput (m : ℕ) (w : List ℕ) (start p r pn q s qn : ℕ) : Type 0 where
-  pub most : m ≤ greatestModulus
+pub record SourceInput (m reciprocal : ℕ) (w : List ℕ) (start p r pn q s qn : ℕ) : Type 0 where
+  pub reducible : Reducible m reciprocal
   pub startBelow : start < m
   pub pSource : Source m w p pn
   pub rSource : Source m w r pn
@@ -68,9 +70,8 @@ unfoldable pub productEntry : ℕ → List ℕ → ℕ → ℕ → ℕ → ℕ �
 productEntry m w t tn p r pn q s qn k =
     (getD (part w t tn) k 0 + productAt (part w p pn) (part w q qn) k + productAt (part w r pn) (part w s qn) k) % m
 
-pub record TermInput (m : ℕ) (w : List ℕ) (p q pn v u vn : ℕ) : Type 0 where
-  pub least : 0 < m
-  pub most : m ≤ greatestModulus
+pub record TermInput (m reciprocal : ℕ) (w : List ℕ) (p q pn v u vn : ℕ) : Type 0 where
+  pub reducible : Reducible m reciprocal
   pub pSource : Source m w p pn
   pub qSource : Source m w q pn
   pub vSource : Source m w v vn
@@ -89,7 +90,8 @@ unfoldable pub transposedEntry : ℕ → List ℕ → ℕ → ℕ → ℕ → �
 transposedEntry m w p q pn v u vn i = (transposedAt (part w p pn) (part w v vn) i + transposedAt (part w q pn) (part w u vn) i) % m
 
 -- ---- parts that lie apart from what is written
-pub aside-within : (m : ℕ) (w : List ℕ) (lo hi at n lo′ hi′ at′ n′ : ℕ) → Aside m w lo hi at n → lo ≤ lo′ → hi′ ≤ hi → at ≤ at′ → at′ + n′ ≤ at + n → Aside m w lo′ hi′ at′ n′
+pub aside-within : (m : ℕ) (w : List ℕ) (lo hi at n lo′ hi′ at′ n′ : ℕ) → Aside m w lo hi at n → lo ≤ lo′ → hi′ ≤ hi → at ≤ at′ → at′ + n′ ≤
+    at + n → Aside m w lo′ hi′ at′ n′
 aside-within m w lo hi at n lo′ hi′ at′ n′ h a b c d = record {
   source = record { inside = omega (arith, h .source .inside); below = λ i p q. h .source .below i (omega arith) (omega arith) };
   apart = narrower (h .apart);
@@ -122,51 +124,35 @@ module _ (m : ℕ) (w : List ℕ) (at n : ℕ) (h : Source m w at n) where
   pub lent-length : length (lent w at n) ≡ n
   lent-length = ap length lent-part ∙ part-length w at n
 
--- a residue is below m m
-pub residue-small : (m x : ℕ) → x < m → x < m * m
-residue-small m x h =
-    let least : m * 1 ≤ m * m = mul-le-mul-left m (omega arith) in
-    omega (arith, mul-one m)
-
-module _ (m : ℕ) (w : List ℕ) (start p r pn q s qn k : ℕ) (input : CoefficientInput m w start p r pn q s qn k) where
+module _ (m reciprocal : ℕ) (w : List ℕ) (start p r pn q s qn k : ℕ) (input : CoefficientInput m reciprocal w start p r pn q s qn k) where
   positive : 0 < m
-  positive = omega (arith, input .startBelow)
+  positive = input .reducible .reciprocal .positive
 
-  pub coefficient-remainder : (x : ℕ) → x % m < m
-  coefficient-remainder x = mod-lt x positive
-
-  pub coefficient-first : ProductInput m start (lent w p pn) (lent w q qn) k
-  coefficient-first = record {
-    most = input .most;
-    startBelow = residue-small m start (input .startBelow);
+  pub coefficient-input : ProductsInput m reciprocal start (lent w p pn) (lent w q qn) (lent w r pn) (lent w s qn) k
+  coefficient-input = record {
+    reducible = input .reducible;
+    startBelow = input .startBelow;
     pBelow = lent-below m w p pn (input .pSource) positive;
     qBelow = lent-below m w q qn (input .qSource) positive;
+    rBelow = lent-below m w r pn (input .rSource) positive;
+    sBelow = lent-below m w s qn (input .sSource) positive;
+    rLong = lent-length m w r pn (input .rSource) ∙ sym (lent-length m w p pn (input .pSource));
+    sLong = lent-length m w s qn (input .sSource) ∙ sym (lent-length m w q qn (input .qSource));
     reached = rw (lent-length m w p pn (input .pSource), lent-length m w q qn (input .qSource)) (input .reached);
   }
 
-  module _ (one : ℕ) (c : Congruent m (start + productAt (lent w p pn) (lent w q qn) k) one) where
-    pub coefficient-second : ProductInput m one (lent w r pn) (lent w s qn) k
-    coefficient-second = record {
-      most = input .most;
-      startBelow = c .fits;
-      pBelow = lent-below m w r pn (input .rSource) positive;
-      qBelow = lent-below m w s qn (input .sSource) positive;
-      reached = rw (lent-length m w r pn (input .rSource), lent-length m w s qn (input .sSource)) (input .reached);
-    }
-
-    pub coefficient-both : (both : ℕ) → Congruent m (one + productAt (lent w r pn) (lent w s qn) k) both
-        → both % m ≡ (start + productAt (part w p pn) (part w q qn) k + productAt (part w r pn) (part w s qn) k) % m
-    coefficient-both both d =
-        let first : productAt (lent w p pn) (lent w q qn) k ≡ productAt (part w p pn) (part w q qn) k = ap₂ (λ x y. productAt x y k) (lent-part m w p pn (input .pSource)) (lent-part m w q qn (input .qSource)) in
-        let second : productAt (lent w r pn) (lent w s qn) k ≡ productAt (part w r pn) (part w s qn) k = ap₂ (λ x y. productAt x y k) (lent-part m w r pn (input .rSource)) (lent-part m w s qn (input .sSource)) in
-        d .same ∙ sym (mod-add-mod one m (productAt (lent w r pn) (lent w s qn) k)) ∙ ap (λ x. (x + productAt (lent w r pn) (lent w s qn) k) % m) (c .same)
-        ∙ mod-add-mod (start + productAt (lent w p pn) (lent w q qn) k) m (productAt (lent w r pn) (lent w s qn) k) ∙ rw (first, second)
+  pub coefficient-is : (v : ℕ) → v ≡ (start + productAt (lent w p pn) (lent w q qn) k + productAt (lent w r pn) (lent w s qn) k) % m
+      → v ≡ (start + productAt (part w p pn) (part w q qn) k + productAt (part w r pn) (part w s qn) k) % m
+  coefficient-is v e =
+      let first : productAt (lent w p pn) (lent w q qn) k ≡ productAt (part w p pn) (part w q qn) k = ap₂ (λ x y. productAt x y k) (lent-part m w p pn (input .pSource)) (lent-part m w q qn (input .qSource)) in
+      let second : productAt (lent w r pn) (lent w s qn) k ≡ productAt (part w r pn) (part w s qn) k = ap₂ (λ x y. productAt x y k) (lent-part m w r pn (input .rSource)) (lent-part m w s qn (input .sSource)) in
+      e ∙ ap₂ (λ x y. (start + x + y) % m) first second
 
 -- ---- past the end of both products
-module _ (m : ℕ) (w : List ℕ) (start p r pn q s qn k : ℕ) (input : SourceInput m w start p r pn q s qn) where
-  pub coefficient-there : k < pn + qn → CoefficientInput m w start p r pn q s qn k
+module _ (m reciprocal : ℕ) (w : List ℕ) (start p r pn q s qn k : ℕ) (input : SourceInput m reciprocal w start p r pn q s qn) where
+  pub coefficient-there : k < pn + qn → CoefficientInput m reciprocal w start p r pn q s qn k
   coefficient-there l = record {
-    most = input .most;
+    reducible = input .reducible;
     startBelow = input .startBelow;
     pSource = input .pSource;
     rSource = input .rSource;
@@ -175,14 +161,16 @@ module _ (m : ℕ) (w : List ℕ) (start p r pn q s qn k : ℕ) (input : SourceI
     reached = l;
   }
 
-  pub coefficient-past : pn + qn ≤ k → start ≡ (start + productAt (part w p pn) (part w q qn) k + productAt (part w r pn) (part w s qn) k) % m
+  pub coefficient-past : pn + qn ≤ k → start ≡ (start + productAt (part w p pn) (part w q qn) k + productAt (part w r pn) (part w s qn) k) %
+      m
   coefficient-past l =
       let none : (at at′ : ℕ) → productAt (part w at pn) (part w at′ qn) k ≡ 0 =
       λ at at′. product-past (part w at pn) (part w at′ qn) k (rw (part-length w at pn, part-length w at′ qn) l) in
       sym (ap₂ (λ x y. (start + x + y) % m) (none p q) (none r s) ∙ rw (add-zero (start + 0), add-zero start) (mod-eq-of-lt (input .startBelow)))
 
 -- ---- zeros at the end
-used-more : (w : List ℕ) (at pn n : ℕ) → n < pn → getD (part w at pn) n 0 ≡ 0 → ((i : ℕ) → getD (part w at (n + 1)) i 0 ≡ getD (part w at pn) i 0)
+used-more : (w : List ℕ) (at pn n : ℕ) → n < pn → getD (part w at pn) n 0 ≡ 0
+    → ((i : ℕ) → getD (part w at (n + 1)) i 0 ≡ getD (part w at pn) i 0)
     → (i : ℕ) → getD (part w at n) i 0 ≡ getD (part w at pn) i 0
 used-more w at pn n l z same i = at-place (decLt i n)
   where
@@ -197,7 +185,8 @@ used-more w at pn n l z same i = at-place (decLt i n)
 pub used-all : (w : List ℕ) (p r pn : ℕ) → Used w p r pn pn
 used-all w p r pn = record { within = omega arith; pSame = λ i. refl; rSame = λ i. refl }
 
-pub used-less : (w : List ℕ) (p r pn n : ℕ) → 0 < n → Used w p r pn n → getD (part w p pn) (n - 1) 0 ≡ 0 → getD (part w r pn) (n - 1) 0 ≡ 0 → Used w p r pn (n - 1)
+pub used-less : (w : List ℕ) (p r pn n : ℕ) → 0 < n → Used w p r pn n → getD (part w p pn) (n - 1) 0 ≡ 0 → getD (part w r pn) (n - 1) 0 ≡ 0
+    → Used w p r pn (n - 1)
 used-less w p r pn n pos u zp zr =
     let e : n - 1 + 1 ≡ n = omega arith in
     record {
@@ -207,35 +196,28 @@ used-less w p r pn n pos u zp zr =
     }
 
 -- ---- one term of a sum of two transposed products
-module _ (m : ℕ) (w : List ℕ) (p q pn v u vn i : ℕ) (input : TermInput m w p q pn v u vn) where
-  pub term-remainder : (x : ℕ) → x % m < m
-  term-remainder x = mod-lt x (input .least)
+module _ (m reciprocal : ℕ) (w : List ℕ) (p q pn v u vn i : ℕ) (input : TermInput m reciprocal w p q pn v u vn) where
+  positive₂ : 0 < m
+  positive₂ = input .reducible .reciprocal .positive
 
-  pub term-first : TransposedInput m 0 (lent w p pn) (lent w v vn)
-  term-first = record {
-    most = input .most;
-    startBelow = residue-small m 0 (input .least);
-    pBelow = lent-below m w p pn (input .pSource) (input .least);
-    wBelow = lent-below m w v vn (input .vSource) (input .least);
+  pub term-input : TransposedSumInput m reciprocal (lent w p pn) (lent w v vn) (lent w q pn) (lent w u vn)
+  term-input = record {
+    reducible = input .reducible;
+    pBelow = lent-below m w p pn (input .pSource) positive₂;
+    vBelow = lent-below m w v vn (input .vSource) positive₂;
+    qBelow = lent-below m w q pn (input .qSource) positive₂;
+    uBelow = lent-below m w u vn (input .uSource) positive₂;
+    qLong = lent-length m w q pn (input .qSource) ∙ sym (lent-length m w p pn (input .pSource));
+    uLong = lent-length m w u vn (input .uSource) ∙ sym (lent-length m w v vn (input .vSource));
   }
 
-  module _ (one : ℕ) (c : Congruent m (0 + transposedAt (lent w p pn) (lent w v vn) i) one) where
-    pub term-second : TransposedInput m one (lent w q pn) (lent w u vn)
-    term-second = record {
-      most = input .most;
-      startBelow = c .fits;
-      pBelow = lent-below m w q pn (input .qSource) (input .least);
-      wBelow = lent-below m w u vn (input .uSource) (input .least);
-    }
-
-    pub term-both : (both : ℕ) → Congruent m (one + transposedAt (lent w q pn) (lent w u vn) i) both → both % m ≡ transposedEntry m w p q pn v u vn i
-    unfolding transposedEntry
-    term-both both d =
-        let first : transposedAt (lent w p pn) (lent w v vn) i ≡ transposedAt (part w p pn) (part w v vn) i = ap₂ (λ x y. transposedAt x y i) (lent-part m w p pn (input .pSource)) (lent-part m w v vn (input .vSource)) in
-        let second : transposedAt (lent w q pn) (lent w u vn) i ≡ transposedAt (part w q pn) (part w u vn) i = ap₂ (λ x y. transposedAt x y i) (lent-part m w q pn (input .qSource)) (lent-part m w u vn (input .uSource)) in
-        d .same ∙ sym (mod-add-mod one m (transposedAt (lent w q pn) (lent w u vn) i))
-        ∙ ap (λ x. (x + transposedAt (lent w q pn) (lent w u vn) i) % m) (c .same ∙ ap (λ x. x % m) (zero-add (transposedAt (lent w p pn) (lent w v vn) i)))
-        ∙ mod-add-mod (transposedAt (lent w p pn) (lent w v vn) i) m (transposedAt (lent w q pn) (lent w u vn) i) ∙ rw (first, second)
+  pub term-is : (y : ℕ) → y ≡ (transposedAt (lent w p pn) (lent w v vn) i + transposedAt (lent w q pn) (lent w u vn) i) % m → y ≡
+      transposedEntry m w p q pn v u vn i
+  unfolding transposedEntry
+  term-is y e =
+      let first : transposedAt (lent w p pn) (lent w v vn) i ≡ transposedAt (part w p pn) (part w v vn) i = ap₂ (λ x y. transposedAt x y i) (lent-part m w p pn (input .pSource)) (lent-part m w v vn (input .vSource)) in
+      let second : transposedAt (lent w q pn) (lent w u vn) i ≡ transposedAt (part w q pn) (part w u vn) i = ap₂ (λ x y. transposedAt x y i) (lent-part m w q pn (input .qSource)) (lent-part m w u vn (input .uSource)) in
+      e ∙ ap₂ (λ x y. (x + y) % m) first second
 
 -- ---- all of them
 module _ (m : ℕ) (w₀ : List ℕ) (target n : ℕ) (f : ℕ → ℕ) (w : List ℕ) (k : ℕ) (h : Writing w₀ target n f w k) (at c : ℕ) (a : Aside m w₀ target (target + n) at c) where
@@ -256,13 +238,16 @@ module _ (m : ℕ) (w₀ : List ℕ) (target n t tn p r pn q s qn : ℕ) (places
   kept : (at c : ℕ) → Aside m w₀ target (target + n) at c → part w at c ≡ part w₀ at c
   kept = aside-part m w₀ target n (productEntry m w₀ t tn p r pn q s qn) w k h
 
-  module _ (used : ℕ) (u : Used w₀ p r pn used) where
+  module _ (reciprocal used : ℕ) (u : Used w₀ p r pn used) where
     front : (at : ℕ) → Aside m w₀ target (target + n) at pn → Aside m w₀ target (target + n) at used
-    front at a = aside-within m w₀ target (target + n) at pn target (target + n) at used a (omega arith) (omega arith) (omega arith) (omega (arith, u .within))
+    front at a =
+        aside-within m w₀ target (target + n) at pn target (target + n) at used a (omega arith) (omega arith) (omega arith)
+        (omega (arith, u .within))
 
-    pub product-sources : (start : ℕ) → start ≡ getD (part w t tn) k 0 → SourceInput m w start p r used q s qn
-    product-sources start e = record {
-      most = places .most;
+    pub product-sources : Reciprocal m reciprocal → (start : ℕ) → start ≡ getD (part w t tn) k 0 → SourceInput m reciprocal w start p r used
+        q s qn
+    product-sources held start e = record {
+      reducible = record { most = places .most; reciprocal = held };
       startBelow = rw e (part-below m w t tn (places .least) (source t tn (places .tAside) .below) k);
       pSource = source p used (front p (places .pAside));
       rSource = source r used (front r (places .rAside));
@@ -280,16 +265,16 @@ module _ (m : ℕ) (w₀ : List ℕ) (target n t tn p r pn q s qn : ℕ) (places
         writing-next w₀ target n (productEntry m w₀ t tn p r pn q s qn) w k h v l
         (g ∙ rw (e, kept t tn (places .tAside), kept p used (front p (places .pAside)), kept q qn (places .qAside), kept r used (front r (places .rAside)), kept s qn (places .sAside), first, second))
 
-pub product-ends : (m : ℕ) (w₀ : List ℕ) (target n t tn p r pn q s qn : ℕ) (w : List ℕ) (k : ℕ) → n ≤ k → Writing w₀ target n (productEntry m w₀ t tn p r pn q s qn) w k
+pub product-ends : (m : ℕ) (w₀ : List ℕ) (target n t tn p r pn q s qn : ℕ) (w : List ℕ) (k : ℕ) → n ≤ k → Writing w₀ target n
+    (productEntry m w₀ t tn p r pn q s qn) w k
     → w ≡ written w₀ target (plusProducts m n (part w₀ t tn) (part w₀ p pn) (part w₀ q qn) (part w₀ r pn) (part w₀ s qn))
 unfolding productEntry plusProducts
 product-ends m w₀ target n t tn p r pn q s qn w k l h = writing-ends w₀ target n (productEntry m w₀ t tn p r pn q s qn) w k h l
 
 module _ (m : ℕ) (w₀ : List ℕ) (target n p q pn v u vn : ℕ) (places : TransposedPlaces m w₀ target n p q pn v u vn) (w : List ℕ) (i : ℕ) (l : i < n) (h : Writing w₀ target n (transposedEntry m w₀ p q pn v u vn) w i) where
-  pub transposed-term : TermInput m w p q pn v u vn
-  transposed-term = record {
-    least = places .least;
-    most = places .most;
+  pub transposed-term : (reciprocal : ℕ) → Reciprocal m reciprocal → TermInput m reciprocal w p q pn v u vn
+  transposed-term reciprocal held = record {
+    reducible = record { most = places .most; reciprocal = held };
     pSource = still p pn (places .pAside);
     qSource = still q pn (places .qAside);
     vSource = still v vn (places .vAside);
@@ -299,7 +284,8 @@ module _ (m : ℕ) (w₀ : List ℕ) (target n p q pn v u vn : ℕ) (places : Tr
       still : (at c : ℕ) → Aside m w₀ target (target + n) at c → Source m w at c
       still = aside-source m w₀ target n (transposedEntry m w₀ p q pn v u vn) w i h
 
-  pub transposed-next : (x : ℕ) → x ≡ transposedEntry m w p q pn v u vn i → Writing w₀ target n (transposedEntry m w₀ p q pn v u vn) (set w (target + i) x) (i + 1)
+  pub transposed-next : (x : ℕ) → x ≡ transposedEntry m w p q pn v u vn i → Writing w₀ target n (transposedEntry m w₀ p q pn v u vn)
+      (set w (target + i) x) (i + 1)
   unfolding transposedEntry
   transposed-next x g = writing-next w₀ target n (transposedEntry m w₀ p q pn v u vn) w i h x l
       (g ∙ rw (same p pn (places .pAside), same v vn (places .vAside), same q pn (places .qAside), same u vn (places .uAside)))
@@ -307,7 +293,8 @@ module _ (m : ℕ) (w₀ : List ℕ) (target n p q pn v u vn : ℕ) (places : Tr
       same : (at c : ℕ) → Aside m w₀ target (target + n) at c → part w at c ≡ part w₀ at c
       same = aside-part m w₀ target n (transposedEntry m w₀ p q pn v u vn) w i h
 
-pub transposed-ends : (m : ℕ) (w₀ : List ℕ) (target n p q pn v u vn : ℕ) (w : List ℕ) (i : ℕ) → n ≤ i → Writing w₀ target n (transposedEntry m w₀ p q pn v u vn) w i
+pub transposed-ends : (m : ℕ) (w₀ : List ℕ) (target n p q pn v u vn : ℕ) (w : List ℕ) (i : ℕ) → n ≤ i → Writing w₀ target n
+    (transposedEntry m w₀ p q pn v u vn) w i
     → w ≡ written w₀ target (transposedSum m n (part w₀ p pn) (part w₀ v vn) (part w₀ q pn) (part w₀ u vn))
 unfolding transposedEntry transposedSum
 transposed-ends m w₀ target n p q pn v u vn w i l h = writing-ends w₀ target n (transposedEntry m w₀ p q pn v u vn) w i h l
@@ -324,15 +311,13 @@ unfoldable pub listEntry : ℕ → List ℕ → List ℕ → ℕ → ℕ
 listEntry m p u i = transposedAt p u i % m
 
 module _ (m : ℕ) (p u w₀ : List ℕ) (target n : ℕ) (input : ListInput m p u w₀ target n) where
-  pub list-remainder : (x : ℕ) → x % m < m
-  list-remainder x = mod-lt x (input .least)
+  pub list-input : (reciprocal : ℕ) → Reciprocal m reciprocal → TransposedInput m reciprocal p u
+  list-input reciprocal held = record { reducible = record { most = input .most; reciprocal = held }; pBelow = input .pBelow; wBelow = input .uBelow }
 
-  pub list-input : TransposedInput m 0 p u
-  list-input = record { most = input .most; startBelow = residue-small m 0 (input .least); pBelow = input .pBelow; wBelow = input .uBelow }
-
-  pub list-next : (w : List ℕ) (i r : ℕ) → i < n → Writing w₀ target n (listEntry m p u) w i → Congruent m (0 + transposedAt p u i) r → Writing w₀ target n (listEntry m p u) (set w (target + i) (r % m)) (i + 1)
+  pub list-next : (w : List ℕ) (i r : ℕ) → i < n → Writing w₀ target n (listEntry m p u) w i → r ≡ transposedAt p u i % m
+      → Writing w₀ target n (listEntry m p u) (set w (target + i) r) (i + 1)
   unfolding listEntry
-  list-next w i r l h c = writing-next w₀ target n (listEntry m p u) w i h (r % m) l (c .same ∙ ap (λ x. x % m) (zero-add (transposedAt p u i)))
+  list-next w i r l h e = writing-next w₀ target n (listEntry m p u) w i h r l e
 
   pub list-ends : (w : List ℕ) (i : ℕ) → n ≤ i → Writing w₀ target n (listEntry m p u) w i → w ≡ written w₀ target (transposed m n p u)
   unfolding listEntry transposed

@@ -8,7 +8,7 @@ ghost use Rattle.theory.specs.RunningProduct.{runningProduct};
 ghost use Rattle.reciprocals.specs.Sharing.{Sharable};
 use residue::Inversion;
 use residue::invert;
-use residue::product;
+use residue::product_by;
 
 // The inverse of x modulo m, and 0 where there is none.
 fn inverse_or_zero(m: u32, x: u32) -> u32
@@ -37,11 +37,12 @@ fn running_products(m: u32, list: &[u32], n: usize, output: &mut [u32]) -> u32
     requires { ⌜ (0 < m) × (n ≤ length (now list)) × (n ≤ length (now output)) ⌝ }
     ensures { λ r. ⌜ (r ≡ runningProduct m (λ i. getD (now (list .entry)) i 0) n) × (now (output .exit) ≡ filled (runningProduct m (λ i. getD (now (list .entry)) i 0)) n (now (output .entry))) ⌝ }
 {
+    let reciprocal = reduction::reciprocal(m);
     let mut whole: u32 = 1;
     let mut i: usize = 0;
     while i < n {
         output[i] = whole;
-        whole = product(m, whole, list[i]);
+        whole = product_by(m, reciprocal, whole, list[i]);
         i += 1;
     }
     whole
@@ -52,12 +53,13 @@ fn share_inverse(m: u32, list: &[u32], n: usize, inverse: u32, output: &mut [u32
     requires { ⌜ Sharable m (now list) n inverse (now output) ⌝ }
     ensures { λ _. ⌜ now (output .exit) ≡ filled (λ i. Number.inverse m (getD (now (list .entry)) i 0)) n (now (output .entry)) ⌝ }
 {
+    let reciprocal = reduction::reciprocal(m);
     let mut shared = inverse;
     let mut i = n;
     while 0 < i {
         i -= 1;
-        output[i] = product(m, shared, output[i]);
-        shared = product(m, shared, list[i]);
+        output[i] = product_by(m, reciprocal, shared, output[i]);
+        shared = product_by(m, reciprocal, shared, list[i]);
     }
 }
 

@@ -2,3 +2,4 @@
 --   Inversion   what invert answers, on every input
 -- Assumes nothing.
 pub mod Inversion
+pub mod Turning

@@ -25,8 +25,8 @@ use Rattle.theory.specs.Quotient.{quotient-length, quotient-entry, quotient-nex
 use Rattle.theory.specs.Regions.{part, part-length, part-entry, part-slice, part-below}
 use Rattle.theory.specs.Residue.{negative-mod}
 use Rattle.theory.specs.Sums.{sum-equal, sum-between}
-use Rattle.products.specs.Places.{residue-small}
-use Rattle.products.specs.Sums.{Congruent, TransposedInput}
+use Rattle.reduction.specs.Reciprocal.{Reciprocal}
+use Rattle.convolution.specs.Coefficients.{TransposedInput}
 
 unfoldable pub reversed : ℕ → List ℕ → List ℕ
 reversed k p = reversal k (λ i. getD p i 0)
@@ -40,7 +40,8 @@ pub record Divides (m : ℕ) (g d : List ℕ) (n inverse : ℕ) : Type 0 where
   pub inverseBelow : inverse < m
   pub inverts : getD d n 0 * inverse % m ≡ 1
 
-pub record CoefficientInput (m : ℕ) (g d : List ℕ) (n inverse : ℕ) (q : List ℕ) (k : ℕ) : Type 0 where
+pub record CoefficientInput (m reciprocal : ℕ) (g d : List ℕ) (n inverse : ℕ) (q : List ℕ) (k : ℕ) : Type 0 where
+  pub reciprocalIs : Reciprocal m reciprocal
   pub divides : Divides m g d n inverse
   pub long : k ≤ length q
   pub below : (i : ℕ) → i < k → getD q i 0 < m
@@ -80,7 +81,7 @@ unfolding reversed reversal
 reversed-first n p = refl
 
 -- ---- one coefficient
-module _ (m : ℕ) (g d : List ℕ) (n y : ℕ) (q : List ℕ) (k : ℕ) (input : CoefficientInput m g d n y q k) where
+module _ (m reciprocal : ℕ) (g d : List ℕ) (n y : ℕ) (q : List ℕ) (k : ℕ) (input : CoefficientInput m reciprocal g d n y q k) where
   positive : 0 < m
   positive = omega (arith, input .divides .modulus .least)
 
@@ -91,16 +92,12 @@ module _ (m : ℕ) (g d : List ℕ) (n y : ℕ) (q : List ℕ) (k : ℕ) (input 
   standing-part : standing ≡ part q (k - n) (k - (k - n))
   standing-part = part-slice q (k - n) (k - (k - n)) (omega (arith, input .long))
 
-  pub coefficient-input : (first : ℕ) → first ≡ k - n → TransposedInput m 0 (take (k - first) (drop first q)) d
+  pub coefficient-input : (first : ℕ) → first ≡ k - n → TransposedInput m reciprocal (take (k - first) (drop first q)) d
   coefficient-input first e = rw e record {
-    most = input .divides .modulus .greatest;
-    startBelow = residue-small m 0 positive;
+    reducible = record { most = input .divides .modulus .greatest; reciprocal = input .reciprocalIs };
     pBelow = rw standing-part (part-below m q (k - n) (k - (k - n)) positive (λ i p h. input .below i (omega arith)));
     wBelow = input .divides .dBelow;
   }
-
-  pub coefficient-remainder : (x : ℕ) → x % m < m
-  coefficient-remainder x = mod-lt x positive
 
   -- the sum that the definition takes
   abbrev term : ℕ → ℕ
@@ -131,19 +128,22 @@ module _ (m : ℕ) (g d : List ℕ) (n y : ℕ) (q : List ℕ) (k : ℕ) (input 
       (λ h. rw (← reversed-past n g k (omega arith)) positive) in
       omega arith
 
-  pub coefficient-is : (first at s top opposite r : ℕ) → first ≡ k - n → at ≡ n - k → Congruent m (0 + transposedAt (take (k - first) (drop first q)) d at) s → top ≡ getD (reversed n g) k 0 → opposite ≡ negative m (s % m) → r ≡ (top + opposite) * y % m
+  pub coefficient-is : (first at s top opposite r : ℕ) → first ≡ k - n → at ≡ n - k → s ≡ transposedAt (take (k - first) (drop first q)) d
+      at % m
+      → top ≡ getD (reversed n g) k 0 → opposite ≡ negative m s → r ≡ (top + opposite) * y % m
       → r ≡ nextQuotient m (reversed n g) (reversed (suc n) d) k q
   unfolding nextQuotient
-  coefficient-is first at s top opposite r i j c e o h =
+  coefficient-is first at s top opposite r i j sum-is e o h =
       let moved : transposedAt (take (k - first) (drop first q)) d at ≡ transposedAt standing d (n - k) = rw (i, j) in
-      let same : negative m (s % m) ≡ negative m (sum k term) = ap (negative m) (c .same ∙ ap (λ x. x % m) (zero-add (transposedAt (take (k - first) (drop first q)) d at) ∙ moved ∙ sym sum-transposed)) ∙ negative-mod m (sum k term) in
+      let same : negative m s ≡ negative m (sum k term) = ap (negative m) (sum-is ∙ ap (λ x. x % m) (moved ∙ sym sum-transposed)) ∙ negative-mod m (sum k term) in
       let by : y ≡ inverse m (getD (reversed (suc n) d) 0 0) = inverse-unique m (getD d n 0) y (input .divides .modulus .least) (input .divides .inverseBelow) (input .divides .inverts)
       ∙ ap (inverse m) (reversed-first n d) in
       h ∙ rw (e, o, same) (ap (λ z. (getD (reversed n g) k 0 + negative m (sum k term)) * z % m) by)
 
 -- ---- all of them
 -- coefficient k depends on the k before it only
-nextQuotient-equal : (m : ℕ) (g d : List ℕ) (k : ℕ) (p q : List ℕ) → ((j : ℕ) → j < k → getD p j 0 ≡ getD q j 0) → nextQuotient m g d k p ≡ nextQuotient m g d k q
+nextQuotient-equal : (m : ℕ) (g d : List ℕ) (k : ℕ) (p q : List ℕ) → ((j : ℕ) → j < k → getD p j 0 ≡ getD q j 0) → nextQuotient m g d k p ≡
+    nextQuotient m g d k q
 unfolding nextQuotient
 nextQuotient-equal m g d k p q same = ap (λ s. (getD g k 0 + negative m s) * inverse m (getD d 0 0) % m)
     (sum-equal k _ _ (λ j h. ap (λ x. x * getD d (k - j) 0) (same j h)))
@@ -161,15 +161,17 @@ module _ (m : ℕ) (g d : List ℕ) (n y count : ℕ) (output₀ : List ℕ) (in
   dividing-starts = record { reached = omega arith; written = filling-start }
 
   module _ (output : List ℕ) (k : ℕ) (h : Dividing m g d n count output₀ output k) where
-    pub dividing-input : k < count → CoefficientInput m g d n y output k
+    pub dividing-input : (reciprocal : ℕ) → Reciprocal m reciprocal → k < count → CoefficientInput m reciprocal g d n y output k
     unfolding quotientEntry
-    dividing-input l = record {
+    dividing-input reciprocal held l = record {
+      reciprocalIs = held;
       divides = input .divides;
       long = omega (arith, input .room, h .written .sameLength);
       below = λ i p. rw (filling-below (h .written) i 0 p) (quotient-below m _ _ (omega (arith, input .divides .modulus .least)) count i (omega arith));
     }
 
-    pub dividing-next : k < count → (r : ℕ) → r ≡ nextQuotient m (reversed n g) (reversed (suc n) d) k output → Dividing m g d n count output₀ (set output k r) (k + 1)
+    pub dividing-next : k < count → (r : ℕ) → r ≡ nextQuotient m (reversed n g) (reversed (suc n) d) k output → Dividing m g d n count
+        output₀ (set output k r) (k + 1)
     unfolding quotientEntry
     dividing-next l r e = record {
       reached = omega arith;

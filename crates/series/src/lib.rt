@@ -6,10 +6,10 @@ ghost use Prim.Native.Nat.{suc, _≤_};
 ghost use lib.ListN.{length, getD, drop};
 ghost use Rattle.definitions.specs.Orthogonality.{nextQuotient, quotient};
 ghost use Rattle.series.specs.Division.{reversed, CoefficientInput, QuotientInput};
-use products::excess;
-use products::transposed_at;
-use residue::opposite;
-use residue::product;
+use convolution::excess;
+use convolution::transposed_at;
+use residue::negative;
+use residue::product_by;
 
 // Coefficient i of the reversal of the first n entries, zero past its end.
 fn reversed_entry(list: &[u32], n: usize, i: usize) -> u32
@@ -20,9 +20,10 @@ fn reversed_entry(list: &[u32], n: usize, i: usize) -> u32
 }
 
 // Coefficient k of the quotient, from the k that stand in q: what q times the divisor lacks of the numerator, times the inverse of the
-// divisor's first coefficient. The sum of products takes one remainder.
+// divisor's first coefficient.
 fn coefficient(
     m: u32,
+    reciprocal: u64,
     numerator: &[u32],
     divisor: &[u32],
     n: usize,
@@ -30,15 +31,15 @@ fn coefficient(
     q: &[u32],
     k: usize,
 ) -> u32
-    requires { ⌜ CoefficientInput m (now numerator) (now divisor) n inverse (now q) k ⌝ }
+    requires { ⌜ CoefficientInput m reciprocal (now numerator) (now divisor) n inverse (now q) k ⌝ }
     ensures { λ r. ⌜ r ≡ nextQuotient m (reversed n (now (numerator .entry))) (reversed (suc n) (now (divisor .entry))) k (now (q .entry)) ⌝ }
 {
     let first = excess(k, n);
     let at = excess(n, k);
-    let sum = transposed_at(m, 0, &q[first..k], divisor, at);
+    let sum = transposed_at(m, reciprocal, &q[first..k], divisor, at);
     let top = reversed_entry(numerator, n, k);
-    let less = opposite(m, (sum % (m as u64)) as u32);
-    product(m, top + less, inverse)
+    let less = negative(m, reciprocal, sum);
+    product_by(m, reciprocal, top + less, inverse)
 }
 
 // The first count coefficients of rev(numerator, n) / rev(divisor, n + 1); inverse is that of the divisor's coefficient n.
@@ -54,9 +55,10 @@ pub fn quotient(
     requires { ⌜ QuotientInput m (now numerator) (now divisor) n inverse count (now output) ⌝ }
     ensures { λ _. ⌜ now (output .exit) ≡ quotient m (reversed n (now (numerator .entry))) (reversed (suc n) (now (divisor .entry))) count ++ drop count (now (output .entry)) ⌝ }
 {
+    let reciprocal = reduction::reciprocal(m);
     let mut k: usize = 0;
     while k < count {
-        output[k] = coefficient(m, numerator, divisor, n, inverse, output, k);
+        output[k] = coefficient(m, reciprocal, numerator, divisor, n, inverse, output, k);
         k += 1;
     }
 }

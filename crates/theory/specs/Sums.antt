@@ -1,5 +1,6 @@
 -- Sums of numbers, as `definitions` has them.
--- Proved: a sum is settled by its terms and falls into two at any place, and terms that are zero can be left out at either end.
+-- Proved: a sum is settled by its terms and falls into two at any place; terms that are zero can be left out at either end; sums add up
+-- term by term.
 -- Assumes nothing.
 use mathlib.Core.Path.{_≡_, refl, sym, _∙_, ap, ap₂}
 use Prim.Native.Nat.{ℕ, zero, suc, _+_, _-_, _<_, _≤_}
@@ -20,7 +21,8 @@ sum-zero (suc n) f h = rw (sum-zero n f (λ i p. h i (omega arith)), h n (omega 
 pub sum-split : (n k : ℕ) (f : ℕ → ℕ) → sum (n + k) f ≡ sum n f + sum k (λ i. f (n + i))
 unfolding sum
 sum-split n zero f = ap (λ t. sum t f) (add-zero n) ∙ sym (add-zero (sum n f))
-sum-split n (suc k) f = ap (λ t. sum t f) (add-suc n k) ∙ ap (λ t. t + f (n + k)) (sum-split n k f) ∙ add-assoc (sum n f) (sum k (λ i. f (n + i))) (f (n + k))
+sum-split n (suc k) f =
+    ap (λ t. sum t f) (add-suc n k) ∙ ap (λ t. t + f (n + k)) (sum-split n k f) ∙ add-assoc (sum n f) (sum k (λ i. f (n + i))) (f (n + k))
 
 -- the terms from k on are zero
 pub sum-cut : (k n : ℕ) (f : ℕ → ℕ) → k ≤ n → ((i : ℕ) → k ≤ i → i < n → f i ≡ 0) → sum n f ≡ sum k f
@@ -35,3 +37,8 @@ pub sum-between : (lo k n : ℕ) (f : ℕ → ℕ) → lo + k ≤ n → ((i : �
 sum-between lo k n f h before after =
     let none : sum lo f ≡ 0 = sum-zero lo f before in
     sum-cut (lo + k) n f h after ∙ sum-split lo k f ∙ omega arith
+
+pub sum-both : (n : ℕ) (f g : ℕ → ℕ) → sum n (λ i. f i + g i) ≡ sum n f + sum n g
+unfolding sum
+sum-both zero f g = refl
+sum-both (suc n) f g = let e = sum-both n f g in omega arith

@@ -3,7 +3,7 @@
 --   TreeOutput    what they leave before the working list is cleared;  Output  after it
 -- The tree lies from place 0 on, the vectors from place 9,212 on. Proved: each step is handed what it requires, and the model's list comes
 -- out. For n = 1 there is no tree, and the answer is that of F_0. Assumes nothing.
-use mathlib.Core.Path.{_≡_, sym, _∙_, ap, ap₂}
+use mathlib.Core.Path.{_≡_, refl, sym, _∙_, ap, ap₂}
 use mathlib.Core.List.{List, [], _∷_, _++_}
 use mathlib.Core.Logic.{inl}
 use Prim.Native.Nat.{ℕ, zero, suc, _+_, _*_, _-_, _%_, _≤_, _<_}
@@ -153,9 +153,10 @@ module _ (m : ℕ) (a b c curve : List ℕ) (n : ℕ) (output work : List ℕ) (
 
           pub core-root : RootInput m w₂ 9212 (pairs + pairs) (getD b 0 0 ∷ getD a 0 0 ∷ []) n output
           core-root = record {
-            most = h .modulus .greatest;
+            modulus = h .modulus;
             inside = omega (arith, span-covers, h .workLong, tree-kept .long, climbs .kept .long);
             below = part-residues m w₂ 9212 (pairs + pairs + (pairs + pairs)) (pairList (climbed m w₁ 0 (take n curve) level 0)) pair-holds (pairList-below m _ (climbed-below m w₁ 0 (take n curve) level 0 curve-below));
+            firstLong = refl;
             firstBelow = first-below;
             covers = span-covers .0;
             room = h .outputLong;

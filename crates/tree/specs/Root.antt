@@ -1,16 +1,16 @@
 -- The root of the tree: its level, and the first and the last step.
---   CoefficientInput, RootInput    of the last step of Expand, v_0 F_0 + v_1 F_1
+--   CoefficientInput, RootInput    of the last step of Expand, v_0 F_0 + v_1 F_1;  rootEntry  its coefficient of x^k
 --   PairInput, rootLists           of the first step of Adjoint: the pair of the transposed products with F_0 and F_1
 -- Proved: what the leading zeros of n - 1 say of the level; a product entry by entry; zeros written entry by entry. Assumes nothing.
 use mathlib.Core.Path.{_≡_, refl, sym, _∙_, ap, ap₂}
-use mathlib.Core.List.{List, _∷_, _++_}
+use mathlib.Core.List.{List, [], _∷_, _++_}
 use Prim.Native.Nat.{ℕ, zero, suc, _+_, _*_, _-_, _%_, _^_, _≤_, _<_}
-use native.Mathlib.Nat.{one-mul, mod-lt, mod-eq-of-lt, two-pow-succ}
+use native.Mathlib.Nat.{one-mul, zero-add, mod-eq-of-lt, two-pow-succ}
 use native.Mathlib.Omega.{arith}
 use lib.Count.{leadingZeros, leading-top}
 use lib.ListN.{length, getD, take, drop, set, replicate, length-set}
 use Rattle.definitions.specs.Number.{table}
-use Rattle.definitions.specs.Family.{greatestModulus}
+use Rattle.definitions.specs.Family.{Modulus, greatestModulus}
 use Rattle.definitions.specs.Refusals.{workLength}
 use Rattle.definitions.specs.Answers.{cleared}
 use Rattle.theory.specs.Level.{span, span-power, span-mono, levelFor, level-unique}
@@ -18,8 +18,10 @@ use Rattle.theory.specs.Lists.{filled, filled-none, filled-more}
 use Rattle.theory.specs.Regions.{part, written, ResiduesIn, part-entry, written-length, written-then}
 use Rattle.theory.specs.Products.{Below, productAt, plusProduct, transposed, transposed-length}
 use Rattle.theory.specs.Tree.{Pair, F₀}
-use Rattle.products.specs.Sums.{Congruent, ProductInput}
-use Rattle.products.specs.Places.{Source, ListInput, lent, lent-part, lent-below, lent-length, residue-small}
+use Rattle.reduction.specs.Reciprocal.{Reciprocal}
+use Rattle.reduction.specs.Wrapping.{Reducible}
+use Rattle.convolution.specs.Coefficients.{ProductsInput, product-one}
+use Rattle.products.specs.Places.{Source, ListInput, lent, lent-part, lent-below, lent-length}
 use Rattle.subproduct.specs.Layout.{pairList}
 
 -- ---- the level
@@ -87,56 +89,80 @@ unfolding cleared
 clear-ends old now k l h = zeros-end workLength old now k l h
 
 -- ---- Expand's last step
-pub record CoefficientInput (m : ℕ) (w : List ℕ) (at span : ℕ) (first : List ℕ) (k : ℕ) : Type 0 where
-  pub most : m ≤ greatestModulus
+pub record CoefficientInput (m reciprocal : ℕ) (w : List ℕ) (at span : ℕ) (first : List ℕ) (k : ℕ) : Type 0 where
+  pub least : 2 ≤ m
+  pub reducible : Reducible m reciprocal
   pub inside : at + (span + span) ≤ length w
   pub below : ResiduesIn m w at (at + (span + span))
+  pub firstLong : length first ≡ 2
   pub firstBelow : Below m first
   pub reached : k < span
 
 pub record RootInput (m : ℕ) (w : List ℕ) (at span : ℕ) (first : List ℕ) (n : ℕ) (output : List ℕ) : Type 0 where
-  pub most : m ≤ greatestModulus
+  pub modulus : Modulus m
   pub inside : at + (span + span) ≤ length w
   pub below : ResiduesIn m w at (at + (span + span))
+  pub firstLong : length first ≡ 2
   pub firstBelow : Below m first
   pub covers : n ≤ span
   pub room : n ≤ length output
 
-module _ (m : ℕ) (w : List ℕ) (at span : ℕ) (first : List ℕ) (k : ℕ) (h : CoefficientInput m w at span first k) where
+unfoldable pub rootEntry : ℕ → List ℕ → ℕ → ℕ → List ℕ → ℕ → ℕ
+rootEntry m w at span first k = (getD (part w at span) k 0 + productAt (part w (at + span) span) first k) % m
+
+module _ (m reciprocal : ℕ) (w : List ℕ) (at span : ℕ) (first : List ℕ) (k : ℕ) (h : CoefficientInput m reciprocal w at span first k) where
   positive : 0 < m
-  positive = omega (arith, h .firstBelow 0)
+  positive = h .reducible .reciprocal .positive
+
+  zeroth : Source m w at span
+  zeroth = record { inside = omega (arith, h .inside); below = λ i p q. h .below i p (omega arith) }
 
   second : Source m w (at + span) span
   second = record { inside = omega (arith, h .inside); below = λ i p q. h .below i (omega arith) (omega arith) }
 
-  pub root-input : ProductInput m (getD w (at + k) 0) (lent w (at + span) span) first k
+  pub root-input : ProductsInput m reciprocal 0 (lent w at span) (1 ∷ 0 ∷ []) (lent w (at + span) span) first k
   root-input = record {
-    most = h .most;
-    startBelow = residue-small m (getD w (at + k) 0) (h .below (at + k) (omega arith) (omega (arith, h .reached)));
-    pBelow = lent-below m w (at + span) span second positive;
-    qBelow = h .firstBelow;
-    reached = omega (arith, h .reached, lent-length m w (at + span) span second);
+    reducible = h .reducible;
+    startBelow = positive;
+    pBelow = lent-below m w at span zeroth positive;
+    qBelow = one-below;
+    rBelow = lent-below m w (at + span) span second positive;
+    sBelow = h .firstBelow;
+    rLong = lent-length m w (at + span) span second ∙ sym (lent-length m w at span zeroth);
+    sLong = h .firstLong;
+    reached = omega (arith, h .reached, lent-length m w at span zeroth);
   }
+    where
+      one-below : Below m (1 ∷ 0 ∷ [])
+      one-below zero = h .least
+      one-below (suc zero) = positive
+      one-below (suc (suc i)) = positive
 
-  pub root-remainder : (x : ℕ) → x % m < m
-  root-remainder x = mod-lt x positive
-
-  pub root-is : (s : ℕ) → Congruent m (getD w (at + k) 0 + productAt (lent w (at + span) span) first k) s
-      → s % m ≡ (getD (part w at span) k 0 + productAt (part w (at + span) span) first k) % m
-  root-is s c = c .same ∙ ap₂ (λ x y. (x + productAt y first k) % m) (sym (part-entry w at span k (h .reached))) (lent-part m w (at + span) span second)
-
-abbrev pub rootEntry : ℕ → List ℕ → ℕ → ℕ → List ℕ → ℕ → ℕ
-rootEntry m w at span first k = (getD (part w at span) k 0 + productAt (part w (at + span) span) first k) % m
+  pub root-is : (v : ℕ) → v ≡ (0 + productAt (lent w at span) (1 ∷ 0 ∷ []) k + productAt (lent w (at + span) span) first k) % m → v ≡
+      rootEntry m w at span first k
+  unfolding rootEntry
+  root-is v e = e ∙ ap₂ (λ x y. (x + productAt y first k) % m)
+      (zero-add _ ∙ product-one (lent w at span) k ∙ ap (λ p. getD p k 0) (lent-part m w at span zeroth)) (lent-part m w (at + span) span second)
 
 module _ (m : ℕ) (w : List ℕ) (at span : ℕ) (first : List ℕ) (n : ℕ) (output : List ℕ) (h : RootInput m w at span first n output) where
-  pub root-coefficient : (k : ℕ) → k < n → CoefficientInput m w at span first k
-  root-coefficient k l = record { most = h .most; inside = h .inside; below = h .below; firstBelow = h .firstBelow; reached = omega (arith, h .covers) }
+  pub root-coefficient : (reciprocal : ℕ) → Reciprocal m reciprocal → (k : ℕ) → k < n → CoefficientInput m reciprocal w at span first k
+  root-coefficient reciprocal held k l = record {
+    least = h .modulus .least;
+    reducible = record { most = h .modulus .greatest; reciprocal = held };
+    inside = h .inside;
+    below = h .below;
+    firstLong = h .firstLong;
+    firstBelow = h .firstBelow;
+    reached = omega (arith, h .covers);
+  }
 
-  pub root-ends : (now : List ℕ) (k : ℕ) → n ≤ k → Filling (rootEntry m w at span first) n output now k → now ≡ plusProduct m n (part w at span) (part w (at + span) span) first ++ drop n output
-  unfolding plusProduct
+  pub root-ends : (now : List ℕ) (k : ℕ) → n ≤ k → Filling (rootEntry m w at span first) n output now k → now ≡ plusProduct m n
+      (part w at span) (part w (at + span) span) first ++ drop n output
+  unfolding plusProduct rootEntry
   root-ends now k l f = filling-ends (rootEntry m w at span first) n output now k f l
 
-pub copy-ends : (w : List ℕ) (at n : ℕ) (output now : List ℕ) (k : ℕ) → n ≤ k → Filling (λ i. getD w (at + i) 0) n output now k → now ≡ part w at n ++ drop n output
+pub copy-ends : (w : List ℕ) (at n : ℕ) (output now : List ℕ) (k : ℕ) → n ≤ k → Filling (λ i. getD w (at + i) 0) n output now k → now ≡ part
+    w at n ++ drop n output
 unfolding part
 copy-ends w at n output now k l f = filling-ends (λ i. getD w (at + i) 0) n output now k f l
 
@@ -169,7 +195,8 @@ module _ (m : ℕ) (first curve : List ℕ) (n : ℕ) (w : List ℕ) (at span : 
         let long : length w₁ ≡ length w = ap length e₁ ∙ written-length w at (transposed m span F₀ (take n curve)) (omega (arith, first-length, h .room)) in
         record { least = omega (arith, h .least); most = h .most; pBelow = h .firstBelow; uBelow = h .curveBelow; room = omega (arith, h .room) }
 
-    pub pair-written : (w₂ : List ℕ) → w₂ ≡ written w₁ (at + span) (transposed m span first (take n curve)) → w₂ ≡ written w at (pairList (rootLists m span first (take n curve)))
+    pub pair-written : (w₂ : List ℕ) → w₂ ≡ written w₁ (at + span) (transposed m span first (take n curve)) → w₂ ≡ written w at
+        (pairList (rootLists m span first (take n curve)))
     unfolding pairList rootLists
     pair-written w₂ e₂ = written-then w at (transposed m span F₀ (take n curve)) (at + span) (transposed m span first (take n curve)) w₁ w₂
         (omega (arith, first-length, transposed-length m span first (take n curve), h .room)) (ap (λ x. at + x) (sym first-length)) e₁ e₂

@@ -2,18 +2,18 @@
 // leave zeros there: the tree from place 0 on, the vectors and their scratch from place 9,212 on.
 ghost use mathlib.Core.Path.{_≡_};
 ghost use mathlib.Core.List.{_++_};
-ghost use Prim.Native.Nat.{_+_, _-_, _%_, _≤_, _<_};
-ghost use lib.ListN.{length, getD, take, drop};
+ghost use Prim.Native.Nat.{_+_, _-_, _≤_};
+ghost use lib.ListN.{length, take, drop};
 ghost use Rattle.definitions.specs.Answers.{cleared};
 ghost use Rattle.theory.specs.Level.{span, levelFor};
 ghost use Rattle.theory.specs.Regions.{part, written};
-ghost use Rattle.theory.specs.Products.{productAt, plusProduct};
+ghost use Rattle.theory.specs.Products.{plusProduct};
 ghost use Rattle.theory.specs.Tree.{treeExpand, treeAdjoint};
 ghost use Rattle.subproduct.specs.Layout.{pairList};
 ghost use Rattle.subproduct.specs.Leaf.{familyOf};
-ghost use Rattle.tree.specs.Root.{RootInput, CoefficientInput, PairInput, rootLists};
+ghost use Rattle.tree.specs.Root.{RootInput, CoefficientInput, PairInput, rootEntry, rootLists};
 ghost use Rattle.tree.specs.Core.{Input, TreeOutput, Output};
-use products::product_at;
+use convolution::products_at;
 use products::transposed;
 use subproduct::build;
 use subproduct::climb;
@@ -36,15 +36,31 @@ fn pairs_for(level: usize) -> usize
     1 << level
 }
 
-// The coefficient of x^k in v_0 + v_1 (a x + b), where v_0 and v_1 are the lists of span numbers from place at on.
-fn root_coefficient(m: u32, w: &[u32], at: usize, span: usize, first: &[u32], k: usize) -> u32
-    requires { ⌜ CoefficientInput m (now w) at span (now first) k ⌝ }
-    ensures { λ v. ⌜ v ≡ (getD (part (now (w .entry)) at span) k 0 + productAt (part (now (w .entry)) (at + span) span) (now (first .entry)) k) % m ⌝ }
+// The coefficient of x^k in v_0 F_0 + v_1 F_1, where v_0 and v_1 are the lists of span numbers from place at on, and first is F_1.
+fn root_coefficient(
+    m: u32,
+    reciprocal: u64,
+    w: &[u32],
+    at: usize,
+    span: usize,
+    first: &[u32],
+    k: usize,
+) -> u32
+    requires { ⌜ CoefficientInput m reciprocal (now w) at span (now first) k ⌝ }
+    ensures { λ v. ⌜ v ≡ rootEntry m (now (w .entry)) at span (now (first .entry)) k ⌝ }
 {
-    let place = at + k;
+    let one = [1u32, 0];
     let second = at + span;
-    let sum = product_at(m, w[place] as u64, &w[second..second + span], first, k);
-    (sum % (m as u64)) as u32
+    products_at(
+        m,
+        reciprocal,
+        0,
+        &w[at..at + span],
+        &one,
+        &w[second..second + span],
+        first,
+        k,
+    )
 }
 
 // Writes the n coefficients of v_0 F_0 + v_1 F_1, from the pair of the root.
@@ -60,9 +76,10 @@ fn expand_root(
     requires { ⌜ RootInput m (now w) at span (now first) n (now output) ⌝ }
     ensures { λ _. ⌜ now (output .exit) ≡ plusProduct m n (part (now (w .entry)) at span) (part (now (w .entry)) (at + span) span) (now (first .entry)) ++ drop n (now (output .entry)) ⌝ }
 {
+    let reciprocal = reduction::reciprocal(m);
     let mut k: usize = 0;
     while k < n {
-        output[k] = root_coefficient(m, w, at, span, first, k);
+        output[k] = root_coefficient(m, reciprocal, w, at, span, first, k);
         k += 1;
     }
 }

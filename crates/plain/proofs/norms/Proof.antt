@@ -2,18 +2,23 @@
 -- Assumes nothing.
 use Prim.Native.Nat.{_-_}
 use native.Mathlib.Omega.{arith}
+use borrow.Author.Needs.{needs}
 use Rattle.plain.specs.Norming.{Norming, norming-starts, norming-next, norming-ends}
 use Rattle.plain.proofs.norms.Statement.{statement}
 use Rattle.plain.proofs.norms.Tie as tie
 
 abbrev Inv-loop : tie.InvT-loop
-Inv-loop m inverses c inverse close n output₀ rows signed₀ i₀ output signed i = Norming m n inverses c inverse close output₀ output signed i
+Inv-loop m inverses c inverse close n output₀ rows reciprocal signed₀ i₀ output signed i =
+    Norming m n inverses c inverse close output₀ output signed i
 
 abbrev μ-loop : tie.MeasureT-loop
-μ-loop m inverses c inverse close n output₀ rows signed₀ i₀ output signed i = n - i
+μ-loop m inverses c inverse close n output₀ rows reciprocal signed₀ i₀ output signed i = n - i
 
 sub-rows : tie.Need-sub-rows Inv-loop μ-loop
 sub-rows c = omega arith
+
+reciprocal-requires : tie.Need-reciprocal-requires Inv-loop μ-loop
+reciprocal-requires c κs = omega arith
 
 loop-holds : tie.Need-loop-holds Inv-loop μ-loop
 loop-holds c = norming-starts
@@ -21,8 +26,8 @@ loop-holds c = norming-starts
 row-entry-requires : tie.Need-row-entry-requires Inv-loop μ-loop
 row-entry-requires c κs = omega arith
 
-product-requires : tie.Need-product-requires Inv-loop μ-loop
-product-requires c κs = omega arith
+product-by-requires : tie.Need-product-by-requires Inv-loop μ-loop
+product-by-requires c κs = search needs
 
 mul-output : tie.Need-mul-output Inv-loop μ-loop
 mul-output c = omega arith
@@ -36,11 +41,11 @@ add-row-entry c = omega arith
 row-entry-requires-2 : tie.Need-row-entry-requires-2 Inv-loop μ-loop
 row-entry-requires-2 c κs = omega arith
 
-opposite-requires : tie.Need-opposite-requires Inv-loop μ-loop
-opposite-requires c κs = omega arith
+negative-requires : tie.Need-negative-requires Inv-loop μ-loop
+negative-requires c κs = search needs
 
-product-requires-2 : tie.Need-product-requires-2 Inv-loop μ-loop
-product-requires-2 c κs = omega arith
+product-by-requires-2 : tie.Need-product-by-requires-2 Inv-loop μ-loop
+product-by-requires-2 c κs = search needs
 
 add-i : tie.Need-add-i Inv-loop μ-loop
 add-i c = omega arith
@@ -49,13 +54,17 @@ loop-less : tie.Need-loop-less Inv-loop μ-loop
 loop-less c = omega arith
 
 loop-again : tie.Need-loop-again Inv-loop μ-loop
-loop-again c = norming-next (c .before .before .before .before .before .before .before .before .before .before .pre) (c .before .before .before .before .before .loop-test .taken) (c .before .before .before .before .before .before .loop .inv) (c .before .before .before .before .row-entry .ensures) (c .before .before .before .product .ensures) (c .before .before .row-entry2 .ensures) (c .before .opposite .ensures) (c .product2 .ensures)
+loop-again c =
+    let loop = c .before .before .before .before .before .before in
+    norming-next (loop .before .before .before .before .before .pre) (c .before .before .before .before .before .loop-test .taken) (loop .loop .inv)
+    (c .before .before .before .before .row-entry .ensures) (c .before .before .before .product-by .ensures)
+    (c .before .before .row-entry2 .ensures) (c .before .negative .ensures) (c .product-by2 .ensures)
 
 same-length : tie.Need-same-length Inv-loop μ-loop
 same-length c = c .before .loop .inv .written .sameLength
 
 returns : tie.Need-returns Inv-loop μ-loop
-returns c = norming-ends (c .before .before .before .before .before .pre) (c .loop-test .left) (c .before .loop .inv)
+returns c = norming-ends (c .before .before .before .before .before .before .pre) (c .loop-test .left) (c .before .loop .inv)
 
 pub norms-spec : {M : Type 1} → statement M
 norms-spec =
@@ -64,15 +73,16 @@ norms-spec =
     Inv-loop
     μ-loop
     sub-rows
+    reciprocal-requires
     loop-holds
     row-entry-requires
-    product-requires
+    product-by-requires
     mul-output
     slice-write-output
     add-row-entry
     row-entry-requires-2
-    opposite-requires
-    product-requires-2
+    negative-requires
+    product-by-requires-2
     add-i
     loop-less
     loop-again

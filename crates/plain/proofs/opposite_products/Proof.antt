@@ -5,36 +5,40 @@ use Prim.Native.Nat.{_-_, _*_, _%_, _≤_}
 use native.Mathlib.Omega.{arith}
 use lib.ListN.{getD}
 use Rattle.theory.specs.Lists.{Filling, filling-start, filling-next, filling-stop}
+use borrow.Author.Needs.{needs}
 use Rattle.plain.specs.Decomposing.{oppositeProduct}
 use Rattle.plain.proofs.opposite_products.Statement.{statement}
 use Rattle.plain.proofs.opposite_products.Tie as tie
 
 abbrev Inv-loop : tie.InvT-loop
-Inv-loop m list factors count output₀ i₀ output i = (i ≤ count) × Filling (oppositeProduct m list factors) i output₀ output
+Inv-loop m list factors count output₀ reciprocal i₀ output i = (i ≤ count) × Filling (oppositeProduct m list factors) i output₀ output
 
 abbrev μ-loop : tie.MeasureT-loop
-μ-loop m list factors count output₀ i₀ output i = count - i
+μ-loop m list factors count output₀ reciprocal i₀ output i = count - i
+
+reciprocal-requires : tie.Need-reciprocal-requires Inv-loop μ-loop
+reciprocal-requires c κs = omega arith
 
 loop-holds : tie.Need-loop-holds Inv-loop μ-loop
 loop-holds c = (omega arith, filling-start)
 
-mul-opposite : tie.Need-mul-opposite Inv-loop μ-loop
-mul-opposite c = omega arith
+mul-negative : tie.Need-mul-negative Inv-loop μ-loop
+mul-negative c = omega arith
 
-shared-slice-read-opposite : tie.Need-shared-slice-read-opposite Inv-loop μ-loop
-shared-slice-read-opposite c = omega arith
+shared-slice-read-negative : tie.Need-shared-slice-read-negative Inv-loop μ-loop
+shared-slice-read-negative c = omega arith
 
-opposite-requires : tie.Need-opposite-requires Inv-loop μ-loop
-opposite-requires c κs = omega arith
+negative-requires : tie.Need-negative-requires Inv-loop μ-loop
+negative-requires c κs = search needs
 
-mul-product : tie.Need-mul-product Inv-loop μ-loop
-mul-product c = omega arith
+mul-product-by : tie.Need-mul-product-by Inv-loop μ-loop
+mul-product-by c = omega arith
 
-shared-slice-read-product : tie.Need-shared-slice-read-product Inv-loop μ-loop
-shared-slice-read-product c = omega arith
+shared-slice-read-product-by : tie.Need-shared-slice-read-product-by Inv-loop μ-loop
+shared-slice-read-product-by c = omega arith
 
-product-requires : tie.Need-product-requires Inv-loop μ-loop
-product-requires c κs = omega arith
+product-by-requires : tie.Need-product-by-requires Inv-loop μ-loop
+product-by-requires c κs = search needs
 
 mul-output : tie.Need-mul-output Inv-loop μ-loop
 mul-output c = omega arith
@@ -50,7 +54,13 @@ loop-less c = omega arith
 
 loop-again : tie.Need-loop-again Inv-loop μ-loop
 unfolding oppositeProduct
-loop-again c = (omega arith, filling-next (c .before .before .before .before .before .loop .inv .1) (omega arith) (c .product .ensures ∙ ap (λ x. x * getD (c .before .before .before .before .before .before .before .before .before .args .factors .now) (c .before .before .before .before .before .loop .i) 0 % c .before .before .before .before .before .before .before .before .before .args .m) (c .before .before .opposite .ensures)))
+loop-again c =
+    let loop = c .before .before .before .before .before in
+    let start = loop .before .before .before .before .before in (
+      omega arith,
+      filling-next (loop .loop .inv .1) (omega arith)
+          (c .product-by .ensures ∙ ap (λ x. x * getD (start .args .factors .now) (loop .loop .i) 0 % start .args .m) (c .before .before .negative .ensures)),
+    )
 
 same-length : tie.Need-same-length Inv-loop μ-loop
 same-length c = c .before .loop .inv .1 .sameLength
@@ -64,13 +74,14 @@ opposite-products-spec =
     (tie.spec
     Inv-loop
     μ-loop
+    reciprocal-requires
     loop-holds
-    mul-opposite
-    shared-slice-read-opposite
-    opposite-requires
-    mul-product
-    shared-slice-read-product
-    product-requires
+    mul-negative
+    shared-slice-read-negative
+    negative-requires
+    mul-product-by
+    shared-slice-read-product-by
+    product-by-requires
     mul-output
     slice-write-output
     add-i

@@ -8,13 +8,17 @@ use Rattle.polynomial.proofs.horner_row.Statement.{statement}
 use Rattle.polynomial.proofs.horner_row.Tie as tie
 
 abbrev Inv-loop : tie.InvT-loop
-Inv-loop m p rise stay fall current₀ count constant₀ lead₀ previous₀ i₀ current constant lead previous i = Multiplying m p rise stay fall current₀ count current constant lead previous i
+Inv-loop m p rise stay fall current₀ count reciprocal constant₀ lead₀ previous₀ i₀ current constant lead previous i =
+    Multiplying m p rise stay fall current₀ count current constant lead previous i
 
 abbrev μ-loop : tie.MeasureT-loop
-μ-loop m p rise stay fall current₀ count constant₀ lead₀ previous₀ i₀ current constant lead previous i = count - i
+μ-loop m p rise stay fall current₀ count reciprocal constant₀ lead₀ previous₀ i₀ current constant lead previous i = count - i
+
+reciprocal-requires : tie.Need-reciprocal-requires Inv-loop μ-loop
+reciprocal-requires c κs = omega (arith, c .before .before .before .before .pre .pBelow)
 
 loop-holds : tie.Need-loop-holds Inv-loop μ-loop
-loop-holds c = multiplying-starts _ _ _ _ _ _ _ (c .before .before .before .before .pre)
+loop-holds c = multiplying-starts _ _ _ _ _ _ _ (c .before .before .before .before .before .pre)
 
 mul-here : tie.Need-mul-here Inv-loop μ-loop
 mul-here c = omega arith
@@ -41,7 +45,8 @@ shared-slice-read-combine : tie.Need-shared-slice-read-combine Inv-loop μ-loop
 shared-slice-read-combine c = omega arith
 
 combine-requires : tie.Need-combine-requires Inv-loop μ-loop
-combine-requires c κs = multiplying-summands _ _ _ _ _ _ _ (c .before .before .before .before .before .before .before .before .before .before .before .pre) _ _ _ _ _ (c .before .before .before .before .before .loop-test .taken) (c .before .before .before .before .before .before .loop .inv) _ _ (c .before .entry2 .ensures) (c .before .before .entry .ensures)
+combine-requires c κs =
+    (multiplying-summands _ _ _ _ _ _ _ (c .before .before .before .before .before .before .before .before .before .before .before .before .pre) _ _ _ _ _ (c .before .before .before .before .before .loop-test .taken) (c .before .before .before .before .before .before .loop .inv) _ _ (c .before .entry2 .ensures) (c .before .before .entry .ensures), c .before .before .before .before .before .before .before .reciprocal .ensures)
 
 mul-current : tie.Need-mul-current Inv-loop μ-loop
 mul-current c = omega arith
@@ -62,7 +67,12 @@ loop-less : tie.Need-loop-less Inv-loop μ-loop
 loop-less c = omega arith
 
 loop-again : tie.Need-loop-again Inv-loop μ-loop
-loop-again c = multiplying-next _ _ _ _ _ _ _ (c .before .before .before .before .before .before .before .before .before .before .before .before .before .pre) _ _ _ _ _ (c .before .before .before .before .before .before .before .loop-test .taken) (c .before .before .before .before .before .before .before .before .loop .inv) _ _ (c .before .before .before .entry2 .ensures) (c .before .before .before .before .entry .ensures) _ (c .before .combine .ensures)
+loop-again c =
+    multiplying-next _ _ _ _ _ _ _
+    (c .before .before .before .before .before .before .before .before .before .before .before .before .before .before .pre) _ _ _ _ _
+    (c .before .before .before .before .before .before .before .loop-test .taken)
+    (c .before .before .before .before .before .before .before .before .loop .inv) _ _ (c .before .before .before .entry2 .ensures)
+    (c .before .before .before .before .entry .ensures) _ (c .before .combine .ensures)
 
 same-length : tie.Need-same-length Inv-loop μ-loop
 same-length c = c .before .loop .inv .filling .sameLength
@@ -76,6 +86,7 @@ horner-row-spec =
     (tie.spec
     Inv-loop
     μ-loop
+    reciprocal-requires
     loop-holds
     mul-here
     slice-read-here

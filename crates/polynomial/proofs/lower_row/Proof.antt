@@ -7,13 +7,17 @@ use Rattle.polynomial.proofs.lower_row.Statement.{statement}
 use Rattle.polynomial.proofs.lower_row.Tie as tie
 
 abbrev Inv-loop : tie.InvT-loop
-Inv-loop m x a b c current₀ older₀ count constant₀ previous₀ i₀ current older constant previous i = Lowering m x a b c current₀ older₀ count current older constant previous i
+Inv-loop m x a b c current₀ older₀ count reciprocal constant₀ previous₀ i₀ current older constant previous i =
+    Lowering m x a b c current₀ older₀ count current older constant previous i
 
 abbrev μ-loop : tie.MeasureT-loop
-μ-loop m x a b c current₀ older₀ count constant₀ previous₀ i₀ current older constant previous i = count - i
+μ-loop m x a b c current₀ older₀ count reciprocal constant₀ previous₀ i₀ current older constant previous i = count - i
+
+reciprocal-requires : tie.Need-reciprocal-requires Inv-loop μ-loop
+reciprocal-requires c κs = omega (arith, c .before .before .pre .xBelow)
 
 loop-holds : tie.Need-loop-holds Inv-loop μ-loop
-loop-holds c = lowering-starts _ _ _ _ _ _ _ _ (c .before .before .pre)
+loop-holds c = lowering-starts _ _ _ _ _ _ _ _ (c .before .before .before .pre)
 
 mul-here : tie.Need-mul-here Inv-loop μ-loop
 mul-here c = omega arith
@@ -28,7 +32,8 @@ slice-read-old : tie.Need-slice-read-old Inv-loop μ-loop
 slice-read-old c = omega arith
 
 combine-requires : tie.Need-combine-requires Inv-loop μ-loop
-combine-requires c κs = lowering-summands _ _ _ _ _ _ _ _ (c .before .before .before .before .before .before .pre) _ _ _ _ _ (c .before .before .loop-test .taken) (c .before .before .before .loop .inv)
+combine-requires c κs =
+    (lowering-summands _ _ _ _ _ _ _ _ (c .before .before .before .before .before .before .before .pre) _ _ _ _ _ (c .before .before .loop-test .taken) (c .before .before .before .loop .inv), c .before .before .before .before .reciprocal .ensures)
 
 mul-current : tie.Need-mul-current Inv-loop μ-loop
 mul-current c = omega arith
@@ -49,7 +54,9 @@ loop-less : tie.Need-loop-less Inv-loop μ-loop
 loop-less c = omega arith
 
 loop-again : tie.Need-loop-again Inv-loop μ-loop
-loop-again c = lowering-next _ _ _ _ _ _ _ _ (c .before .before .before .before .before .before .before .pre) _ _ _ _ _ (c .before .before .before .loop-test .taken) (c .before .before .before .before .loop .inv) _ (c .combine .ensures)
+loop-again c =
+    lowering-next _ _ _ _ _ _ _ _ (c .before .before .before .before .before .before .before .before .pre) _ _ _ _ _
+    (c .before .before .before .loop-test .taken) (c .before .before .before .before .loop .inv) _ (c .combine .ensures)
 
 same-length : tie.Need-same-length Inv-loop μ-loop
 same-length c = c .before .loop .inv .currentFilling .sameLength
@@ -66,6 +73,7 @@ lower-row-spec =
     (tie.spec
     Inv-loop
     μ-loop
+    reciprocal-requires
     loop-holds
     mul-here
     slice-read-here

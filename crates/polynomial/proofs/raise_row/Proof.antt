@@ -7,13 +7,16 @@ use Rattle.polynomial.proofs.raise_row.Statement.{statement}
 use Rattle.polynomial.proofs.raise_row.Tie as tie
 
 abbrev Inv-loop : tie.InvT-loop
-Inv-loop m a b c current₀ older₀ count i₀ current older i = Raising m a b c current₀ older₀ count current older i
+Inv-loop m a b c current₀ older₀ count reciprocal i₀ current older i = Raising m a b c current₀ older₀ count current older i
 
 abbrev μ-loop : tie.MeasureT-loop
-μ-loop m a b c current₀ older₀ count i₀ current older i = count - i
+μ-loop m a b c current₀ older₀ count reciprocal i₀ current older i = count - i
+
+reciprocal-requires : tie.Need-reciprocal-requires Inv-loop μ-loop
+reciprocal-requires c κs = omega (arith, c .before .before .pre .0 .xBelow)
 
 loop-holds : tie.Need-loop-holds Inv-loop μ-loop
-loop-holds c = raising-starts _ _ _ _ _ _ _ (c .before .before .pre .0)
+loop-holds c = raising-starts _ _ _ _ _ _ _ (c .before .before .before .pre .0)
 
 mul-here : tie.Need-mul-here Inv-loop μ-loop
 mul-here c = omega arith
@@ -37,7 +40,8 @@ slice-read-old : tie.Need-slice-read-old Inv-loop μ-loop
 slice-read-old c = omega arith
 
 combine-requires : tie.Need-combine-requires Inv-loop μ-loop
-combine-requires c κs = raising-summands _ _ _ _ _ _ _ (c .before .before .before .before .before .before .before .pre .0) _ _ _ (c .before .before .before .loop-test .taken) (c .before .before .before .before .loop .inv)
+combine-requires c κs =
+    (raising-summands _ _ _ _ _ _ _ (c .before .before .before .before .before .before .before .before .pre .0) _ _ _ (c .before .before .before .loop-test .taken) (c .before .before .before .before .loop .inv), c .before .before .before .before .before .reciprocal .ensures)
 
 mul-current : tie.Need-mul-current Inv-loop μ-loop
 mul-current c = omega arith
@@ -58,7 +62,9 @@ loop-less : tie.Need-loop-less Inv-loop μ-loop
 loop-less c = omega arith
 
 loop-again : tie.Need-loop-again Inv-loop μ-loop
-loop-again c = raising-next _ _ _ _ _ _ _ (c .before .before .before .before .before .before .before .before .pre .0) _ _ _ (c .before .before .before .before .loop-test .taken) (c .before .before .before .before .before .loop .inv) _ (c .combine .ensures)
+loop-again c =
+    raising-next _ _ _ _ _ _ _ (c .before .before .before .before .before .before .before .before .before .pre .0) _ _ _
+    (c .before .before .before .before .loop-test .taken) (c .before .before .before .before .before .loop .inv) _ (c .combine .ensures)
 
 same-length : tie.Need-same-length Inv-loop μ-loop
 same-length c = c .before .loop .inv .currentFilling .sameLength
@@ -75,6 +81,7 @@ raise-row-spec =
     (tie.spec
     Inv-loop
     μ-loop
+    reciprocal-requires
     loop-holds
     mul-here
     slice-read-here

@@ -3,30 +3,29 @@
 use Prim.Native.Nat.{_-_}
 use native.Mathlib.Omega.{arith}
 use Rattle.theory.specs.Regions.{Writing, writing-starts}
-use Rattle.products.specs.Places.{listEntry, list-remainder, list-input, list-next, list-ends}
+use Rattle.products.specs.Places.{listEntry, list-input, list-next, list-ends}
 use Rattle.products.proofs.transposed.Statement.{statement}
 use Rattle.products.proofs.transposed.Tie as tie
 
 abbrev Inv-loop : tie.InvT-loop
-Inv-loop m p u w₀ target n i₀ w i = Writing w₀ target n (listEntry m p u) w i
+Inv-loop m p u w₀ target n reciprocal i₀ w i = Writing w₀ target n (listEntry m p u) w i
 
 abbrev μ-loop : tie.MeasureT-loop
-μ-loop m p u w₀ target n i₀ w i = n - i
+μ-loop m p u w₀ target n reciprocal i₀ w i = n - i
+
+reciprocal-requires : tie.Need-reciprocal-requires Inv-loop μ-loop
+reciprocal-requires c κs = c .before .before .before .pre .least
 
 loop-holds : tie.Need-loop-holds Inv-loop μ-loop
-loop-holds c = writing-starts _ _ _ _ (c .before .before .before .pre .room)
-
-transposed-at-requires : tie.Need-transposed-at-requires Inv-loop μ-loop
-transposed-at-requires c κs = list-input _ _ _ _ _ _ (c .before .before .before .before .before .pre)
+loop-holds c = writing-starts _ _ _ _ (c .before .before .before .before .pre .room)
 
 add-place : tie.Need-add-place Inv-loop μ-loop
 add-place c = omega arith
 
-rem-w : tie.Need-rem-w Inv-loop μ-loop
-rem-w c = omega arith
-
-cast-w : tie.Need-cast-w Inv-loop μ-loop
-cast-w c = omega (arith, list-remainder _ _ _ _ _ _ (c .before .before .before .before .before .before .pre) (c .transposed-at .result))
+transposed-at-requires : tie.Need-transposed-at-requires Inv-loop μ-loop
+transposed-at-requires c κs =
+    let loop = c .before in
+    list-input _ _ _ _ _ _ (loop .before .before .before .before .before .pre) _ (loop .before .reciprocal .ensures)
 
 mul-w : tie.Need-mul-w Inv-loop μ-loop
 mul-w c = omega arith
@@ -41,13 +40,15 @@ loop-less : tie.Need-loop-less Inv-loop μ-loop
 loop-less c = omega arith
 
 loop-again : tie.Need-loop-again Inv-loop μ-loop
-loop-again c = list-next _ _ _ _ _ _ (c .before .before .before .before .before .before .pre) _ _ _ (c .before .loop-test .taken) (c .before .before .loop .inv) (c .transposed-at .ensures)
+loop-again c =
+    let loop = c .before .before in
+    list-next _ _ _ _ _ _ (loop .before .before .before .before .before .pre) _ _ _ (c .before .loop-test .taken) (loop .loop .inv) (c .transposed-at .ensures)
 
 same-length : tie.Need-same-length Inv-loop μ-loop
 same-length c = omega arith
 
 returns : tie.Need-returns Inv-loop μ-loop
-returns c = list-ends _ _ _ _ _ _ (c .before .before .before .before .before .pre) _ _ (c .loop-test .left) (c .before .loop .inv)
+returns c = list-ends _ _ _ _ _ _ (c .before .before .before .before .before .before .pre) _ _ (c .loop-test .left) (c .before .loop .inv)
 
 pub transposed-spec : {M : Type 1} → statement M
 transposed-spec =
@@ -55,11 +56,10 @@ transposed-spec =
     (tie.spec
     Inv-loop
     μ-loop
+    reciprocal-requires
     loop-holds
-    transposed-at-requires
     add-place
-    rem-w
-    cast-w
+    transposed-at-requires
     mul-w
     slice-write-w
     add-i

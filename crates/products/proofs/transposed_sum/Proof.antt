@@ -8,16 +8,22 @@ use Rattle.products.proofs.transposed_sum.Statement.{statement}
 use Rattle.products.proofs.transposed_sum.Tie as tie
 
 abbrev Inv-loop : tie.InvT-loop
-Inv-loop m w₀ target n p q pn v u vn i₀ w i = Writing w₀ target n (transposedEntry m w₀ p q pn v u vn) w i
+Inv-loop m w₀ target n p q pn v u vn reciprocal i₀ w i = Writing w₀ target n (transposedEntry m w₀ p q pn v u vn) w i
 
 abbrev μ-loop : tie.MeasureT-loop
-μ-loop m w₀ target n p q pn v u vn i₀ w i = n - i
+μ-loop m w₀ target n p q pn v u vn reciprocal i₀ w i = n - i
+
+reciprocal-requires : tie.Need-reciprocal-requires Inv-loop μ-loop
+reciprocal-requires c κs = c .before .pre .least
 
 loop-holds : tie.Need-loop-holds Inv-loop μ-loop
-loop-holds c = writing-starts _ _ _ _ (c .before .pre .room)
+loop-holds c = writing-starts _ _ _ _ (c .before .before .pre .room)
 
 term-requires : tie.Need-term-requires Inv-loop μ-loop
-term-requires c κs = transposed-term _ _ _ _ _ _ _ _ _ _ (c .before .before .before .before .pre) _ _ (c .before .loop-test .taken) (c .before .before .loop .inv)
+term-requires c κs =
+    let loop = c .before .before in
+    transposed-term _ _ _ _ _ _ _ _ _ _ (loop .before .before .before .pre) _ _ (c .before .loop-test .taken) (loop .loop .inv) _
+    (loop .before .reciprocal .ensures)
 
 add-place : tie.Need-add-place Inv-loop μ-loop
 add-place c = omega arith
@@ -35,7 +41,9 @@ loop-less : tie.Need-loop-less Inv-loop μ-loop
 loop-less c = omega arith
 
 loop-again : tie.Need-loop-again Inv-loop μ-loop
-loop-again c = transposed-next _ _ _ _ _ _ _ _ _ _ (c .before .before .before .before .before .pre) _ _ (c .before .before .loop-test .taken) (c .before .before .before .loop .inv) _ (c .term .ensures)
+loop-again c =
+    transposed-next _ _ _ _ _ _ _ _ _ _ (c .before .before .before .before .before .before .pre) _ _ (c .before .before .loop-test .taken)
+    (c .before .before .before .loop .inv) _ (c .term .ensures)
 
 same-length : tie.Need-same-length Inv-loop μ-loop
 same-length c = omega arith
@@ -49,6 +57,7 @@ transposed-sum-spec =
     (tie.spec
     Inv-loop
     μ-loop
+    reciprocal-requires
     loop-holds
     term-requires
     add-place

@@ -11,10 +11,14 @@ use Rattle.reciprocals.proofs.running_products.Statement.{statement}
 use Rattle.reciprocals.proofs.running_products.Tie as tie
 
 abbrev Inv-loop : tie.InvT-loop
-Inv-loop m list n output₀ whole₀ i₀ output whole i = (i ≤ n) × (whole ≡ runningProduct m (λ j. getD list j 0) i) × Filling (runningProduct m (λ j. getD list j 0)) i output₀ output
+Inv-loop m list n output₀ reciprocal whole₀ i₀ output whole i =
+    (i ≤ n) × (whole ≡ runningProduct m (λ j. getD list j 0) i) × Filling (runningProduct m (λ j. getD list j 0)) i output₀ output
 
 abbrev μ-loop : tie.MeasureT-loop
-μ-loop m list n output₀ whole₀ i₀ output whole i = n - i
+μ-loop m list n output₀ reciprocal whole₀ i₀ output whole i = n - i
+
+reciprocal-requires : tie.Need-reciprocal-requires Inv-loop μ-loop
+reciprocal-requires c κs = search needs
 
 loop-holds : tie.Need-loop-holds Inv-loop μ-loop
 loop-holds c = (omega arith, running-none _ _, filling-start)
@@ -25,14 +29,14 @@ mul-output c = omega arith
 slice-write-output : tie.Need-slice-write-output Inv-loop μ-loop
 slice-write-output c = omega arith
 
-mul-product : tie.Need-mul-product Inv-loop μ-loop
-mul-product c = omega arith
+mul-product-by : tie.Need-mul-product-by Inv-loop μ-loop
+mul-product-by c = omega arith
 
-shared-slice-read-product : tie.Need-shared-slice-read-product Inv-loop μ-loop
-shared-slice-read-product c = omega arith
+shared-slice-read-product-by : tie.Need-shared-slice-read-product-by Inv-loop μ-loop
+shared-slice-read-product-by c = omega arith
 
-product-requires : tie.Need-product-requires Inv-loop μ-loop
-product-requires c κs = search needs
+product-by-requires : tie.Need-product-by-requires Inv-loop μ-loop
+product-by-requires c κs = search needs
 
 add-i : tie.Need-add-i Inv-loop μ-loop
 add-i c = omega arith
@@ -41,7 +45,8 @@ loop-less : tie.Need-loop-less Inv-loop μ-loop
 loop-less c = omega arith
 
 loop-again : tie.Need-loop-again Inv-loop μ-loop
-loop-again c = (omega arith, running-next _ _ _ _ _ (c .before .before .before .loop .inv .1) (c .product .ensures), filling-next (c .before .before .before .loop .inv .2) (omega arith) (c .before .before .before .loop .inv .1))
+loop-again c =
+    (omega arith, running-next _ _ _ _ _ (c .before .before .before .loop .inv .1) (c .product-by .ensures), filling-next (c .before .before .before .loop .inv .2) (omega arith) (c .before .before .before .loop .inv .1))
 
 same-length : tie.Need-same-length Inv-loop μ-loop
 same-length c = c .before .loop .inv .2 .sameLength
@@ -55,12 +60,13 @@ running-products-spec =
     (tie.spec
     Inv-loop
     μ-loop
+    reciprocal-requires
     loop-holds
     mul-output
     slice-write-output
-    mul-product
-    shared-slice-read-product
-    product-requires
+    mul-product-by
+    shared-slice-read-product-by
+    product-by-requires
     add-i
     loop-less
     loop-again

@@ -1,17 +1,12 @@
--- `residue::invert` meets its contract.
--- The loop's invariant is a state of Euclid's algorithm, and its measure is s. The lemmas before the answers say what the answer is
--- modulo 0 and modulo 1, that a turn is a step of the algorithm, and what the state shows at the end.
--- Assumes nothing.
+-- `invert` meets its contract: the loop's invariant is Euclid's algorithm before a turn (`Turning`); the measure is the second remainder. Assumes nothing.
 use mathlib.Core.Path.{_≡_}
-use Prim.Native.Nat.{ℕ, _+_, _*_, _/_, _%_, _≤_}
+use Prim.Native.Nat.{ℕ, _+_, _*_, _/_, _%_, _<_, _≤_}
 use native.Mathlib.Nat.{mod-lt, mod-one}
 use native.Mathlib.Omega.{arith}
 use borrow.Author.Needs.{needs}
-use Rattle.definitions.specs.Number.{HasInverse, negative}
-use Rattle.theory.specs.Euclid.{Euclid, GreatestFactor, greatest-factor-zero, greatest-factor-one, euclid-start, euclid-step, euclid-factor, euclid-inverse, has-inverse-greatest}
-use Rattle.theory.specs.Inverse.{inverse-unique}
-use Rattle.theory.specs.Residue.{negative-mod}
+use Rattle.theory.specs.Euclid.{greatest-factor-zero, greatest-factor-one}
 use Rattle.residue.specs.Inversion.{IsInverse, SharesFactor}
+use Rattle.residue.specs.Turning.{Turning, turning-starts, turned, turned-again, first-fits, second-fits, found-middle, absent-middle, at-most, found-end, absent-end}
 use Rattle.residue.proofs.invert.Statement.{statement}
 use Rattle.residue.proofs.invert.Tie as tie
 
@@ -21,23 +16,24 @@ shares-zero x = record { none = λ y h e. omega arith; factor = greatest-factor-
 shares-one : (x : ℕ) → SharesFactor 1 x 1
 shares-one x = record { none = λ y h e. omega (arith, mod-one (x * y)); factor = greatest-factor-one x }
 
-module _ (m x r s t u : ℕ) (two : 2 ≤ m) (state : Euclid m x r s t u) where
-  turned : (v w : ℕ) → v ≡ r / s * u % m → w ≡ (t + negative m v) % m → Euclid m x s (r % s) u w
-  turned v w e f = rw (f, e, negative-mod) (euclid-step m x two r s t u state)
+-- what is at most a word's number fits the word
+within : {x m : ℕ} → x ≤ m → m < 4294967296 → x < 4294967296
+within p q = omega arith
 
-  found : s ≡ 0 → r ≡ 1 → IsInverse m x t
-  found z e =
-      let product : x * t % m ≡ 1 = euclid-inverse m x two r t u (rw z at state) e in
-      record { below = state .firstBelow; product = product; value = inverse-unique m x t two (state .firstBelow) product }
+behind : (x y m : ℕ) → x + y ≤ m → m < 4294967296 → y < 4294967296
+behind x y m p q = omega arith
 
-  absent : s ≡ 0 → (r ≡ 1 → ⊥) → SharesFactor m x r
-  unfolding HasInverse
-  absent z n =
-      let factor : GreatestFactor r x m = euclid-factor m x two r t u (rw z at state) in
-      record { none = λ y h e. n (has-inverse-greatest m x two r factor .0 (y, e)); factor = factor }
+under : {x m : ℕ} → x < m → x ≤ m
+under p = omega arith
+
+lessens : (r s : ℕ) → 0 < s → 0 < r % s → s % (r % s) < s
+lessens r s p q =
+    let a : s % (r % s) < r % s = mod-lt s q in
+    let b : r % s < s = mod-lt r p in
+    omega arith
 
 abbrev Inv-loop : tie.InvT-loop
-Inv-loop m x r₀ s₀ t₀ u₀ r s t u = Euclid m x r s t u
+Inv-loop m x r₀ s₀ t₀ u₀ r s t u = Turning m x r s t u
 
 abbrev μ-loop : tie.MeasureT-loop
 μ-loop m x r₀ s₀ t₀ u₀ r s t u = s
@@ -49,32 +45,60 @@ returns-2 : tie.Need-returns-2 Inv-loop μ-loop
 returns-2 c = rw (c .if2 .taken) (shares-one _)
 
 loop-holds : tie.Need-loop-holds Inv-loop μ-loop
-loop-holds c = euclid-start _ _ (omega arith)
+loop-holds c = turning-starts _ _ (omega arith)
 
-div-q : tie.Need-div-q Inv-loop μ-loop
-div-q c = search needs
+div-t : tie.Need-div-t Inv-loop μ-loop
+div-t c = search needs
 
-rem-rest : tie.Need-rem-rest Inv-loop μ-loop
-rem-rest c = search needs
+mul-t : tie.Need-mul-t Inv-loop μ-loop
+mul-t c = record { fits = behind _ _ _ (first-fits _ _ (omega arith) _ _ _ _ (c .before .loop .inv) (c .loop-test .taken)) (c .before .before .before .before .fits .m .fits) }
 
-product-requires : tie.Need-product-requires Inv-loop μ-loop
-product-requires c κs = omega arith
+add-t : tie.Need-add-t Inv-loop μ-loop
+add-t c = record { fits = within (first-fits _ _ (omega arith) _ _ _ _ (c .before .loop .inv) (c .loop-test .taken)) (c .before .before .before .before .fits .m .fits) }
 
-difference-requires : tie.Need-difference-requires Inv-loop μ-loop
-difference-requires c κs = omega arith
+rem-r : tie.Need-rem-r Inv-loop μ-loop
+rem-r c = search needs
+
+returns-3 : tie.Need-returns-3 Inv-loop μ-loop
+returns-3 c =
+    found-middle _ _ (omega arith) _ _ _ _
+    (turned _ _ (omega arith) _ _ _ _ (c .before .before .before .loop .inv) (c .before .before .loop-test .taken))
+    (c .before .if3 .taken) (c .if4 .taken)
+
+returns-4 : tie.Need-returns-4 Inv-loop μ-loop
+returns-4 c =
+    absent-middle _ _ (omega arith) _ _ _ _
+    (turned _ _ (omega arith) _ _ _ _ (c .before .before .before .loop .inv) (c .before .before .loop-test .taken))
+    (c .before .if3 .taken) (c .if4 .left)
+
+div-u : tie.Need-div-u Inv-loop μ-loop
+div-u c = omega arith
+
+mul-u : tie.Need-mul-u Inv-loop μ-loop
+mul-u c = record { fits = behind _ _ _ (second-fits _ _ (omega arith) _ _ _ _ (turned _ _ (omega arith) _ _ _ _ (c .before .before .loop .inv) (c .before .loop-test .taken)) (omega arith)) (c .before .before .before .before .before .fits .m .fits) }
+
+add-u : tie.Need-add-u Inv-loop μ-loop
+add-u c = record { fits = within (second-fits _ _ (omega arith) _ _ _ _ (turned _ _ (omega arith) _ _ _ _ (c .before .before .loop .inv) (c .before .loop-test .taken)) (omega arith)) (c .before .before .before .before .before .fits .m .fits) }
+
+rem-s : tie.Need-rem-s Inv-loop μ-loop
+rem-s c = omega arith
 
 loop-less : tie.Need-loop-less Inv-loop μ-loop
-loop-less c = mod-lt _ (c .before .before .loop-test .taken)
+loop-less c = lessens _ _ (c .before .loop-test .taken) (omega arith)
 
 loop-again : tie.Need-loop-again Inv-loop μ-loop
 loop-again c =
-    turned _ _ _ _ _ _ (omega arith) (c .before .before .before .loop .inv) _ _ (c .before .product .ensures) (c .difference .ensures)
+    turned-again _ _ (omega arith) _ _ _ _ (turned _ _ (omega arith) _ _ _ _ (c .before .before .loop .inv) (c .before .loop-test .taken))
+    (omega arith)
 
-returns-3 : tie.Need-returns-3 Inv-loop μ-loop
-returns-3 c = found _ _ _ _ _ _ (omega arith) (c .before .before .loop .inv) (omega arith) (c .if3 .taken)
+sub-t13 : tie.Need-sub-t13 Inv-loop μ-loop
+sub-t13 c = under (at-most _ _ (omega arith) _ _ _ _ (c .before .before .loop .inv) (omega arith) (c .if5 .taken))
 
-returns-4 : tie.Need-returns-4 Inv-loop μ-loop
-returns-4 c = absent _ _ _ _ _ _ (omega arith) (c .before .before .loop .inv) (omega arith) (c .if3 .left)
+returns-5 : tie.Need-returns-5 Inv-loop μ-loop
+returns-5 c = found-end _ _ (omega arith) _ _ _ _ (c .before .before .loop .inv) (omega arith) (c .if5 .taken)
+
+returns-6 : tie.Need-returns-6 Inv-loop μ-loop
+returns-6 c = absent-end _ _ (omega arith) _ _ _ _ (c .before .before .loop .inv) (omega arith) (c .if5 .left)
 
 pub invert-spec : {M : Type 1} → statement M
 invert-spec =
@@ -85,11 +109,18 @@ invert-spec =
     returns
     returns-2
     loop-holds
-    div-q
-    rem-rest
-    product-requires
-    difference-requires
+    div-t
+    mul-t
+    add-t
+    rem-r
+    returns-3
+    returns-4
+    div-u
+    mul-u
+    add-u
+    rem-s
     loop-less
     loop-again
-    returns-3
-    returns-4)
+    sub-t13
+    returns-5
+    returns-6)

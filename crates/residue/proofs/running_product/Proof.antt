@@ -9,22 +9,25 @@ use Rattle.residue.proofs.running_product.Statement.{statement}
 use Rattle.residue.proofs.running_product.Tie as tie
 
 abbrev Inv-loop : tie.InvT-loop
-Inv-loop m list result₀ i₀ result i = (i ≤ length list) × (result ≡ runningProduct m (λ j. getD list j 0) i)
+Inv-loop m list reciprocal result₀ i₀ result i = (i ≤ length list) × (result ≡ runningProduct m (λ j. getD list j 0) i)
 
 abbrev μ-loop : tie.MeasureT-loop
-μ-loop m list result₀ i₀ result i = length list - i
+μ-loop m list reciprocal result₀ i₀ result i = length list - i
+
+reciprocal-requires : tie.Need-reciprocal-requires Inv-loop μ-loop
+reciprocal-requires c κs = search needs
 
 loop-holds : tie.Need-loop-holds Inv-loop μ-loop
 loop-holds c = (omega arith, running-none _ _)
 
-mul-product : tie.Need-mul-product Inv-loop μ-loop
-mul-product c = omega arith
+mul-product-by : tie.Need-mul-product-by Inv-loop μ-loop
+mul-product-by c = omega arith
 
-shared-slice-read-product : tie.Need-shared-slice-read-product Inv-loop μ-loop
-shared-slice-read-product c = omega arith
+shared-slice-read-product-by : tie.Need-shared-slice-read-product-by Inv-loop μ-loop
+shared-slice-read-product-by c = omega arith
 
-product-requires : tie.Need-product-requires Inv-loop μ-loop
-product-requires c κs = search needs
+product-by-requires : tie.Need-product-by-requires Inv-loop μ-loop
+product-by-requires c κs = search needs
 
 add-i : tie.Need-add-i Inv-loop μ-loop
 add-i c = omega arith
@@ -33,7 +36,7 @@ loop-less : tie.Need-loop-less Inv-loop μ-loop
 loop-less c = omega arith
 
 loop-again : tie.Need-loop-again Inv-loop μ-loop
-loop-again c = (omega arith, running-next _ _ _ _ _ (c .before .before .before .loop .inv .1) (c .product .ensures))
+loop-again c = (omega arith, running-next _ _ _ _ _ (c .before .before .before .loop .inv .1) (c .product-by .ensures))
 
 returns : tie.Need-returns Inv-loop μ-loop
 returns c = c .before .loop .inv .1 ∙ ap (runningProduct _ _) (omega arith)
@@ -44,10 +47,11 @@ running-product-spec =
     (tie.spec
     Inv-loop
     μ-loop
+    reciprocal-requires
     loop-holds
-    mul-product
-    shared-slice-read-product
-    product-requires
+    mul-product-by
+    shared-slice-read-product-by
+    product-by-requires
     add-i
     loop-less
     loop-again

@@ -1,7 +1,7 @@
 -- `coefficient` meets its contract: the laws of one coefficient in `Division`.
 -- Assumes nothing.
 use native.Mathlib.Omega.{arith}
-use Rattle.series.specs.Division.{coefficient-input, coefficient-remainder, coefficient-fits, coefficient-is}
+use Rattle.series.specs.Division.{coefficient-input, coefficient-fits, coefficient-is}
 use borrow.Author.Needs.{needs}
 use Rattle.series.proofs.coefficient.Statement.{statement}
 use Rattle.series.proofs.coefficient.Tie as tie
@@ -25,28 +25,28 @@ part-transposed-at-end : tie.Need-part-transposed-at-end
 part-transposed-at-end c = search needs
 
 transposed-at-requires : tie.Need-transposed-at-requires
-transposed-at-requires c κs = coefficient-input _ _ _ _ _ _ _ (c .before .before .before .before .before .before .pre) _ (c .before .before .excess .ensures)
+transposed-at-requires c κs =
+    coefficient-input _ _ _ _ _ _ _ _ (c .before .before .before .before .before .before .pre) _ (c .before .before .excess .ensures)
 
 reversed-entry-requires : tie.Need-reversed-entry-requires
 reversed-entry-requires c κs = search needs
 
-rem-opposite : tie.Need-rem-opposite
-rem-opposite c = search needs
+negative-requires : tie.Need-negative-requires
+negative-requires c κs = search needs
 
-cast-opposite : tie.Need-cast-opposite
-cast-opposite c = omega (arith, coefficient-remainder _ _ _ _ _ _ _ (c .before .before .before .before .before .before .before .before .pre) (c .before .transposed-at .result))
+add-product-by : tie.Need-add-product-by
+add-product-by c =
+    omega
+    (arith, coefficient-fits _ _ _ _ _ _ _ _ (c .before .before .before .before .before .before .before .before .before .pre) _ _ _ (c .before .reversed-entry .ensures) (c .negative .ensures))
 
-opposite-requires : tie.Need-opposite-requires
-opposite-requires c κs = search needs
-
-add-product : tie.Need-add-product
-add-product c = omega (arith, coefficient-fits _ _ _ _ _ _ _ (c .before .before .before .before .before .before .before .before .before .pre) _ _ _ (c .before .reversed-entry .ensures) (c .opposite .ensures))
-
-product-requires : tie.Need-product-requires
-product-requires c κs = search needs
+product-by-requires : tie.Need-product-by-requires
+product-by-requires c κs = search needs
 
 returns : tie.Need-returns
-returns c = coefficient-is _ _ _ _ _ _ _ (c .before .before .before .before .before .before .before .before .before .before .pre) _ _ _ _ _ _ (c .before .before .before .before .before .before .excess .ensures) (c .before .before .before .before .before .excess2 .ensures) (c .before .before .before .transposed-at .ensures) (c .before .before .reversed-entry .ensures) (c .before .opposite .ensures) (c .product .ensures)
+returns c = let start = c .before .before .before .before .before .before .before .before .before .before in
+    coefficient-is _ _ _ _ _ _ _ _ (start .pre) _ _ _ _ _ _ (c .before .before .before .before .before .before .excess .ensures)
+    (c .before .before .before .before .before .excess2 .ensures) (c .before .before .before .transposed-at .ensures)
+    (c .before .before .reversed-entry .ensures) (c .before .negative .ensures) (c .product-by .ensures)
 
 pub coefficient-spec : {M : Type 1} → statement M
 coefficient-spec =
@@ -60,9 +60,7 @@ coefficient-spec =
     part-transposed-at-end
     transposed-at-requires
     reversed-entry-requires
-    rem-opposite
-    cast-opposite
-    opposite-requires
-    add-product
-    product-requires
+    negative-requires
+    add-product-by
+    product-by-requires
     returns)

@@ -7,16 +7,22 @@ use Rattle.series.proofs.quotient.Statement.{statement}
 use Rattle.series.proofs.quotient.Tie as tie
 
 abbrev Inv-loop : tie.InvT-loop
-Inv-loop m numerator divisor n inverse count output₀ k₀ output k = Dividing m numerator divisor n count output₀ output k
+Inv-loop m numerator divisor n inverse count output₀ reciprocal k₀ output k = Dividing m numerator divisor n count output₀ output k
 
 abbrev μ-loop : tie.MeasureT-loop
-μ-loop m numerator divisor n inverse count output₀ k₀ output k = count - k
+μ-loop m numerator divisor n inverse count output₀ reciprocal k₀ output k = count - k
+
+reciprocal-requires : tie.Need-reciprocal-requires Inv-loop μ-loop
+reciprocal-requires c κs = omega (arith, c .before .before .before .pre .divides .modulus .least)
 
 loop-holds : tie.Need-loop-holds Inv-loop μ-loop
-loop-holds c = dividing-starts _ _ _ _ _ _ _ (c .before .before .before .pre)
+loop-holds c = dividing-starts _ _ _ _ _ _ _ (c .before .before .before .before .pre)
 
 coefficient-requires : tie.Need-coefficient-requires Inv-loop μ-loop
-coefficient-requires c κs = dividing-input _ _ _ _ _ _ _ (c .before .before .before .before .before .before .pre) _ _ (c .before .before .loop .inv) (c .before .loop-test .taken)
+coefficient-requires c κs =
+    let loop = c .before .before in
+    dividing-input _ _ _ _ _ _ _ (loop .before .before .before .before .before .pre) _ _ (loop .loop .inv) _ (loop .before .reciprocal .ensures)
+    (c .before .loop-test .taken)
 
 mul-output : tie.Need-mul-output Inv-loop μ-loop
 mul-output c = omega arith
@@ -31,13 +37,17 @@ loop-less : tie.Need-loop-less Inv-loop μ-loop
 loop-less c = omega arith
 
 loop-again : tie.Need-loop-again Inv-loop μ-loop
-loop-again c = dividing-next _ _ _ _ _ _ _ (c .before .before .before .before .before .before .before .pre) _ _ (c .before .before .before .loop .inv) (c .before .before .loop-test .taken) _ (c .coefficient .ensures)
+loop-again c =
+    let loop = c .before .before .before in
+    dividing-next _ _ _ _ _ _ _ (loop .before .before .before .before .before .pre) _ _ (loop .loop .inv) (c .before .before .loop-test .taken) _
+    (c .coefficient .ensures)
 
 same-length : tie.Need-same-length Inv-loop μ-loop
 same-length c = c .before .loop .inv .written .sameLength
 
 returns : tie.Need-returns Inv-loop μ-loop
-returns c = dividing-ends _ _ _ _ _ _ _ (c .before .before .before .before .before .pre) _ _ (c .before .loop .inv) (c .loop-test .left)
+returns c =
+    dividing-ends _ _ _ _ _ _ _ (c .before .before .before .before .before .before .pre) _ _ (c .before .loop .inv) (c .loop-test .left)
 
 pub quotient-spec : {M : Type 1} → statement M
 quotient-spec =
@@ -45,6 +55,7 @@ quotient-spec =
     (tie.spec
     Inv-loop
     μ-loop
+    reciprocal-requires
     loop-holds
     coefficient-requires
     mul-output

@@ -6,16 +6,21 @@ use Rattle.tree.proofs.expand_root.Statement.{statement}
 use Rattle.tree.proofs.expand_root.Tie as tie
 
 abbrev Inv-loop : tie.InvT-loop
-Inv-loop m w at span first n output₀ k₀ output k = Filling (rootEntry m w at span first) n output₀ output k
+Inv-loop m w at span first n output₀ reciprocal k₀ output k = Filling (rootEntry m w at span first) n output₀ output k
 
 abbrev μ-loop : tie.MeasureT-loop
-μ-loop m w at span first n output₀ k₀ output k = n - k
+μ-loop m w at span first n output₀ reciprocal k₀ output k = n - k
+
+reciprocal-requires : tie.Need-reciprocal-requires Inv-loop μ-loop
+reciprocal-requires c κs = omega (arith, c .before .before .before .pre .modulus .least)
 
 loop-holds : tie.Need-loop-holds Inv-loop μ-loop
-loop-holds c = filling-starts _ _ _ (c .before .before .before .pre .room)
+loop-holds c = filling-starts _ _ _ (c .before .before .before .before .pre .room)
 
 root-coefficient-requires : tie.Need-root-coefficient-requires Inv-loop μ-loop
-root-coefficient-requires c κs = root-coefficient _ _ _ _ _ _ _ (c .before .before .before .before .before .pre) _ (c .loop-test .taken)
+root-coefficient-requires c κs =
+    let loop = c .before in
+    root-coefficient _ _ _ _ _ _ _ (loop .before .before .before .before .before .pre) _ (loop .before .reciprocal .ensures) _ (c .loop-test .taken)
 
 mul-output : tie.Need-mul-output Inv-loop μ-loop
 mul-output c = omega arith
@@ -36,7 +41,7 @@ same-length : tie.Need-same-length Inv-loop μ-loop
 same-length c = omega arith
 
 returns : tie.Need-returns Inv-loop μ-loop
-returns c = root-ends _ _ _ _ _ _ _ (c .before .before .before .before .before .pre) _ _ (c .loop-test .left) (c .before .loop .inv)
+returns c = root-ends _ _ _ _ _ _ _ (c .before .before .before .before .before .before .pre) _ _ (c .loop-test .left) (c .before .loop .inv)
 
 pub expand-root-spec : {M : Type 1} → statement M
 expand-root-spec =
@@ -44,6 +49,7 @@ expand-root-spec =
     (tie.spec
     Inv-loop
     μ-loop
+    reciprocal-requires
     loop-holds
     root-coefficient-requires
     mul-output

@@ -1,0 +1,121 @@
+-- `convolution::products_at` meets its contract: the loop's invariant is that the terms before i are in (`Multiplying`), and its measure is
+-- what is left of them. Assumes nothing.
+use Prim.Native.Nat.{_-_}
+use native.Mathlib.Omega.{arith}
+use borrow.Author.Needs.{needs}
+use Rattle.convolution.specs.Coefficients.{Multiplying, multiplying-starts, multiplying-small, multiplying-next, multiplying-ends}
+use Rattle.convolution.proofs.products_at.Statement.{statement}
+use Rattle.convolution.proofs.products_at.Tie as tie
+
+abbrev Inv-loop : tie.InvT-loop
+Inv-loop m reciprocal start p q r s k next i₀ end low₀ wraps₀ i low wraps = Multiplying start p q r s k end i low wraps
+
+abbrev μ-loop : tie.MeasureT-loop
+μ-loop m reciprocal start p q r s k next i₀ end low₀ wraps₀ i low wraps = end - i
+
+add-next : tie.Need-add-next Inv-loop μ-loop
+add-next c = omega arith
+
+excess-requires : tie.Need-excess-requires Inv-loop μ-loop
+excess-requires c κs = search needs
+
+lesser-requires : tie.Need-lesser-requires Inv-loop μ-loop
+lesser-requires c κs = search needs
+
+loop-holds : tie.Need-loop-holds Inv-loop μ-loop
+loop-holds c =
+    multiplying-starts _ _ _ _ _ _ _ _ (c .before .before .before .before .before .before .pre) _ _ (c .before .excess .ensures)
+    (c .lesser .ensures)
+
+sub-j : tie.Need-sub-j Inv-loop μ-loop
+sub-j c = omega arith
+
+mul-pair : tie.Need-mul-pair Inv-loop μ-loop
+mul-pair c = omega arith
+
+shared-slice-read-pair : tie.Need-shared-slice-read-pair Inv-loop μ-loop
+shared-slice-read-pair c = omega arith
+
+mul-pair-2 : tie.Need-mul-pair-2 Inv-loop μ-loop
+mul-pair-2 c = omega arith
+
+shared-slice-read-pair-2 : tie.Need-shared-slice-read-pair-2 Inv-loop μ-loop
+shared-slice-read-pair-2 c = omega arith
+
+mul-pair-3 : tie.Need-mul-pair-3 Inv-loop μ-loop
+mul-pair-3 c = omega (arith, c .before .before .before .before .before .before .before .before .before .before .pre .rLong)
+
+shared-slice-read-pair-3 : tie.Need-shared-slice-read-pair-3 Inv-loop μ-loop
+shared-slice-read-pair-3 c =
+    omega (arith, c .before .before .before .before .before .before .before .before .before .before .before .pre .rLong)
+
+mul-pair-4 : tie.Need-mul-pair-4 Inv-loop μ-loop
+mul-pair-4 c = omega (arith, c .before .before .before .before .before .before .before .before .before .before .before .pre .sLong)
+
+shared-slice-read-pair-4 : tie.Need-shared-slice-read-pair-4 Inv-loop μ-loop
+shared-slice-read-pair-4 c =
+    omega (arith, c .before .before .before .before .before .before .before .before .before .before .before .before .pre .sLong)
+
+pair-requires : tie.Need-pair-requires Inv-loop μ-loop
+pair-requires c κs =
+    multiplying-small _ _ _ _ _ _ _ _
+    (c .before .before .before .before .before .before .before .before .before .before .before .before .pre) _ _ _ _
+    (c .before .before .before .before .before .loop .inv)
+
+wrapping-add-u64-requires : tie.Need-wrapping-add-u64-requires Inv-loop μ-loop
+wrapping-add-u64-requires c κs = search needs
+
+wraps-after-requires : tie.Need-wraps-after-requires Inv-loop μ-loop
+wraps-after-requires c κs =
+    omega
+    (arith, c .before .before .before .before .before .before .before .loop .inv .total .few, c .before .before .before .before .before .before .before .loop .inv .ends .second, c .before .before .before .before .before .before .before .before .before .before .before .before .before .before .good)
+
+add-i : tie.Need-add-i Inv-loop μ-loop
+add-i c = omega arith
+
+loop-less : tie.Need-loop-less Inv-loop μ-loop
+loop-less c = omega arith
+
+loop-again : tie.Need-loop-again Inv-loop μ-loop
+loop-again c =
+    multiplying-next _ _ _ _ _ _ _ _
+    (c .before .before .before .before .before .before .before .before .before .before .before .before .before .before .before .pre) _ _
+    _ _ (c .before .before .before .before .before .before .before .before .loop .inv)
+    (c .before .before .before .before .before .before .before .loop-test .taken) _ _ _ (c .before .before .pair .ensures)
+    (c .before .wrapping-add-u64 .ensures) (c .wraps-after .ensures)
+
+remainder-of-sum-requires : tie.Need-remainder-of-sum-requires Inv-loop μ-loop
+remainder-of-sum-requires c κs = c .before .before .before .before .before .before .before .before .pre .reducible
+
+returns : tie.Need-returns Inv-loop μ-loop
+returns c =
+    multiplying-ends _ _ _ _ _ _ _ _ (c .before .before .before .before .before .before .before .before .before .pre) _ _ _ _
+    (c .before .before .loop .inv) (c .before .loop-test .left) _ (c .remainder-of-sum .ensures)
+
+pub products-at-spec : {M : Type 1} → statement M
+products-at-spec =
+    tie.close
+    (tie.spec
+    Inv-loop
+    μ-loop
+    add-next
+    excess-requires
+    lesser-requires
+    loop-holds
+    sub-j
+    mul-pair
+    shared-slice-read-pair
+    mul-pair-2
+    shared-slice-read-pair-2
+    mul-pair-3
+    shared-slice-read-pair-3
+    mul-pair-4
+    shared-slice-read-pair-4
+    pair-requires
+    wrapping-add-u64-requires
+    wraps-after-requires
+    add-i
+    loop-less
+    loop-again
+    remainder-of-sum-requires
+    returns)

@@ -1,0 +1,112 @@
+// One coefficient of a sum of two products of polynomials, or one term of a transposed product, on input that is already checked. A
+// sum is kept as its low 64 bits and a count of its wraps: nothing is taken off in the loop, and one remainder ends it.
+ghost use mathlib.Core.Path.{_≡_};
+ghost use Prim.Native.Nat.{_+_, _*_, _-_, _%_};
+ghost use Rattle.theory.specs.Products.{productAt, transposedAt};
+ghost use Rattle.convolution.specs.Totals.{Lesser, SmallNumbers};
+ghost use Rattle.convolution.specs.Coefficients.{ProductsInput, TransposedInput, TransposedSumInput};
+use reduction::remainder_of_sum;
+use reduction::wraps_after;
+
+fn lesser(x: usize, y: usize) -> usize
+    ensures { λ r. ⌜ Lesser x y r ⌝ }
+{
+    if x < y { x } else { y }
+}
+
+// x - y, and 0 if y is greater.
+pub fn excess(x: usize, y: usize) -> usize
+    ensures { λ r. ⌜ r ≡ x - y ⌝ }
+{
+    if x < y { 0 } else { x - y }
+}
+
+// x y + u v.
+fn pair(x: u32, y: u32, u: u32, v: u32) -> u64
+    requires { ⌜ SmallNumbers x y u v ⌝ }
+    ensures { λ r. ⌜ r ≡ x * y + u * v ⌝ }
+{
+    (x as u64) * (y as u64) + (u as u64) * (v as u64)
+}
+
+// The coefficient of x^k in start + p q + r s.
+pub fn products_at(
+    m: u32,
+    reciprocal: u64,
+    start: u32,
+    p: &[u32],
+    q: &[u32],
+    r: &[u32],
+    s: &[u32],
+    k: usize,
+) -> u32
+    requires { ⌜ ProductsInput m reciprocal start (now p) (now q) (now r) (now s) k ⌝ }
+    ensures { λ v. ⌜ v ≡ (start + productAt (now (p .entry)) (now (q .entry)) k
+        + productAt (now (r .entry)) (now (s .entry)) k) % m ⌝ }
+{
+    let next = k + 1;
+    let mut i = excess(next, q.len());
+    let end = lesser(next, p.len());
+    let mut low = start as u64;
+    let mut wraps: u64 = 0;
+    while i < end {
+        let j = k - i;
+        let x = pair(p[i], q[j], r[i], s[j]);
+        let sum = std::num::wrapping_add_u64(low, x);
+        wraps = wraps_after(wraps, sum, x);
+        low = sum;
+        i += 1;
+    }
+    remainder_of_sum(m, reciprocal, low, wraps)
+}
+
+// Term i of the transposed product of w with p: the sum over j of p_j w_{i+j}, zero past the end of w.
+pub fn transposed_at(m: u32, reciprocal: u64, p: &[u32], w: &[u32], i: usize) -> u32
+    requires { ⌜ TransposedInput m reciprocal (now p) (now w) ⌝ }
+    ensures { λ r. ⌜ r ≡ transposedAt (now (p .entry)) (now (w .entry)) i % m ⌝ }
+{
+    let room = excess(w.len(), i);
+    let end = lesser(room, p.len());
+    let mut low: u64 = 0;
+    let mut wraps: u64 = 0;
+    let mut j: usize = 0;
+    while j < end {
+        let k = i + j;
+        let x = pair(p[j], w[k], 0, 0);
+        let sum = std::num::wrapping_add_u64(low, x);
+        wraps = wraps_after(wraps, sum, x);
+        low = sum;
+        j += 1;
+    }
+    remainder_of_sum(m, reciprocal, low, wraps)
+}
+
+// Term i of the transposed products of v with p and of u with q, added up.
+pub fn transposed_sum_at(
+    m: u32,
+    reciprocal: u64,
+    p: &[u32],
+    v: &[u32],
+    q: &[u32],
+    u: &[u32],
+    i: usize,
+) -> u32
+    requires { ⌜ TransposedSumInput m reciprocal (now p) (now v) (now q) (now u) ⌝ }
+    ensures { λ r. ⌜ r ≡ (transposedAt (now (p .entry)) (now (v .entry)) i
+        + transposedAt (now (q .entry)) (now (u .entry)) i) % m ⌝ }
+{
+    let room = excess(v.len(), i);
+    let end = lesser(room, p.len());
+    let mut low: u64 = 0;
+    let mut wraps: u64 = 0;
+    let mut j: usize = 0;
+    while j < end {
+        let k = i + j;
+        let x = pair(p[j], v[k], q[j], u[k]);
+        let sum = std::num::wrapping_add_u64(low, x);
+        wraps = wraps_after(wraps, sum, x);
+        low = sum;
+        j += 1;
+    }
+    remainder_of_sum(m, reciprocal, low, wraps)
+}
