@@ -1,15 +1,25 @@
--- The verdict of the tests on the rows, at each place where the check answers.
--- Proved: what the passes over a, b and c found is the verdict of tests 9, 10 and 11. Assumes nothing.
-use mathlib.Core.Path.{_≡_, refl, sym, _∙_, subst}
+-- The verdict of the tests on the rows, at each place where a check answers.
+-- Proved: what the passes over a, b and c found is the verdict of tests 9, 10 and 11; where the product of all a and c has an inverse, 10 and
+-- 11 pass. Assumes nothing.
+use mathlib.Core.Path.{_≡_, sym, _∙_, ap, subst}
 use mathlib.Core.Bool.{Bool, true, false, _||_}
 use mathlib.Core.List.{List, [], _∷_}
-use Prim.Native.Nat.{ℕ}
+use Prim.Native.Nat.{ℕ, _*_, _%_, _<_}
+use native.Mathlib.Nat.{mod-mod}
+use lib.ListN.{length, getD}
+use Rattle.definitions.specs.Answers.{answered}
 use Rattle.definitions.specs.Family.{Family, family}
+use Rattle.definitions.specs.Number.{HasInverse}
 use Rattle.definitions.specs.Refusals.{Verdict, finished, refused, verdict, some, notBelow, noInverse, entriesTest, aInverseTest, cInverseTest}
+use Rattle.definitions.specs.declared.Answer.{Answer}
+use Rattle.theory.specs.Inverse.{has-inverse-remainder, product-has-inverse}
+use Rattle.theory.specs.RunningProduct.{runningProduct}
 use Rattle.theory.specs.Verdicts.{verdict-here, verdict-next, some-true, or-false}
+use Rattle.checks.specs.Calls.{check-refuses, check-passes}
 use Rattle.checks.specs.Either.{or-left, or-right}
-use Rattle.checks.specs.Groups.{rowTests}
-use Rattle.checks.specs.Passes.{First, BelowAnswer, FactorAnswer}
+use Rattle.checks.specs.Groups.{inverseRowTests, rowTests}
+use Rattle.checks.specs.Passes.{First, BelowAnswer, FactorAnswer, all-by-product}
+use Rattle.checks.specs.Shape.{test-refuses, test-passes}
 use Rattle.checks.specs.declared.Entries.{Entries}
 use Rattle.checks.specs.declared.Factors.{Factors}
 use Rattle.checks.specs.declared.Reason.{Reason}
@@ -28,52 +38,75 @@ module _ (m : ℕ) (xs : List ℕ) where
   pub all-invertible : (r : Factors) → r ≡ Factors.Invertible → FactorAnswer m xs r → some (noInverse m) xs ≡ false
   all-invertible r e h = subst (FactorAnswer m xs) e h
 
-  pub one-without : (r : Factors) (i : ℕ) (reason : Reason) → r ≡ Factors.Without i reason → FactorAnswer m xs r → some (noInverse m) xs ≡ true
+  pub one-without : (r : Factors) (i : ℕ) (reason : Reason) → r ≡ Factors.Without i reason → FactorAnswer m xs r → some (noInverse m) xs ≡
+      true
   one-without r i reason e h = first-some (noInverse m) xs i (subst (FactorAnswer m xs) e h .0)
 
--- ---- 9, 10, 11
+-- ---- 9
 module _ (m : ℕ) (a b c : List ℕ) where
   abbrev f : Family
   f = family m a b c
 
-  abbrev rows : Verdict
-  rows = verdict (rowTests f) []
+  abbrev entries : Verdict
+  entries = verdict (entriesTest f ∷ []) []
 
-  entries-refused : entriesTest f .holds ≡ true → refused 9 ≡ rows
-  unfolding rowTests entriesTest
-  entries-refused e = sym (verdict-here (entriesTest f) (aInverseTest f ∷ cInverseTest f ∷ []) [] e)
+  abbrev outside : List ℕ → Bool
+  outside = some (notBelow m)
 
-  pub a-not-below : some (notBelow m) a ≡ true → refused 9 ≡ rows
+  pub a-not-below : outside a ≡ true → refused 9 ≡ entries
   unfolding entriesTest
-  a-not-below e = entries-refused (or-left (some (notBelow m) a || some (notBelow m) b) (some (notBelow m) c) (or-left (some (notBelow m) a) (some (notBelow m) b) e))
+  a-not-below e = test-refuses (entriesTest f) (or-left (outside a || outside b) (outside c) (or-left (outside a) (outside b) e))
 
-  pub b-not-below : some (notBelow m) b ≡ true → refused 9 ≡ rows
+  pub b-not-below : outside b ≡ true → refused 9 ≡ entries
   unfolding entriesTest
-  b-not-below e = entries-refused (or-left (some (notBelow m) a || some (notBelow m) b) (some (notBelow m) c) (or-right (some (notBelow m) a) (some (notBelow m) b) e))
+  b-not-below e = test-refuses (entriesTest f) (or-left (outside a || outside b) (outside c) (or-right (outside a) (outside b) e))
 
-  pub c-not-below : some (notBelow m) c ≡ true → refused 9 ≡ rows
+  pub c-not-below : outside c ≡ true → refused 9 ≡ entries
   unfolding entriesTest
-  c-not-below e = entries-refused (or-right (some (notBelow m) a || some (notBelow m) b) (some (notBelow m) c) e)
+  c-not-below e = test-refuses (entriesTest f) (or-right (outside a || outside b) (outside c) e)
 
-  module _ (aBelow : some (notBelow m) a ≡ false) (bBelow : some (notBelow m) b ≡ false) (cBelow : some (notBelow m) c ≡ false) where
-    past-entries : rows ≡ verdict (aInverseTest f ∷ cInverseTest f ∷ []) []
-    unfolding rowTests entriesTest
-    past-entries = verdict-next (entriesTest f) (aInverseTest f ∷ cInverseTest f ∷ []) []
-        (or-false (some (notBelow m) a || some (notBelow m) b) (some (notBelow m) c) .1 (or-false (some (notBelow m) a) (some (notBelow m) b) .1 (aBelow, bBelow), cBelow))
+  pub entries-pass : outside a ≡ false → outside b ≡ false → outside c ≡ false → finished [] ≡ entries
+  unfolding entriesTest
+  entries-pass p q r = test-passes (entriesTest f)
+      (or-false (outside a || outside b) (outside c) .1 (or-false (outside a) (outside b) .1 (p, q), r))
 
-    pub a-without : some (noInverse m) a ≡ true → refused 10 ≡ rows
-    unfolding aInverseTest
-    a-without e = sym (past-entries ∙ verdict-here (aInverseTest f) (cInverseTest f ∷ []) [] e)
+  -- ---- 10 and 11
+  abbrev inverses : Verdict
+  inverses = verdict (inverseRowTests f) []
 
-    module _ (aInverses : some (noInverse m) a ≡ false) where
-      past-a : rows ≡ verdict (cInverseTest f ∷ []) []
-      unfolding aInverseTest
-      past-a = past-entries ∙ verdict-next (aInverseTest f) (cInverseTest f ∷ []) [] aInverses
+  abbrev lacking : List ℕ → Bool
+  lacking = some (noInverse m)
 
-      pub c-without : some (noInverse m) c ≡ true → refused 11 ≡ rows
-      unfolding cInverseTest
-      c-without e = sym (past-a ∙ verdict-here (cInverseTest f) [] [] e)
+  pub a-without : lacking a ≡ true → refused 10 ≡ inverses
+  unfolding inverseRowTests aInverseTest
+  a-without e = sym (verdict-here (aInverseTest f) (cInverseTest f ∷ []) [] e)
 
-      pub rows-pass : some (noInverse m) c ≡ false → finished [] ≡ rows
-      unfolding cInverseTest verdict
-      rows-pass e = sym (past-a ∙ verdict-next (cInverseTest f) [] [] e)
+  past-a : lacking a ≡ false → inverses ≡ verdict (cInverseTest f ∷ []) []
+  unfolding inverseRowTests aInverseTest
+  past-a e = verdict-next (aInverseTest f) (cInverseTest f ∷ []) [] e
+
+  pub c-without : lacking a ≡ false → lacking c ≡ true → refused 11 ≡ inverses
+  unfolding cInverseTest
+  c-without p e = test-refuses (cInverseTest f) e ∙ sym (past-a p)
+
+  pub inverses-pass : lacking a ≡ false → lacking c ≡ false → finished [] ≡ inverses
+  unfolding cInverseTest
+  inverses-pass p e = test-passes (cInverseTest f) e ∙ sym (past-a p)
+
+  -- the product of the products of both lists has an inverse
+  pub product-settles : 0 < m → (x y z : ℕ) → x ≡ runningProduct m (λ i. getD a i 0) (length a) → y ≡ runningProduct m (λ i. getD c i 0)
+      (length c)
+      → z ≡ x * y % m → HasInverse m z → finished [] ≡ inverses
+  product-settles pos x y z ex ey e h =
+      let both = product-has-inverse m x y .0 (has-inverse-remainder m z (x * y) (ap (λ t. t % m) e ∙ mod-mod (x * y) m) h) in
+      inverses-pass (all-by-product m a pos (subst (HasInverse m) ex (both .0))) (all-by-product m c pos (subst (HasInverse m) ey (both .1)))
+
+  -- ---- 9 to 11, the first a check of its own
+  module _ (first : Answer) (firstIs : answered first ≡ entries) where
+    pub entries-refuse : (k : ℕ) → first ≡ Answer.Refused k → answered first ≡ verdict (rowTests f) []
+    unfolding rowTests
+    entries-refuse k q = check-refuses first (entriesTest f ∷ []) firstIs k (inverseRowTests f) q
+
+    pub inverses-settle : first ≡ Answer.Finished → (r : Answer) → answered r ≡ inverses → answered r ≡ verdict (rowTests f) []
+    unfolding rowTests
+    inverses-settle q r is = is ∙ check-passes first (entriesTest f ∷ []) firstIs (inverseRowTests f) q

@@ -1,17 +1,18 @@
 // The tests that the calls make before they convert. Each check answers an enum, which its caller takes apart by 'let .. else'
 // before the next check. A pass over a list answers with the first bad entry and the reason.
 ghost use mathlib.Core.Path.{_≡_};
-ghost use mathlib.Core.List.{List, [], _∷_};
-ghost use Prim.Native.Nat.{ℕ, _<_};
-ghost use lib.ListN.{length};
+ghost use mathlib.Core.List.{[], _∷_};
+ghost use Prim.Native.Nat.{_<_};
 ghost use Rattle.definitions.specs.Answers.{answered};
 ghost use Rattle.definitions.specs.Family.{family};
-ghost use Rattle.definitions.specs.Refusals.{verdict, modulusTest, outputTest, workTest};
+ghost use Rattle.definitions.specs.Refusals.{verdict, modulusTest, outputTest, workTest, entriesTest, numberTest};
+ghost use Rattle.definitions.specs.TextCall.{textOutputTest};
 ghost use Rattle.checks.specs.Passes.{BelowAnswer, FactorAnswer};
-ghost use Rattle.checks.specs.Groups.{shapeTests, rowTests, lengthTests};
+ghost use Rattle.checks.specs.Groups.{countsTest, rowsTest, lengthTest, shapeTests, lengthTests, inverseRowTests, rowTests};
 use definitions::Answer;
 use residue::Inversion;
 use residue::invert;
+use residue::product;
 use residue::running_product;
 
 // Whether every entry of a list is below the modulus: if not, the place of the first that is not.
@@ -82,7 +83,30 @@ pub fn modulus(m: u32) -> Answer
     Answer::Finished
 }
 
-// 3, 4 and 5: the modulus, the lengths of the rows' lists, the number of rows.
+// 4: the lengths of the rows' lists.
+fn equal_lengths(a: usize, b: usize, c: usize) -> Answer
+    ensures { λ r. ⌜ answered r ≡ verdict (countsTest a b c ∷ []) [] ⌝ }
+{
+    if b != a {
+        return Answer::Refused(4);
+    }
+    if c != a {
+        return Answer::Refused(4);
+    }
+    Answer::Finished
+}
+
+// 5: the number of rows.
+fn row_count(rows: usize) -> Answer
+    ensures { λ r. ⌜ answered r ≡ verdict (rowsTest rows ∷ []) [] ⌝ }
+{
+    if 127 < rows {
+        return Answer::Refused(5);
+    }
+    Answer::Finished
+}
+
+// 3, 4 and 5.
 pub fn family_shape(m: u32, a: usize, b: usize, c: usize) -> Answer
     ensures { λ r. ⌜ answered r ≡ verdict (shapeTests m a b c) [] ⌝ }
 {
@@ -90,33 +114,49 @@ pub fn family_shape(m: u32, a: usize, b: usize, c: usize) -> Answer
     let Answer::Finished = range else {
         return range;
     };
-    if b != a {
-        return Answer::Refused(4);
-    }
-    if c != a {
-        return Answer::Refused(4);
-    }
-    if 127 < a {
-        return Answer::Refused(5);
+    let equal = equal_lengths(a, b, c);
+    let Answer::Finished = equal else {
+        return equal;
+    };
+    row_count(a)
+}
+
+// 6: the length of the curve.
+pub fn curve_length(wanted: usize, curve: usize) -> Answer
+    ensures { λ r. ⌜ answered r ≡ verdict (lengthTest wanted curve ∷ []) [] ⌝ }
+{
+    if curve != wanted {
+        return Answer::Refused(6);
     }
     Answer::Finished
 }
 
-// 6 and 7: the lengths of the curve and of the output, which must be n.
-pub fn lengths(n: usize, curve: usize, output: usize) -> Answer
-    ensures { λ r. ⌜ answered r ≡ verdict (lengthTests n curve output) [] ⌝ }
-{
-    if curve != n {
-        return Answer::Refused(6);
-    }
-    output_length(n, output)
-}
-
-// 7 alone.
+// 7: the length of the output.
 pub fn output_length(wanted: usize, output: usize) -> Answer
     ensures { λ r. ⌜ answered r ≡ verdict (outputTest wanted output ∷ []) [] ⌝ }
 {
     if output != wanted {
+        return Answer::Refused(7);
+    }
+    Answer::Finished
+}
+
+// 6 and 7, where both must be n.
+pub fn lengths(n: usize, curve: usize, output: usize) -> Answer
+    ensures { λ r. ⌜ answered r ≡ verdict (lengthTests n curve output) [] ⌝ }
+{
+    let entries = curve_length(n, curve);
+    let Answer::Finished = entries else {
+        return entries;
+    };
+    output_length(n, output)
+}
+
+// 7 of a text: the length of its output.
+pub fn text_output_length(output: usize) -> Answer
+    ensures { λ r. ⌜ answered r ≡ verdict (textOutputTest output ∷ []) [] ⌝ }
+{
+    if output < 4096 {
         return Answer::Refused(7);
     }
     Answer::Finished
@@ -132,10 +172,9 @@ pub fn work_length(work: usize) -> Answer
     Answer::Finished
 }
 
-// 9, 10 and 11: the entries of the rows, then the inverses of the a, then of the c.
-pub fn family_rows(m: u32, a: &[u32], b: &[u32], c: &[u32]) -> Answer
-    requires { ⌜ 0 < m ⌝ }
-    ensures { λ r. ⌜ answered r ≡ verdict (rowTests (family m (now (a .entry)) (now (b .entry)) (now (c .entry)))) [] ⌝ }
+// 9: the entries of the rows.
+fn row_entries(m: u32, a: &[u32], b: &[u32], c: &[u32]) -> Answer
+    ensures { λ r. ⌜ answered r ≡ verdict (entriesTest (family m (now (a .entry)) (now (b .entry)) (now (c .entry))) ∷ []) [] ⌝ }
 {
     let Entries::Residues = entries_below(m, a) else {
         return Answer::Refused(9);
@@ -146,11 +185,46 @@ pub fn family_rows(m: u32, a: &[u32], b: &[u32], c: &[u32]) -> Answer
     let Entries::Residues = entries_below(m, c) else {
         return Answer::Refused(9);
     };
+    Answer::Finished
+}
+
+// 10 and 11: the inverses of the a, then of the c. One inverse settles both, that of the product of all; only if it has none is it
+// looked for whom to blame, among the a first.
+fn row_inverses(m: u32, a: &[u32], b: &[u32], c: &[u32]) -> Answer
+    requires { ⌜ 0 < m ⌝ }
+    ensures { λ r. ⌜ answered r ≡ verdict (inverseRowTests (family m (now (a .entry)) (now (b .entry)) (now (c .entry)))) [] ⌝ }
+{
+    let whole = invert(m, product(m, running_product(m, a), running_product(m, c)));
+    let Inversion::Absent(_) = whole else {
+        return Answer::Finished;
+    };
     let Factors::Invertible = invertible(m, a) else {
         return Answer::Refused(10);
     };
     let Factors::Invertible = invertible(m, c) else {
         return Answer::Refused(11);
     };
+    Answer::Finished
+}
+
+// 9, 10 and 11.
+pub fn family_rows(m: u32, a: &[u32], b: &[u32], c: &[u32]) -> Answer
+    requires { ⌜ 0 < m ⌝ }
+    ensures { λ r. ⌜ answered r ≡ verdict (rowTests (family m (now (a .entry)) (now (b .entry)) (now (c .entry)))) [] ⌝ }
+{
+    let entries = row_entries(m, a, b, c);
+    let Answer::Finished = entries else {
+        return entries;
+    };
+    row_inverses(m, a, b, c)
+}
+
+// 12 of a number.
+pub fn number_below(m: u32, x: u32) -> Answer
+    ensures { λ r. ⌜ answered r ≡ verdict (numberTest m x ∷ []) [] ⌝ }
+{
+    if m <= x {
+        return Answer::Refused(12);
+    }
     Answer::Finished
 }

@@ -22,9 +22,9 @@ pub fn invert(m: u32, x: u32) -> Valued
     let Answer::Finished = checks::modulus(m) else {
         return Valued::Refused(3);
     };
-    if m <= x {
+    let Answer::Finished = checks::number_below(m, x) else {
         return Valued::Refused(12);
-    }
+    };
     let Inversion::Found(y) = residue::invert(m, x) else {
         return Valued::Refused(13);
     };

@@ -6,21 +6,21 @@
 -- Proved: a job's tests are these two parts (job-tests); what `sizes` answers at each place where it does, and what its passing
 -- means; bounds of the counts. Assumes nothing.
 use mathlib.Core.List.{List, [], _∷_, _++_}
-use mathlib.Core.Path.{_≡_, refl, sym, _∙_}
+use mathlib.Core.Path.{_≡_, refl, _∙_, ap}
 use Prim.Native.Nat.{ℕ, suc, _+_, _*_, _-_, _<_, _≤_}
 use native.Mathlib.Omega.{arith}
 use lib.ListN.{length}
-use borrow.Author.Tests.{lt-ltb, le-ltb, ltb-false}
+use borrow.Author.Tests.{ltb-false}
 use Rattle.definitions.specs.Answers.{answered}
 use Rattle.definitions.specs.Family.{Family, mostRows}
-use Rattle.definitions.specs.Refusals.{Test, Verdict, test, refused, verdict, differ, workLength, lengthsTest, rowCountTest, curveLengthTest, workTest, curveEntriesTest}
+use Rattle.definitions.specs.Refusals.{Test, Verdict, verdict, workLength, lengthsTest, rowCountTest, curveLengthTest, workTest, curveEntriesTest}
 use Rattle.definitions.specs.TextCall.{textOutputLength, emptyCurveTest, curveTest, textOutputTest, jobTests}
 use Rattle.definitions.specs.declared.Answer.{Answer}
 use Rattle.definitions.specs.declared.Operation.{Operation}
-use Rattle.theory.specs.Verdicts.{None, none-append, verdict-here, verdict-next, differ-false, work-passes}
+use Rattle.theory.specs.Verdicts.{None, none-append, differ-false, work-passes}
 use Rattle.checks.specs.Calls.{check-none, check-refuses, check-passes}
-use Rattle.checks.specs.Groups.{shapeTests, rowTests}
-use Rattle.checks.specs.Shape.{differ-other, shape-counts}
+use Rattle.checks.specs.Groups.{countsTest, rowsTest, lengthTest, shapeTests, inverseRowTests, rowTests}
+use Rattle.checks.specs.Shape.{shape-counts}
 
 unfoldable pub curveCount : Operation → ℕ → ℕ
 curveCount Operation.Expand r = suc r
@@ -37,7 +37,7 @@ resultCount Operation.Moments r = 2 * suc r - 1
 resultCount Operation.Norms r = suc r
 
 abbrev pub lentTests : Operation → ℕ → ℕ → ℕ → ℕ → List Test
-lentTests operation r u output work = test 6 (differ u (curveCount operation r)) ∷ textOutputTest output ∷ workTest work ∷ []
+lentTests operation r u output work = lengthTest (curveCount operation r) u ∷ textOutputTest output ∷ workTest work ∷ []
 
 -- a, b, c and u: how many numbers each list has
 unfoldable pub sizeTests : ℕ → Operation → ℕ → ℕ → ℕ → ℕ → ℕ → ℕ → List Test
@@ -51,7 +51,7 @@ sizesOf operation f u output work = sizeTests (f .m) operation (length (f .a)) (
 
 pub job-tests : (f : Family) (operation : Operation) (u : List ℕ) (output work : ℕ)
     → jobTests (record { family = f; operation = operation; curve = u }) output work ≡ sizesOf operation f u output work ++ valueTests f u
-unfolding jobTests lengthsTest rowCountTest curveLengthTest emptyCurveTest curveTest curveCount sizeTests valueTests shapeTests rowTests
+unfolding jobTests lengthsTest rowCountTest curveLengthTest emptyCurveTest curveTest curveCount sizeTests valueTests countsTest rowsTest lengthTest shapeTests inverseRowTests rowTests
 job-tests f Operation.Expand u output work = refl
 job-tests f Operation.Adjoint u output work = refl
 job-tests f Operation.Decompose u output work = refl
@@ -62,37 +62,45 @@ job-tests f Operation.Norms u output work = refl
 pub few-rows : (m a b c : ℕ) (shape : Answer) → answered shape ≡ verdict (shapeTests m a b c) [] → shape ≡ Answer.Finished → a ≤ mostRows
 few-rows m a b c shape e q = shape-counts m a b c (check-none shape (shapeTests m a b c) e q) .2
 
-module _ (m : ℕ) (operation : Operation) (a b c u output work : ℕ) (shape : Answer) (e : answered shape ≡ verdict (shapeTests m a b c) []) where
+module _ (m : ℕ) (operation : Operation) (a b c u output work : ℕ) (shape : Answer) (shapeIs : answered shape ≡ verdict (shapeTests m a b c) []) where
   abbrev whole : Verdict
   whole = verdict (sizeTests m operation a b c u output work) []
 
-  abbrev curveTest′ : Test
-  curveTest′ = test 6 (differ u (curveCount operation a))
+  -- the tests that are still to come
+  abbrev fromWork : List Test
+  fromWork = workTest work ∷ []
+
+  abbrev fromOutput : List Test
+  fromOutput = textOutputTest output ∷ fromWork
+
+  abbrev curveTests : List Test
+  curveTests = lengthTest (curveCount operation a) u ∷ []
 
   pub shape-refuses : (k : ℕ) → shape ≡ Answer.Refused k → answered shape ≡ whole
   unfolding sizeTests
-  shape-refuses k q = check-refuses shape (shapeTests m a b c) e k (lentTests operation a u output work) q
+  shape-refuses k q = check-refuses shape (shapeTests m a b c) shapeIs k (lentTests operation a u output work) q
 
-  module _ (q : shape ≡ Answer.Finished) where
-    past-shape : whole ≡ verdict (lentTests operation a u output work) []
+  module _ (shapePasses : shape ≡ Answer.Finished) (wanted : ℕ) (wantedIs : wanted ≡ curveCount operation a) (entries : Answer)
+      (entriesAre : answered entries ≡ verdict (lengthTest wanted u ∷ []) []) where
+    past-shape : verdict (lentTests operation a u output work) [] ≡ whole
     unfolding sizeTests
-    past-shape = sym (check-passes shape (shapeTests m a b c) e (lentTests operation a u output work) q)
+    past-shape = check-passes shape (shapeTests m a b c) shapeIs (lentTests operation a u output work) shapePasses
 
-    pub curve-refused : (u ≡ curveCount operation a → ⊥) → refused 6 ≡ whole
-    curve-refused n = sym (past-shape ∙ verdict-here curveTest′ (textOutputTest output ∷ workTest work ∷ []) [] (differ-other u (curveCount operation a) n))
+    curve-is : answered entries ≡ verdict curveTests []
+    curve-is = entriesAre ∙ ap (λ w. verdict (lengthTest w u ∷ []) []) wantedIs
 
-    module _ (s : u ≡ curveCount operation a) where
-      past-curve : whole ≡ verdict (textOutputTest output ∷ workTest work ∷ []) []
-      past-curve = past-shape ∙ verdict-next curveTest′ (textOutputTest output ∷ workTest work ∷ []) [] (differ-false u (curveCount operation a) .1 s)
+    pub curve-refuses : (k : ℕ) → entries ≡ Answer.Refused k → answered entries ≡ whole
+    curve-refuses k q = check-refuses entries curveTests curve-is k fromOutput q ∙ past-shape
 
-      pub output-refused : output < textOutputLength → refused 7 ≡ whole
-      unfolding textOutputTest
-      output-refused h = sym (past-curve ∙ verdict-here (textOutputTest output) (workTest work ∷ []) [] (lt-ltb output textOutputLength h))
+    module _ (entriesPass : entries ≡ Answer.Finished) (room : Answer) (roomIs : answered room ≡ verdict (textOutputTest output ∷ []) []) where
+      past-curve : verdict fromOutput [] ≡ whole
+      past-curve = check-passes entries curveTests curve-is fromOutput entriesPass ∙ past-shape
 
-      pub work-settles : textOutputLength ≤ output → (r : Answer) → answered r ≡ verdict (workTest work ∷ []) [] → answered r ≡ whole
-      unfolding textOutputTest
-      work-settles h r q =
-          q ∙ sym (past-curve ∙ verdict-next (textOutputTest output) (workTest work ∷ []) [] (le-ltb output textOutputLength h))
+      pub output-refuses : (k : ℕ) → room ≡ Answer.Refused k → answered room ≡ whole
+      output-refuses k q = check-refuses room (textOutputTest output ∷ []) roomIs k fromWork q ∙ past-curve
+
+      pub work-settles : room ≡ Answer.Finished → (r : Answer) → answered r ≡ verdict fromWork [] → answered r ≡ whole
+      work-settles q r is = is ∙ check-passes room (textOutputTest output ∷ []) roomIs fromWork q ∙ past-curve
 
 -- ---- what it means that they pass
 pub record Fits (operation : Operation) (a b c u output work : ℕ) : Type 0 where
@@ -103,8 +111,9 @@ pub record Fits (operation : Operation) (a b c u output work : ℕ) : Type 0 whe
   pub text : textOutputLength ≤ output
   pub room : workLength ≤ work
 
-pub sizes-fit : (m : ℕ) (operation : Operation) (a b c u output work : ℕ) → None (sizeTests m operation a b c u output work) → Fits operation a b c u output work
-unfolding sizeTests textOutputTest
+pub sizes-fit : (m : ℕ) (operation : Operation) (a b c u output work : ℕ) → None (sizeTests m operation a b c u output work) → Fits
+    operation a b c u output work
+unfolding sizeTests lengthTest textOutputTest
 sizes-fit m operation a b c u output work n =
     let parts = none-append (shapeTests m a b c) (lentTests operation a u output work) .0 n in
     let counts = shape-counts m a b c (parts .0) in

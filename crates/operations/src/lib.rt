@@ -58,12 +58,14 @@ pub fn sizes(
     let Answer::Finished = shape else {
         return shape;
     };
-    if curve != curve_count(operation, a) {
-        return Answer::Refused(6);
-    }
-    if output < 4096 {
-        return Answer::Refused(7);
-    }
+    let entries = checks::curve_length(curve_count(operation, a), curve);
+    let Answer::Finished = entries else {
+        return entries;
+    };
+    let room = checks::text_output_length(output);
+    let Answer::Finished = room else {
+        return room;
+    };
     checks::work_length(work)
 }
 

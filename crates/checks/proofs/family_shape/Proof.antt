@@ -1,5 +1,5 @@
--- `family_shape` answers the verdict of tests 3, 4 and 5. Assumes nothing.
-use Rattle.checks.specs.Shape.{range-refuses, b-uneven, c-uneven, rows-many, shape-passes}
+-- `family_shape` answers the verdict of tests 3, 4 and 5, each taken apart before the next. Assumes nothing.
+use Rattle.checks.specs.Shape.{range-refuses, counts-refuse, rows-settle}
 use borrow.Author.Needs.{needs}
 use Rattle.checks.proofs.family_shape.Statement.{statement}
 use Rattle.checks.proofs.family_shape.Tie as tie
@@ -16,17 +16,28 @@ enum-told-2 c = search needs
 returns : tie.Need-returns
 returns c = range-refuses _ _ _ _ _ (c .before .before .modulus .ensures) _ (c .enum-told2 .given .1)
 
+equal-lengths-requires : tie.Need-equal-lengths-requires
+equal-lengths-requires c κs = search needs
+
+enum-told-3 : tie.Need-enum-told-3
+enum-told-3 c = search needs
+
+enum-told-4 : tie.Need-enum-told-4
+enum-told-4 c = search needs
+
 returns-2 : tie.Need-returns-2
-returns-2 c = b-uneven _ _ _ _ _ (c .before .before .before .modulus .ensures) (c .before .enum-told .given .1) (c .if1 .taken)
+returns-2 c = let first = c .before .before .before in
+    counts-refuse _ _ _ _ _ (first .before .before .modulus .ensures) (first .enum-told .given .1) _ (c .before .before .equal-lengths .ensures) _
+    (c .enum-told4 .given .1)
+
+row-count-requires : tie.Need-row-count-requires
+row-count-requires c κs = search needs
 
 returns-3 : tie.Need-returns-3
-returns-3 c = c-uneven _ _ _ _ _ (c .before .before .before .before .modulus .ensures) (c .before .before .enum-told .given .1) (c .if2 .taken)
-
-returns-4 : tie.Need-returns-4
-returns-4 c = rows-many _ _ _ _ _ (c .before .before .before .before .before .modulus .ensures) (c .before .before .before .enum-told .given .1) (c .before .before .if1 .left) (c .before .if2 .left) (c .if3 .taken)
-
-returns-5 : tie.Need-returns-5
-returns-5 c = shape-passes _ _ _ _ _ (c .before .before .before .before .before .modulus .ensures) (c .before .before .before .enum-told .given .1) (c .before .before .if1 .left) (c .before .if2 .left) (c .if3 .left)
+returns-3 c = let second = c .before in
+    let first = second .before .before .before in
+    rows-settle _ _ _ _ _ (first .before .before .modulus .ensures) (first .enum-told .given .1) _ (second .before .before .equal-lengths .ensures)
+    (second .enum-told3 .given .1) (c .row-count .result) (c .row-count .ensures)
 
 pub family-shape-spec : {M : Type 1} → statement M
 family-shape-spec =
@@ -36,7 +47,9 @@ family-shape-spec =
     enum-told
     enum-told-2
     returns
+    equal-lengths-requires
+    enum-told-3
+    enum-told-4
     returns-2
-    returns-3
-    returns-4
-    returns-5)
+    row-count-requires
+    returns-3)
