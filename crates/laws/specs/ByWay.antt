@@ -37,7 +37,7 @@ module _ (m : ℕ) (a b c u : List ℕ) (output work : ℕ) where
   way-input Way.Plain none = plain-passes m a b c u output .0 none
   way-input Way.Tree none = tree-passes m a b c u output work .0 none .plain
 
-  pub way-passes : (way : Way) → TreeInput (family m a b c) u output work → None (wayTests way (family m a b c) u output work)
+  way-passes : (way : Way) → TreeInput (family m a b c) u output work → None (wayTests way (family m a b c) u output work)
   way-passes Way.Plain input = plain-passes m a b c u output .1 (input .plain)
   way-passes Way.Tree input = tree-passes m a b c u output work .1 input
 
@@ -57,12 +57,12 @@ two-calls-pass first second m a b c u v one two work input curve = (
 )
 
 -- ---- the working list
-pub cleared-length : (work : List ℕ) → workLength ≤ length work → length (cleared work) ≡ length work
+cleared-length : (work : List ℕ) → workLength ≤ length work → length (cleared work) ≡ length work
 unfolding cleared
 cleared-length work h = length-append (replicate workLength 0) (drop workLength work)
     ∙ rw (length-replicate {A = ℕ} workLength 0, length-drop workLength work) (omega (arith, h))
 
-pub cleared-twice : (work : List ℕ) → cleared (cleared work) ≡ cleared work
+cleared-twice : (work : List ℕ) → cleared (cleared work) ≡ cleared work
 unfolding cleared
 cleared-twice work =
     ap (λ w. replicate workLength 0 ++ w) (drop-at (replicate workLength 0) (drop workLength work) workLength (length-replicate {A = ℕ} workLength 0))

@@ -19,9 +19,10 @@ use Rattle.theory.specs.Moments.{moments-length, norms-curve}
 use Rattle.theory.specs.ProductLaw.{product-law}
 use Rattle.theory.specs.Verdicts.{None, verdict-finished, none-append, withValues, verdict-values}
 use Rattle.totals.specs.Totals.{MomentTotalInput, NormTotalInput}
-use Rattle.laws.specs.ByWay.{way-input, way-passes, cleared-after}
+use Rattle.laws.specs.ByWay.{way-input, two-calls-pass, cleared-after}
 use Rattle.laws.specs.Chain.{list-new}
-use Rattle.laws.specs.Laws.{Lists, ProductLawInput, told, bothTotals, ProductLawHolds, wayTests, workLeft, tests₁, tests₂, tests₃, lawTests, work₁, work₂, ListsHanded, HandedOut, Weighed}
+use Rattle.laws.specs.Laws.{Lists, ProductLawInput, told, bothTotals, ProductLawHolds, wayTests, workLeft}
+use Rattle.laws.specs.Laws.{tests₁, tests₂, tests₃, lawTests, work₁, work₂, ListsHanded, HandedOut, Weighed}
 use Rattle.laws.specs.declared.Totals.{Totals}
 use Rattle.laws.specs.declared.Way.{Way}
 
@@ -52,22 +53,21 @@ module _ (first second : Way) (m : ℕ) (a b c u v : List ℕ) (lent : Lists) wh
 
   passes : ProductLawInput f u v lent → None T₄
   passes input =
-      let one : None T₁ = way-passes m a b c u (length (lent .s)) (length (lent .work)) first (record {
-        plain = record { accepted = input .accepted; curve = input .uCurve; outputLength = input .sLength };
+      let curves : None T₁ × None later₂ = two-calls-pass first second m a b c u v (lent .s) (lent .t) (lent .work) (record {
+        accepted = input .accepted;
+        curve = input .uCurve;
+        oneLength = input .sLength;
+        twoLength = input .tLength;
         workLong = input .workLong;
-      }) in
-      let two : None later₂ = way-passes m a b c v (length (lent .t)) (length (lent .work)) second (record {
-        plain = record { accepted = input .accepted; curve = input .vCurve; outputLength = input .tLength };
-        workLong = input .workLong;
-      }) in
-      let three : None later₃ = moments-passes m a b c (length (lent .moment)) (length (lent .work)) .1
+      }) (input .vCurve) in
+      let moment : None later₃ = moments-passes m a b c (length (lent .moment)) (length (lent .work)) .1
       (record { accepted = input .accepted; outputLength = input .momentLength; workLong = input .workLong }) in
-      let four : None later₄ = norms-passes m a b c (length (lent .norm)) .1
+      let norm : None later₄ = norms-passes m a b c (length (lent .norm)) .1
       (record { accepted = input .accepted; outputLength = input .normLength }) in
-      none-append T₃ later₄ .1 (none-append T₂ later₃ .1 (none-append T₁ later₂ .1 (one, two), three), four)
+      none-append T₃ later₄ .1 (none-append T₂ later₃ .1 (none-append T₁ later₂ .1 curves, moment), norm)
 
-  -- where no test holds, each list is the definition's
-  module _ (none : None T₄) (handed : Lists) (l : ListsHanded first second f u v lent handed) where
+  -- where no test of any call holds
+  module _ (none : None T₄) where
     none₃ : None T₃
     none₃ = none-append T₃ later₄ .0 none .0
 
@@ -77,31 +77,32 @@ module _ (first second : Way) (m : ℕ) (a b c u v : List ℕ) (lent : Lists) wh
     none₁ : None T₁
     none₁ = none-append T₁ later₂ .0 none₂ .0
 
-    s-new : handed .s ≡ expand f u
-    s-new = l .sIs ∙ list-new T₁ none₁ (expand f u) (lent .s)
-
-    t-new : handed .t ≡ expand f v
-    t-new = l .tIs ∙ list-new T₂ none₂ (expand f v) (lent .t)
-
-    moments-new : handed .moment ≡ moments f
-    moments-new = l .momentsAre ∙ list-new T₃ none₃ (moments f) (lent .moment)
-
-    norms-new : handed .norm ≡ norms f
-    norms-new = l .normsAre ∙ list-new T₄ none (norms f) (lent .norm)
-
-    work-new : handed .work ≡ cleared (lent .work)
-    work-new =
-        let W₁ = work₁ first second f u v lent in
-        let W₂ = work₂ first second f u v lent in
-        l .worked ∙ list-new T₃ none₃ (cleared W₂) W₂
-        ∙ ap cleared (list-new T₂ none₂ (workLeft second W₁) W₁) ∙ cleared-after second W₁
-        ∙ ap cleared (list-new T₁ none₁ (workLeft first (lent .work)) (lent .work)) ∙ cleared-after first (lent .work)
-
     u-input : PlainInput f u (length (lent .s))
     u-input = way-input m a b c u (length (lent .s)) (length (lent .work)) first none₁
 
     v-input : PlainInput f v (length (lent .t))
     v-input = way-input m a b c v (length (lent .t)) (length (lent .work)) second (none-append T₁ later₂ .0 none₂ .1)
+
+    module _ (handed : Lists) (l : ListsHanded first second f u v lent handed) where
+      s-new : handed .s ≡ expand f u
+      s-new = l .sIs ∙ list-new T₁ none₁ (expand f u) (lent .s)
+
+      t-new : handed .t ≡ expand f v
+      t-new = l .tIs ∙ list-new T₂ none₂ (expand f v) (lent .t)
+
+      moments-new : handed .moment ≡ moments f
+      moments-new = l .momentsAre ∙ list-new T₃ none₃ (moments f) (lent .moment)
+
+      norms-new : handed .norm ≡ norms f
+      norms-new = l .normsAre ∙ list-new T₄ none (norms f) (lent .norm)
+
+      work-new : handed .work ≡ cleared (lent .work)
+      work-new =
+          let W₁ = work₁ first second f u v lent in
+          let W₂ = work₂ first second f u v lent in
+          l .worked ∙ list-new T₃ none₃ (cleared W₂) W₂
+          ∙ ap cleared (list-new T₂ none₂ (workLeft second W₁) W₁) ∙ cleared-after second W₁
+          ∙ ap cleared (list-new T₁ none₁ (workLeft first (lent .work)) (lent .work)) ∙ cleared-after first (lent .work)
 
   law-holds : (r : Totals) (handed : Lists) → told r ≡ verdict T₄ (bothTotals f u v handed) → ListsHanded first second f u v lent handed
       → ProductLawInput f u v lent → ProductLawHolds f u v r lent handed
@@ -121,7 +122,7 @@ module _ (first second : Way) (m : ℕ) (a b c u v : List ℕ) (lent : Lists) wh
         law = rw (sNew, tNew, momentsNew, normsNew) (product-law f (accepted-convertible f (input .accepted)) u v);
       }
 
-  -- ---- the totals, after the calls
+  -- ---- the totals, or the refusal, after the calls
   module _ (handed : Lists) (r : Answer) (out : HandedOut first second f u v lent r handed) where
     weighed : (x : Totals) → told x ≡ verdict T₄ (bothTotals f u v handed) → Weighed first second f u v lent x handed
     weighed x e = record { answer = e; lists = out .lists; holds = law-holds x handed e (out .lists) }
@@ -132,30 +133,27 @@ module _ (first second : Way) (m : ℕ) (a b c u v : List ℕ) (lent : Lists) wh
         weighed (Totals.Refused k) (sym (verdict-values values T₄ ∙ ap (withValues values) (sym (out .answer) ∙ ap answered q)))
 
     module _ (q : r ≡ Answer.Finished) where
-      none-holds : None T₄
-      none-holds = verdict-finished T₄ [] .0 (sym (out .answer) ∙ ap answered q)
-
-      inputs : PlainInput f u (length (lent .s)) × PlainInput f v (length (lent .t))
-      inputs = (u-input none-holds handed (out .lists), v-input none-holds handed (out .lists))
+      none : None T₄
+      none = verdict-finished T₄ [] .0 (sym (out .answer) ∙ ap answered q)
 
       pub rows-few : length a ≤ 127
-      rows-few = inputs .0 .accepted .rowCount
+      rows-few = u-input none .accepted .rowCount
 
       positive : 0 < m
-      positive = let two : 2 ≤ m = inputs .0 .accepted .modulus .least in omega arith
+      positive = let two : 2 ≤ m = u-input none .accepted .modulus .least in omega arith
 
       pub moment-total-input : MomentTotalInput m (length a + 1) (handed .s) (handed .t) (handed .moment)
       moment-total-input =
-          let ls : length (handed .s) ≡ suc (length a) = ap length (s-new none-holds handed (out .lists)) ∙ expand-curve f positive u .long in
-          let lt : length (handed .t) ≡ suc (length a) = ap length (t-new none-holds handed (out .lists)) ∙ expand-curve f positive v .long in
-          let lm : length (handed .moment) ≡ 2 * suc (length a) - 1 = ap length (moments-new none-holds handed (out .lists)) ∙ moments-length f in
+          let ls : length (handed .s) ≡ suc (length a) = ap length (s-new none handed (out .lists)) ∙ expand-curve f positive u .long in
+          let lt : length (handed .t) ≡ suc (length a) = ap length (t-new none handed (out .lists)) ∙ expand-curve f positive v .long in
+          let lm : length (handed .moment) ≡ 2 * suc (length a) - 1 = ap length (moments-new none handed (out .lists)) ∙ moments-length f in
           record { positive = positive; least = omega arith; sLong = omega arith; tLong = omega arith; momentLong = omega arith }
 
       pub norm-total-input : NormTotalInput m (length a + 1) u v (handed .norm)
       norm-total-input =
-          let lu : length u ≡ suc (length a) = inputs .0 .curve .long in
-          let lv : length v ≡ suc (length a) = inputs .1 .curve .long in
-          let ld : length (handed .norm) ≡ suc (length a) = ap length (norms-new none-holds handed (out .lists)) ∙ norms-curve f positive .long in
+          let lu : length u ≡ suc (length a) = u-input none .curve .long in
+          let lv : length v ≡ suc (length a) = v-input none .curve .long in
+          let ld : length (handed .norm) ≡ suc (length a) = ap length (norms-new none handed (out .lists)) ∙ norms-curve f positive .long in
           record { positive = positive; uLong = omega arith; vLong = omega arith; normLong = omega arith }
 
       pub totals-weighed : (x y : ℕ) → x ≡ momentTotal m (length a + 1) (handed .s) (handed .t) (handed .moment)
@@ -166,4 +164,4 @@ module _ (first second : Way) (m : ℕ) (a b c u v : List ℕ) (lent : Lists) wh
           (ap₂ (λ p o. finished (p ∷ o ∷ []))
           (ex ∙ ap (λ n. momentTotal m n (handed .s) (handed .t) (handed .moment)) n-is)
           (ey ∙ ap (λ n. normTotal m n u v (handed .norm)) n-is)
-          ∙ sym (verdict-finished T₄ (bothTotals f u v handed) .1 none-holds))
+          ∙ sym (verdict-finished T₄ (bothTotals f u v handed) .1 none))
