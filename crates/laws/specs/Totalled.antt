@@ -9,8 +9,8 @@ use native.Mathlib.Omega.{arith}
 use lib.ListN.{length}
 use Rattle.definitions.specs.Answers.{answered, cleared}
 use Rattle.definitions.specs.Conversion.{expand}
-use Rattle.definitions.specs.Family.{Family, family}
-use Rattle.definitions.specs.Orthogonality.{moments, norms, momentTotal, normTotal}
+use Rattle.definitions.specs.Family.{Family, Accepted, family}
+use Rattle.definitions.specs.Orthogonality.{moments, norms, momentTotal, normTotal, ProductLaw}
 use Rattle.definitions.specs.Refusals.{Test, finished, verdict, momentsTests, normsTests}
 use Rattle.definitions.specs.declared.Answer.{Answer}
 use Rattle.theory.specs.Acceptance.{PlainInput, accepted-convertible, moments-passes, norms-passes}
@@ -104,6 +104,11 @@ module _ (first second : Way) (m : ℕ) (a b c u v : List ℕ) (lent : Lists) wh
           ∙ ap cleared (list-new T₂ none₂ (workLeft second W₁) W₁) ∙ cleared-after second W₁
           ∙ ap cleared (list-new T₁ none₁ (workLeft first (lent .work)) (lent .work)) ∙ cleared-after first (lent .work)
 
+  law-of : Accepted f → (s t moment norm : List ℕ) → s ≡ expand f u → t ≡ expand f v → moment ≡ moments f → norm ≡ norms f
+      → ProductLaw f u v s t moment norm
+  law-of accepted s t moment norm sIs tIs momentsAre normsAre =
+      rw (sIs, tIs, momentsAre, normsAre) (product-law f (accepted-convertible f accepted) u v)
+
   law-holds : (r : Totals) (handed : Lists) → told r ≡ verdict T₄ (bothTotals f u v handed) → ListsHanded first second f u v lent handed
       → ProductLawInput f u v lent → ProductLawHolds f u v r lent handed
   law-holds r handed e l input =
@@ -119,7 +124,7 @@ module _ (first second : Way) (m : ℕ) (a b c u v : List ℕ) (lent : Lists) wh
         momentsAre = momentsNew;
         normsAre = normsNew;
         wiped = work-new none handed l;
-        law = rw (sNew, tNew, momentsNew, normsNew) (product-law f (accepted-convertible f (input .accepted)) u v);
+        law = law-of (input .accepted) (handed .s) (handed .t) (handed .moment) (handed .norm) sNew tNew momentsNew normsNew;
       }
 
   -- ---- the totals, or the refusal, after the calls

@@ -36,6 +36,12 @@ module _ (convert : Family → List ℕ → List ℕ) (m : ℕ) (a b c u plain p
       let new : plain′ ≡ convert f u = plain-is ∙ list-new first (none .0) (convert f u) plain in
       record { finishes = done; plainIs = new; law = w ∙ ap (λ v. after v (convert f u) tree) done ∙ sym new }
 
+  pub ways-agree : s ≡ Answer.Finished → (r : Answer) (tree′ work′ : List ℕ) → ConvertedIn later (convert f u) r tree tree′ work work′
+      → Agreed convert f u r plain plain′ tree tree′ work work′
+  ways-agree q r tree′ work′ two =
+      let e = chain-next first later s (one .answer) q r (two .answer) in
+      record { answer = e; plainIs = plain-is; treeIs = two .written; wiped = two .wiped; holds = agree r tree′ e (two .written) }
+
   pub plain-refused : (k : ℕ) → s ≡ Answer.Refused k → Agreed convert f u s plain plain′ tree tree work work
   plain-refused k q =
       let e = chain-refused first later s (one .answer) k q in
@@ -47,9 +53,3 @@ module _ (convert : Family → List ℕ → List ℕ) (m : ℕ) (a b c u plain p
         wiped = sym (ap (λ x. after (answered x) (cleared work) work) q);
         holds = agree s tree e stays;
       }
-
-  pub ways-agree : s ≡ Answer.Finished → (r : Answer) (tree′ work′ : List ℕ) → ConvertedIn later (convert f u) r tree tree′ work work′
-      → Agreed convert f u r plain plain′ tree tree′ work work′
-  ways-agree q r tree′ work′ two =
-      let e = chain-next first later s (one .answer) q r (two .answer) in
-      record { answer = e; plainIs = plain-is; treeIs = two .written; wiped = two .wiped; holds = agree r tree′ e (two .written) }
