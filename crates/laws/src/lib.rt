@@ -1,5 +1,7 @@
-// Laws over the public calls: each function lends every list, calls the calls, and its 'ensures' says of each list at exit that it
-// is the definition's, and then the law over those lists. They are evidence and no library calls.
+// Laws over the public calls. Each function lends every list, makes the calls until one refuses, and promises two things: on every
+// input, which refusal is given and what each list then holds; on an accepted family, with curves on it and lists as long as the calls
+// ask, that every call finishes and the law holds of the very lists handed out. The promises stand in specs/Laws.antt.
+// They are evidence and no library calls: public is what the program `weighing` runs.
 ghost use Rattle.definitions.specs.Conversion.{expand, adjoint, decompose};
 ghost use Rattle.definitions.specs.Family.{family};
 ghost use Rattle.laws.specs.Laws.{lists, Made, Returned, Agreed, HandedOut, Weighed};
@@ -201,8 +203,8 @@ fn hand_out(
     conversion::norms(m, a, b, c, norm)
 }
 
-// The product law: the uncut product of what Expand hands out for u and for v, weighed with the moments, and the products of the
-// entries of u and v, weighed with the norms. Both totals are handed out, and are equal.
+// The product law, demand 3: the uncut product of what Expand hands out for u and for v, weighed with the moments, and the products of
+// the entries of u and v, weighed with the norms. Both totals are answered, and are equal; each norm has an inverse.
 pub fn product_law(
     first: Way,
     second: Way,
