@@ -31,7 +31,7 @@ module _ (convert : Family → List ℕ → List ℕ) (f : Family) (u : List ℕ
       → Made convert Way.Tree f u r output output′ work work′
   by-tree work′ made = record { answer = made .answer; written = made .written; worked = made .wiped }
 
--- ---- the tests of a way
+-- ---- the tests of a way; what is accepted is stated of a family's modulus and lists (theory, Acceptance)
 module _ (m : ℕ) (a b c u : List ℕ) (output work : ℕ) where
   pub way-input : (way : Way) → None (wayTests way (family m a b c) u output work) → PlainInput (family m a b c) u output
   way-input Way.Plain none = plain-passes m a b c u output .0 none

@@ -4,7 +4,7 @@ use mathlib.Core.Path.{_≡_, sym, _∙_, ap}
 use mathlib.Core.List.{List, [], _++_}
 use Prim.Native.Nat.{ℕ}
 use Rattle.definitions.specs.Answers.{answered, after}
-use Rattle.definitions.specs.Refusals.{Test, finished, verdict}
+use Rattle.definitions.specs.Refusals.{Test, verdict}
 use Rattle.definitions.specs.declared.Answer.{Answer}
 use Rattle.theory.specs.Verdicts.{None, verdict-finished, verdict-stops, verdict-goes-on}
 

@@ -61,8 +61,8 @@ module _ {there back : Family → List ℕ → List ℕ} (undoes : Undoes there 
   round-trip : (r : Answer) (two′ : List ℕ) → answered r ≡ verdict (T₁ ++ later) [] → two′ ≡ after (answered r) (back f one′) two
       → TwoCallsInput f u one two work → RoundTripHolds there f u r one′ two′
   round-trip r two′ e w input =
-      let none : None T₁ × None later =
-      two-calls-pass first second m a b c u (there f u) one two work input (undoes .curve f (input .accepted) u) in
+      let there-curve = undoes .curve f (input .accepted) u in
+      let none : None T₁ × None later = two-calls-pass first second m a b c u (there f u) one two work input there-curve in
       let done : answered r ≡ finished [] = e ∙ verdict-finished (T₁ ++ later) [] .1 (none-append T₁ later .1 none) in
       let new : one′ ≡ there f u = first-is ∙ list-new T₁ (none .0) (there f u) one in
       record {
