@@ -1,9 +1,6 @@
 -- The round trips over the lists that the calls hand out, by either way each.
---   Undoes there back   on curves of accepted families, back f (there f u) is u
---   returnTests         the tests of the first call, and those of the second on what the first hands out
---   Returned            what holds of two calls, one on what the other handed out: which refusal is given and what each list then holds;
---                       where both finish, that the second list is the one that the first call was lent
--- Proved: Expand and Decompose undo one another; two calls, each with its own promise, come to Returned where they do.
+--   Undoes there back   on an accepted family, `there` hands out a curve, and `back` makes of it the curve that it came from
+-- Proved: Expand and Decompose undo one another; two calls, each with its own promise, come to Returned, whichever refuses.
 -- Assumes nothing.
 use mathlib.Core.Path.{_≡_, sym, _∙_, ap}
 use mathlib.Core.List.{List, [], _++_}
@@ -15,47 +12,45 @@ use Rattle.definitions.specs.Conversion.{expand, decompose}
 use Rattle.definitions.specs.Family.{Family, Accepted, Curve, family}
 use Rattle.definitions.specs.Refusals.{Test, finished, verdict}
 use Rattle.definitions.specs.declared.Answer.{Answer}
-use Rattle.theory.specs.Acceptance.{PlainInput, accepted-convertible}
-use Rattle.theory.specs.RoundTrip.{Decomposable, convertible-decomposable, expand-decompose, decompose-expand}
-use Rattle.theory.specs.Verdicts.{refused-not-finished}
-use Rattle.laws.specs.ByWay.{wayTests, workLeft, Made, work-length, way-input}
-use Rattle.laws.specs.Chain.{chain-refused, chain-passed, chain-next}
+use Rattle.theory.specs.Acceptance.{accepted-convertible}
+use Rattle.theory.specs.Bridge.{expand-curve}
+use Rattle.theory.specs.RoundTrip.{Decomposable, convertible-decomposable, decompose-curve, expand-decompose, decompose-expand}
+use Rattle.theory.specs.Verdicts.{None, verdict-finished, none-append}
+use Rattle.laws.specs.ByWay.{two-calls-pass, work-length}
+use Rattle.laws.specs.Chain.{chain-refused, chain-next, list-new}
+use Rattle.laws.specs.Laws.{TwoCallsInput, RoundTripHolds, wayTests, workLeft, Made, thereTests, backTests, Returned}
 use Rattle.laws.specs.declared.Way.{Way}
 
 -- ---- what undoes what
-abbrev pub Undoes : (there back : Family → List ℕ → List ℕ) → Type 0
-Undoes there back = (f : Family) (u : List ℕ) → Accepted f → Curve f u → back f (there f u) ≡ u
+pub record Undoes (there back : Family → List ℕ → List ℕ) : Type 0 where
+  pub curve : (f : Family) → Accepted f → (u : List ℕ) → Curve f (there f u)
+  pub undone : (f : Family) → Accepted f → (u : List ℕ) → Curve f u → back f (there f u) ≡ u
+
+positive : (f : Family) → Accepted f → 0 < f .m
+positive f acc = let two : 2 ≤ f .m = acc .modulus .least in omega arith
 
 decomposable : (f : Family) → Accepted f → Decomposable f
 decomposable f acc = convertible-decomposable f (accepted-convertible f acc)
 
 pub decompose-undoes-expand : Undoes expand decompose
-decompose-undoes-expand f u acc curve = decompose-expand f (decomposable f acc) u curve
+decompose-undoes-expand =
+    record { curve = λ f acc. expand-curve f (positive f acc); undone = λ f acc. decompose-expand f (decomposable f acc) }
 
 pub expand-undoes-decompose : Undoes decompose expand
-expand-undoes-decompose f p acc curve = expand-decompose f (decomposable f acc) p curve
+expand-undoes-decompose =
+    record { curve = λ f acc. decompose-curve f (positive f acc); undone = λ f acc. expand-decompose f (decomposable f acc) }
 
 -- ---- two calls
-abbrev pub returnTests : (Family → List ℕ → List ℕ) → Way → Way → Family → List ℕ → ℕ → ℕ → ℕ → List Test
-returnTests there first second f u one two work = wayTests first f u one work ++ wayTests second f (there f u) two work
-
-pub record Returned (there back : Family → List ℕ → List ℕ) (first second : Way) (f : Family) (u : List ℕ) (r : Answer) (one one′ two two′ work work′ : List ℕ) : Type 0 where
-  pub answer : answered r ≡ verdict (returnTests there first second f u (length one) (length two) (length work)) []
-  pub firstIs : one′ ≡ after (verdict (wayTests first f u (length one) (length work)) []) (there f u) one
-  pub secondIs : two′ ≡ after (answered r) (back f one′) two
-  pub worked : work′ ≡ after (answered r) (workLeft second (workLeft first work)) (after (verdict (wayTests first f u (length one) (length work)) []) (workLeft first work) work)
-  pub law : answered r ≡ finished [] → two′ ≡ u
-
-module _ (there back : Family → List ℕ → List ℕ) (first second : Way) (m : ℕ) (a b c u one one′ two work w₁ : List ℕ) (s : Answer)
-    (made₁ : Made there first (family m a b c) u s one one′ work w₁) where
+module _ {there back : Family → List ℕ → List ℕ} (undoes : Undoes there back) (first second : Way) (m : ℕ)
+    (a b c u one one′ two work w₁ : List ℕ) (s : Answer) (made₁ : Made there first (family m a b c) u s one one′ work w₁) where
   abbrev f : Family
   f = family m a b c
 
   abbrev T₁ : List Test
-  T₁ = wayTests first f u (length one) (length work)
+  T₁ = thereTests there back first second f u one work
 
   abbrev later : List Test
-  later = wayTests second f (there f u) (length two) (length work)
+  later = backTests there back first second f u two work
 
   first-is : one′ ≡ after (verdict T₁ []) (there f u) one
   first-is = made₁ .written ∙ ap (λ v. after v (there f u) one) (made₁ .answer)
@@ -63,19 +58,33 @@ module _ (there back : Family → List ℕ → List ℕ) (first second : Way) (m
   first-worked : w₁ ≡ after (verdict T₁ []) (workLeft first work) work
   first-worked = made₁ .worked ∙ ap (λ v. after v (workLeft first work) work) (made₁ .answer)
 
+  round-trip : (r : Answer) (two′ : List ℕ) → answered r ≡ verdict (T₁ ++ later) [] → two′ ≡ after (answered r) (back f one′) two
+      → TwoCallsInput f u one two work → RoundTripHolds there f u r one′ two′
+  round-trip r two′ e w input =
+      let there-curve = undoes .curve f (input .accepted) u in
+      let none : None T₁ × None later = two-calls-pass first second m a b c u (there f u) one two work input there-curve in
+      let done : answered r ≡ finished [] = e ∙ verdict-finished (T₁ ++ later) [] .1 (none-append T₁ later .1 none) in
+      let new : one′ ≡ there f u = first-is ∙ list-new T₁ (none .0) (there f u) one in
+      record {
+        finishes = done;
+        firstIs = new;
+        law = w ∙ ap (λ v. after v (back f one′) two) done ∙ ap (back f) new ∙ undoes .undone f (input .accepted) u (input .curve);
+      }
+
   pub first-refused : (k : ℕ) → s ≡ Answer.Refused k → Returned there back first second f u s one one′ two two work w₁
-  first-refused k q = record {
-    answer = chain-refused T₁ later s (made₁ .answer) k q;
-    firstIs = first-is;
-    secondIs = sym (ap (λ x. after (answered x) (back f one′) two) q);
-    worked = first-worked ∙ sym (ap (λ x. after (answered x) (workLeft second (workLeft first work)) (after (verdict T₁ []) (workLeft first work) work)) q);
-    law = λ e. absurd (refused-not-finished k [] (sym (ap answered q) ∙ e));
-  }
+  first-refused k q =
+      let e = chain-refused T₁ later s (made₁ .answer) k q in
+      let stays = sym (ap (λ x. after (answered x) (back f one′) two) q) in
+      record {
+        answer = e;
+        firstIs = first-is;
+        secondIs = stays;
+        worked = first-worked ∙ sym (ap
+            (λ x. after (answered x) (workLeft second (workLeft first work)) (after (verdict T₁ []) (workLeft first work) work)) q);
+        holds = round-trip s two e stays;
+      }
 
-  module _ (undoes : Undoes there back) (q : s ≡ Answer.Finished) (r : Answer) (two′ w₂ : List ℕ) (made₂ : Made back second f one′ r two two′ w₁ w₂) where
-    input : PlainInput f u (length one)
-    input = way-input first m a b c u (length one) (length work) (chain-passed T₁ later s (made₁ .answer) q)
-
+  module _ (q : s ≡ Answer.Finished) (r : Answer) (two′ w₂ : List ℕ) (made₂ : Made back second f one′ r two two′ w₁ w₂) where
     handed : one′ ≡ there f u
     handed = made₁ .written ∙ ap (λ x. after (answered x) (there f u) one) q
 
@@ -83,16 +92,20 @@ module _ (there back : Family → List ℕ → List ℕ) (first second : Way) (m
     left = made₁ .worked ∙ ap (λ x. after (answered x) (workLeft first work) work) q
 
     length-left : length w₁ ≡ length work
-    length-left = ap length left ∙ work-length first m a b c u s (length one) work (made₁ .answer) q
+    length-left = ap length left ∙ work-length first f u s (length one) work (made₁ .answer) q
 
     tests-are : wayTests second f one′ (length two) (length w₁) ≡ later
-    tests-are = ap (λ v. wayTests second f v (length two) (length w₁)) handed ∙ ap (λ k. wayTests second f (there f u) (length two) k) length-left
+    tests-are = ap (λ v. wayTests second f v (length two) (length w₁)) handed
+        ∙ ap (λ k. wayTests second f (there f u) (length two) k) length-left
 
     pub both-made : Returned there back first second f u r one one′ two two′ work w₂
-    both-made = record {
-      answer = chain-next T₁ later s (made₁ .answer) q r (made₂ .answer ∙ ap (λ ts. verdict ts []) tests-are);
-      firstIs = first-is;
-      secondIs = made₂ .written;
-      worked = made₂ .worked ∙ ap (λ w. after (answered r) (workLeft second w) w₁) left ∙ ap (λ w. after (answered r) (workLeft second (workLeft first work)) w) first-worked;
-      law = λ e. made₂ .written ∙ ap (λ v. after v (back f one′) two) e ∙ ap (back f) handed ∙ undoes f u (input .accepted) (input .curve);
-    }
+    both-made =
+        let e = chain-next T₁ later s (made₁ .answer) q r (made₂ .answer ∙ ap (λ ts. verdict ts []) tests-are) in
+        record {
+          answer = e;
+          firstIs = first-is;
+          secondIs = made₂ .written;
+          worked = made₂ .worked ∙ ap (λ w. after (answered r) (workLeft second w) w₁) left
+              ∙ ap (λ w. after (answered r) (workLeft second (workLeft first work)) w) first-worked;
+          holds = round-trip r two′ e (made₂ .written);
+        }

@@ -1,107 +1,172 @@
 -- The totals of the product law, taken of the lists that the calls handed out.
--- Proved: where every call finished, the lists are as long as the totals ask; the totals, or the refusal, come to Weighed.
--- Assumes nothing.
+-- Proved: on any two curves of an accepted family, with lists as long as their calls ask, the calls finish and the product law holds of the
+-- lists as they then are; where every call finished, the lists are as long as the totals ask; the totals, or the refusal, come to
+-- Weighed. Assumes nothing.
 use mathlib.Core.Path.{_≡_, sym, _∙_, ap, ap₂}
-use mathlib.Core.List.{List, [], _∷_, _++_, append-nil}
+use mathlib.Core.List.{List, [], _∷_}
 use Prim.Native.Nat.{ℕ, suc, _+_, _*_, _-_, _<_, _≤_}
 use native.Mathlib.Omega.{arith}
 use lib.ListN.{length}
-use Rattle.definitions.specs.Answers.{answered, after}
+use Rattle.definitions.specs.Answers.{answered, cleared}
 use Rattle.definitions.specs.Conversion.{expand}
-use Rattle.definitions.specs.Family.{Family, family, size}
-use Rattle.definitions.specs.Orthogonality.{moments, norms, momentTotal, normTotal}
+use Rattle.definitions.specs.Family.{Family, Accepted, family}
+use Rattle.definitions.specs.Orthogonality.{moments, norms, momentTotal, normTotal, ProductLaw}
 use Rattle.definitions.specs.Refusals.{Test, finished, verdict, momentsTests, normsTests}
 use Rattle.definitions.specs.declared.Answer.{Answer}
-use Rattle.theory.specs.Acceptance.{PlainInput}
+use Rattle.theory.specs.Acceptance.{PlainInput, accepted-convertible, moments-passes, norms-passes}
 use Rattle.theory.specs.Bridge.{expand-curve}
-use Rattle.theory.specs.Lists.{table-length}
-use Rattle.theory.specs.Moments.{moments-length}
-use Rattle.theory.specs.Verdicts.{None, verdict-finished, verdict-stops, none-append}
+use Rattle.theory.specs.Moments.{moments-length, norms-curve}
+use Rattle.theory.specs.ProductLaw.{product-law}
+use Rattle.theory.specs.Verdicts.{None, verdict-finished, none-append, withValues, verdict-values}
 use Rattle.totals.specs.Totals.{MomentTotalInput, NormTotalInput}
-use Rattle.laws.specs.ByWay.{wayTests, way-input}
-use Rattle.laws.specs.HandedOut.{Lent, tests₁, tests₂, tests₃, lawTests, HandedOut, Weighed}
+use Rattle.laws.specs.ByWay.{way-input, two-calls-pass, cleared-after}
+use Rattle.laws.specs.Chain.{list-new}
+use Rattle.laws.specs.Laws.{Lists, ProductLawInput, told, bothTotals, ProductLawHolds, wayTests, workLeft}
+use Rattle.laws.specs.Laws.{tests₁, tests₂, tests₃, lawTests, work₁, work₂, ListsHanded, HandedOut, Weighed}
 use Rattle.laws.specs.declared.Totals.{Totals}
 use Rattle.laws.specs.declared.Way.{Way}
 
-module _ (first second : Way) (m : ℕ) (a b c : List ℕ) (l : Lent) (s′ t′ moment′ norm′ work′ : List ℕ) (r : Answer)
-    (handed : (answered r ≡ verdict (lawTests first second (family m a b c) l) []) × HandedOut first second (family m a b c) l s′ t′ moment′ norm′ work′) where
+module _ (first second : Way) (m : ℕ) (a b c u v : List ℕ) (lent : Lists) where
   abbrev f : Family
   f = family m a b c
 
   abbrev T₁ : List Test
-  T₁ = tests₁ first second f l
+  T₁ = tests₁ first second f u v lent
 
   abbrev T₂ : List Test
-  T₂ = tests₂ first second f l
+  T₂ = tests₂ first second f u v lent
 
   abbrev T₃ : List Test
-  T₃ = tests₃ first second f l
+  T₃ = tests₃ first second f u v lent
 
   abbrev T₄ : List Test
-  T₄ = lawTests first second f l
+  T₄ = lawTests first second f u v lent
 
-  abbrev values : List ℕ
-  values = momentTotal m (size f) s′ t′ moment′ ∷ normTotal m (size f) (l .u) (l .v) norm′ ∷ []
+  abbrev later₂ : List Test
+  later₂ = wayTests second f v (length (lent .t)) (length (lent .work))
 
-  pub refused-weighed : (k : ℕ) → r ≡ Answer.Refused k → Weighed first second f l (Totals.Refused k) s′ t′ moment′ norm′ work′
-  refused-weighed k q = record {
-    answer = sym (ap (λ ts. verdict ts values) (sym (append-nil T₄)) ∙ verdict-stops [] values T₄ [] k (sym (handed .0) ∙ ap answered q));
-    lists = handed .1;
-  }
+  abbrev later₃ : List Test
+  later₃ = momentsTests f (length (lent .moment)) (length (lent .work))
 
-  module _ (q : r ≡ Answer.Finished) where
-    none₄ : None T₄
-    none₄ = verdict-finished T₄ [] .0 (sym (handed .0) ∙ ap answered q)
+  abbrev later₄ : List Test
+  later₄ = normsTests f (length (lent .norm))
 
+  passes : ProductLawInput f u v lent → None T₄
+  passes input =
+      let curves : None T₁ × None later₂ = two-calls-pass first second m a b c u v (lent .s) (lent .t) (lent .work) (record {
+        accepted = input .accepted;
+        curve = input .uCurve;
+        oneLength = input .sLength;
+        twoLength = input .tLength;
+        workLong = input .workLong;
+      }) (input .vCurve) in
+      let moment : None later₃ = moments-passes m a b c (length (lent .moment)) (length (lent .work)) .1
+      (record { accepted = input .accepted; outputLength = input .momentLength; workLong = input .workLong }) in
+      let norm : None later₄ = norms-passes m a b c (length (lent .norm)) .1
+      (record { accepted = input .accepted; outputLength = input .normLength }) in
+      none-append T₃ later₄ .1 (none-append T₂ later₃ .1 (none-append T₁ later₂ .1 curves, moment), norm)
+
+  -- where no test of any call holds
+  module _ (none : None T₄) where
     none₃ : None T₃
-    none₃ = none-append T₃ (normsTests f (length (l .norm))) .0 none₄ .0
+    none₃ = none-append T₃ later₄ .0 none .0
 
     none₂ : None T₂
-    none₂ = none-append T₂ (momentsTests f (length (l .moment)) (length (l .work))) .0 none₃ .0
+    none₂ = none-append T₂ later₃ .0 none₃ .0
 
     none₁ : None T₁
-    none₁ = none-append T₁ (wayTests second f (l .v) (length (l .t)) (length (l .work))) .0 none₂ .0
+    none₁ = none-append T₁ later₂ .0 none₂ .0
 
-    settled : (ts : List Test) → None ts → (new old : List ℕ) → after (verdict ts []) new old ≡ new
-    settled ts none new old = ap (λ v. after v new old) (verdict-finished ts [] .1 none)
+    u-input : PlainInput f u (length (lent .s))
+    u-input = way-input m a b c u (length (lent .s)) (length (lent .work)) first none₁
 
-    input₁ : PlainInput f (l .u) (length (l .s))
-    input₁ = way-input first m a b c (l .u) (length (l .s)) (length (l .work)) none₁
+    v-input : PlainInput f v (length (lent .t))
+    v-input = way-input m a b c v (length (lent .t)) (length (lent .work)) second (none-append T₁ later₂ .0 none₂ .1)
 
-    input₂ : PlainInput f (l .v) (length (l .t))
-    input₂ = way-input second m a b c (l .v) (length (l .t)) (length (l .work))
-        (none-append T₁ (wayTests second f (l .v) (length (l .t)) (length (l .work))) .0 none₂ .1)
+    module _ (handed : Lists) (l : ListsHanded first second f u v lent handed) where
+      s-new : handed .s ≡ expand f u
+      s-new = l .sIs ∙ list-new T₁ none₁ (expand f u) (lent .s)
 
-    pub rows-few : length a ≤ 127
-    rows-few = input₁ .accepted .rowCount
+      t-new : handed .t ≡ expand f v
+      t-new = l .tIs ∙ list-new T₂ none₂ (expand f v) (lent .t)
 
-    positive : 0 < m
-    positive = let two : 2 ≤ m = input₁ .accepted .modulus .least in omega arith
+      moments-new : handed .moment ≡ moments f
+      moments-new = l .momentsAre ∙ list-new T₃ none₃ (moments f) (lent .moment)
 
-    pub moment-total-input : MomentTotalInput m (length a + 1) s′ t′ moment′
-    moment-total-input =
-        let ls : length s′ ≡ suc (length a) = ap length (handed .1 .firstIs ∙ settled T₁ none₁ (expand f (l .u)) (l .s)) ∙ expand-curve f positive (l .u) .long in
-        let lt : length t′ ≡ suc (length a) = ap length (handed .1 .secondIs ∙ settled T₂ none₂ (expand f (l .v)) (l .t)) ∙ expand-curve f positive (l .v) .long in
-        let lm : length moment′ ≡ 2 * suc (length a) - 1 = ap length (handed .1 .momentsAre ∙ settled T₃ none₃ (moments f) (l .moment)) ∙ moments-length f in
-        record { positive = positive; least = omega arith; sLong = omega arith; tLong = omega arith; momentLong = omega arith }
+      norms-new : handed .norm ≡ norms f
+      norms-new = l .normsAre ∙ list-new T₄ none (norms f) (lent .norm)
 
-    norms-length : length norm′ ≡ suc (length a)
-    unfolding norms
-    norms-length = ap length (handed .1 .normsAre ∙ settled T₄ none₄ (norms f) (l .norm)) ∙ table-length _ _
+      work-new : handed .work ≡ cleared (lent .work)
+      work-new =
+          let W₁ = work₁ first second f u v lent in
+          let W₂ = work₂ first second f u v lent in
+          l .worked ∙ list-new T₃ none₃ (cleared W₂) W₂
+          ∙ ap cleared (list-new T₂ none₂ (workLeft second W₁) W₁) ∙ cleared-after second W₁
+          ∙ ap cleared (list-new T₁ none₁ (workLeft first (lent .work)) (lent .work)) ∙ cleared-after first (lent .work)
 
-    pub norm-total-input : NormTotalInput m (length a + 1) (l .u) (l .v) norm′
-    norm-total-input =
-        let lu : length (l .u) ≡ suc (length a) = input₁ .curve .long in
-        let lv : length (l .v) ≡ suc (length a) = input₂ .curve .long in
-        let ld : length norm′ ≡ suc (length a) = norms-length in
-        record { positive = positive; uLong = omega arith; vLong = omega arith; normLong = omega arith }
+  law-of : Accepted f → (s t moment norm : List ℕ) → s ≡ expand f u → t ≡ expand f v → moment ≡ moments f → norm ≡ norms f
+      → ProductLaw f u v s t moment norm
+  law-of accepted s t moment norm sIs tIs momentsAre normsAre =
+      rw (sIs, tIs, momentsAre, normsAre) (product-law f (accepted-convertible f accepted) u v)
 
-    pub totals-weighed : (x y : ℕ) → x ≡ momentTotal m (length a + 1) s′ t′ moment′ → y ≡ normTotal m (length a + 1) (l .u) (l .v) norm′
-        → Weighed first second f l (Totals.Weighed x y) s′ t′ moment′ norm′ work′
-    totals-weighed x y ex ey =
-        let n-is : length a + 1 ≡ suc (length a) = omega arith in
-        record {
-          answer = ap₂ (λ p o. finished (p ∷ o ∷ [])) (ex ∙ ap (λ n. momentTotal m n s′ t′ moment′) n-is) (ey ∙ ap (λ n. normTotal m n (l .u) (l .v) norm′) n-is)
-              ∙ sym (verdict-finished T₄ values .1 none₄);
-          lists = handed .1;
-        }
+  law-holds : (r : Totals) (handed : Lists) → told r ≡ verdict T₄ (bothTotals f u v handed) → ListsHanded first second f u v lent handed
+      → ProductLawInput f u v lent → ProductLawHolds f u v r lent handed
+  law-holds r handed e l input =
+      let none : None T₄ = passes input in
+      let sNew = s-new none handed l in
+      let tNew = t-new none handed l in
+      let momentsNew = moments-new none handed l in
+      let normsNew = norms-new none handed l in
+      record {
+        finishes = e ∙ verdict-finished T₄ (bothTotals f u v handed) .1 none;
+        sIs = sNew;
+        tIs = tNew;
+        momentsAre = momentsNew;
+        normsAre = normsNew;
+        wiped = work-new none handed l;
+        law = law-of (input .accepted) (handed .s) (handed .t) (handed .moment) (handed .norm) sNew tNew momentsNew normsNew;
+      }
+
+  -- ---- the totals, or the refusal, after the calls
+  module _ (handed : Lists) (r : Answer) (out : HandedOut first second f u v lent r handed) where
+    weighed : (x : Totals) → told x ≡ verdict T₄ (bothTotals f u v handed) → Weighed first second f u v lent x handed
+    weighed x e = record { answer = e; lists = out .lists; holds = law-holds x handed e (out .lists) }
+
+    pub refused-weighed : (k : ℕ) → r ≡ Answer.Refused k → Weighed first second f u v lent (Totals.Refused k) handed
+    refused-weighed k q =
+        let values = bothTotals f u v handed in
+        weighed (Totals.Refused k) (sym (verdict-values values T₄ ∙ ap (withValues values) (sym (out .answer) ∙ ap answered q)))
+
+    module _ (q : r ≡ Answer.Finished) where
+      none : None T₄
+      none = verdict-finished T₄ [] .0 (sym (out .answer) ∙ ap answered q)
+
+      pub rows-few : length a ≤ 127
+      rows-few = u-input none .accepted .rowCount
+
+      positive : 0 < m
+      positive = let two : 2 ≤ m = u-input none .accepted .modulus .least in omega arith
+
+      pub moment-total-input : MomentTotalInput m (length a + 1) (handed .s) (handed .t) (handed .moment)
+      moment-total-input =
+          let ls : length (handed .s) ≡ suc (length a) = ap length (s-new none handed (out .lists)) ∙ expand-curve f positive u .long in
+          let lt : length (handed .t) ≡ suc (length a) = ap length (t-new none handed (out .lists)) ∙ expand-curve f positive v .long in
+          let lm : length (handed .moment) ≡ 2 * suc (length a) - 1 = ap length (moments-new none handed (out .lists)) ∙ moments-length f in
+          record { positive = positive; least = omega arith; sLong = omega arith; tLong = omega arith; momentLong = omega arith }
+
+      pub norm-total-input : NormTotalInput m (length a + 1) u v (handed .norm)
+      norm-total-input =
+          let lu : length u ≡ suc (length a) = u-input none .curve .long in
+          let lv : length v ≡ suc (length a) = v-input none .curve .long in
+          let ld : length (handed .norm) ≡ suc (length a) = ap length (norms-new none handed (out .lists)) ∙ norms-curve f positive .long in
+          record { positive = positive; uLong = omega arith; vLong = omega arith; normLong = omega arith }
+
+      pub totals-weighed : (x y : ℕ) → x ≡ momentTotal m (length a + 1) (handed .s) (handed .t) (handed .moment)
+          → y ≡ normTotal m (length a + 1) u v (handed .norm) → Weighed first second f u v lent (Totals.Weighed x y) handed
+      totals-weighed x y ex ey =
+          let n-is : length a + 1 ≡ suc (length a) = omega arith in
+          weighed (Totals.Weighed x y)
+          (ap₂ (λ p o. finished (p ∷ o ∷ []))
+          (ex ∙ ap (λ n. momentTotal m n (handed .s) (handed .t) (handed .moment)) n-is)
+          (ey ∙ ap (λ n. normTotal m n u v (handed .norm)) n-is)
+          ∙ sym (verdict-finished T₄ (bothTotals f u v handed) .1 none))

@@ -1,8 +1,5 @@
 -- The two ways of a conversion over the lists that the calls hand out.
---   Agreed convert f u r plain plain′ tree tree′ work work′
---               what holds of a call by the plain way and then one by the tree way on the same curve: which refusal is given and
---               what each list then holds; where both finish, that the two lists are the same
--- Proved: two calls, each with its own promise, come to Agreed. Assumes nothing.
+-- Proved: two calls, each with its own promise, come to Agreed, whichever refuses. Assumes nothing.
 use mathlib.Core.Path.{_≡_, sym, _∙_, ap}
 use mathlib.Core.List.{List, [], _++_}
 use Prim.Native.Nat.{ℕ}
@@ -11,39 +8,48 @@ use Rattle.definitions.specs.Answers.{answered, after, cleared, Converted, Conv
 use Rattle.definitions.specs.Family.{Family, family}
 use Rattle.definitions.specs.Refusals.{Test, finished, verdict, plainTests, treeTests}
 use Rattle.definitions.specs.declared.Answer.{Answer}
-use Rattle.theory.specs.Verdicts.{refused-not-finished}
-use Rattle.laws.specs.Chain.{chain-refused, chain-next}
+use Rattle.theory.specs.Verdicts.{None, verdict-finished, none-append}
+use Rattle.laws.specs.ByWay.{two-calls-pass}
+use Rattle.laws.specs.Chain.{chain-refused, chain-next, list-new}
+use Rattle.laws.specs.Laws.{TwoCallsInput, WaysAgree, Agreed}
+use Rattle.laws.specs.declared.Way.{Way}
 
-pub record Agreed (convert : Family → List ℕ → List ℕ) (f : Family) (u : List ℕ) (r : Answer) (plain plain′ tree tree′ work work′ : List ℕ) : Type 0 where
-  pub answer : answered r ≡ verdict (plainTests f u (length plain) ++ treeTests f u (length tree) (length work)) []
-  pub plainIs : plain′ ≡ after (verdict (plainTests f u (length plain)) []) (convert f u) plain
-  pub treeIs : tree′ ≡ after (answered r) (convert f u) tree
-  pub wiped : work′ ≡ after (answered r) (cleared work) work
-  pub law : answered r ≡ finished [] → tree′ ≡ plain′
+module _ (convert : Family → List ℕ → List ℕ) (m : ℕ) (a b c u plain plain′ tree work : List ℕ) (s : Answer)
+    (one : Converted (plainTests (family m a b c) u (length plain)) (convert (family m a b c) u) s plain plain′) where
+  abbrev f : Family
+  f = family m a b c
 
-module _ (convert : Family → List ℕ → List ℕ) (f : Family) (u plain plain′ tree work : List ℕ) (s : Answer)
-    (one : Converted (plainTests f u (length plain)) (convert f u) s plain plain′) where
+  abbrev first : List Test
+  first = plainTests f u (length plain)
+
   abbrev later : List Test
   later = treeTests f u (length tree) (length work)
 
-  plain-is : plain′ ≡ after (verdict (plainTests f u (length plain)) []) (convert f u) plain
+  plain-is : plain′ ≡ after (verdict first []) (convert f u) plain
   plain-is = one .written ∙ ap (λ v. after v (convert f u) plain) (one .answer)
 
-  pub plain-refused : (k : ℕ) → s ≡ Answer.Refused k → Agreed convert f u s plain plain′ tree tree work work
-  plain-refused k q = record {
-    answer = chain-refused (plainTests f u (length plain)) later s (one .answer) k q;
-    plainIs = plain-is;
-    treeIs = sym (ap (λ x. after (answered x) (convert f u) tree) q);
-    wiped = sym (ap (λ x. after (answered x) (cleared work) work) q);
-    law = λ e. absurd (refused-not-finished k [] (sym (ap answered q) ∙ e));
-  }
+  agree : (r : Answer) (tree′ : List ℕ) → answered r ≡ verdict (first ++ later) [] → tree′ ≡ after (answered r) (convert f u) tree
+      → TwoCallsInput f u plain tree work → WaysAgree convert f u r plain′ tree′
+  agree r tree′ e w input =
+      let none : None first × None later = two-calls-pass Way.Plain Way.Tree m a b c u u plain tree work input (input .curve) in
+      let done : answered r ≡ finished [] = e ∙ verdict-finished (first ++ later) [] .1 (none-append first later .1 none) in
+      let new : plain′ ≡ convert f u = plain-is ∙ list-new first (none .0) (convert f u) plain in
+      record { finishes = done; plainIs = new; law = w ∙ ap (λ v. after v (convert f u) tree) done ∙ sym new }
 
   pub ways-agree : s ≡ Answer.Finished → (r : Answer) (tree′ work′ : List ℕ) → ConvertedIn later (convert f u) r tree tree′ work work′
       → Agreed convert f u r plain plain′ tree tree′ work work′
-  ways-agree q r tree′ work′ two = record {
-    answer = chain-next (plainTests f u (length plain)) later s (one .answer) q r (two .answer);
-    plainIs = plain-is;
-    treeIs = two .written;
-    wiped = two .wiped;
-    law = λ e. two .written ∙ ap (λ v. after v (convert f u) tree) e ∙ sym (one .written ∙ ap (λ x. after (answered x) (convert f u) plain) q);
-  }
+  ways-agree q r tree′ work′ two =
+      let e = chain-next first later s (one .answer) q r (two .answer) in
+      record { answer = e; plainIs = plain-is; treeIs = two .written; wiped = two .wiped; holds = agree r tree′ e (two .written) }
+
+  pub plain-refused : (k : ℕ) → s ≡ Answer.Refused k → Agreed convert f u s plain plain′ tree tree work work
+  plain-refused k q =
+      let e = chain-refused first later s (one .answer) k q in
+      let stays = sym (ap (λ x. after (answered x) (convert f u) tree) q) in
+      record {
+        answer = e;
+        plainIs = plain-is;
+        treeIs = stays;
+        wiped = sym (ap (λ x. after (answered x) (cleared work) work) q);
+        holds = agree s tree e stays;
+      }

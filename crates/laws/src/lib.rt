@@ -1,15 +1,10 @@
-// Laws over the public calls: each function lends every list, calls the calls, and its 'ensures' says of each list at exit that it
-// is the definition's, and then the law over those lists. They are evidence and no library calls.
-ghost use mathlib.Core.Path.{_≡_};
-ghost use mathlib.Core.List.{[]};
-ghost use Rattle.definitions.specs.Answers.{answered};
+// Laws over the public calls. Each function lends every list, makes the calls until one refuses, and promises two things: on every
+// input, which refusal is given and what each list then holds; on an accepted family, with curves on it and lists as long as the calls
+// ask, that every call finishes and the law holds of the very lists handed out. The promises stand in specs/Laws.antt.
+// They are evidence and no library calls: public is what the program `weighing` runs.
 ghost use Rattle.definitions.specs.Conversion.{expand, adjoint, decompose};
 ghost use Rattle.definitions.specs.Family.{family};
-ghost use Rattle.definitions.specs.Refusals.{verdict};
-ghost use Rattle.laws.specs.ByWay.{Made};
-ghost use Rattle.laws.specs.HandedOut.{lawTests, HandedOut, Weighed};
-ghost use Rattle.laws.specs.Returned.{Returned};
-ghost use Rattle.laws.specs.Ways.{Agreed};
+ghost use Rattle.laws.specs.Laws.{lists, Made, Returned, Agreed, HandedOut, Weighed};
 use definitions::Answer;
 
 // A way of Expand and of Decompose.
@@ -35,7 +30,8 @@ fn expand_by(
     output: &mut [u32],
     work: &mut [u32],
 ) -> Answer
-    ensures { λ r. ⌜ Made expand way (family m (now (a .entry)) (now (b .entry)) (now (c .entry))) (now (curve .entry)) r (now (output .entry)) (now (output .exit)) (now (work .entry)) (now (work .exit)) ⌝ }
+    ensures { λ r. ⌜ Made expand way (family m (now (a .entry)) (now (b .entry)) (now (c .entry))) (now (curve .entry)) r
+        (now (output .entry)) (now (output .exit)) (now (work .entry)) (now (work .exit)) ⌝ }
 {
     match way {
         Way::Plain => conversion::plain_expand(m, a, b, c, curve, output),
@@ -54,7 +50,8 @@ fn decompose_by(
     output: &mut [u32],
     work: &mut [u32],
 ) -> Answer
-    ensures { λ r. ⌜ Made decompose way (family m (now (a .entry)) (now (b .entry)) (now (c .entry))) (now (coefficients .entry)) r (now (output .entry)) (now (output .exit)) (now (work .entry)) (now (work .exit)) ⌝ }
+    ensures { λ r. ⌜ Made decompose way (family m (now (a .entry)) (now (b .entry)) (now (c .entry))) (now (coefficients .entry)) r
+        (now (output .entry)) (now (output .exit)) (now (work .entry)) (now (work .exit)) ⌝ }
 {
     match way {
         Way::Plain => conversion::plain_decompose(m, a, b, c, coefficients, output),
@@ -63,7 +60,7 @@ fn decompose_by(
 }
 
 // Decomposing what Expand handed out returns the curve, by either way each.
-pub fn decompose_after_expand(
+fn decompose_after_expand(
     first: Way,
     second: Way,
     m: u32,
@@ -75,7 +72,8 @@ pub fn decompose_after_expand(
     returned: &mut [u32],
     work: &mut [u32],
 ) -> Answer
-    ensures { λ r. ⌜ Returned expand decompose first second (family m (now (a .entry)) (now (b .entry)) (now (c .entry))) (now (curve .entry)) r (now (expanded .entry)) (now (expanded .exit)) (now (returned .entry)) (now (returned .exit)) (now (work .entry)) (now (work .exit)) ⌝ }
+    ensures { λ r. ⌜ Returned expand decompose first second (family m (now (a .entry)) (now (b .entry)) (now (c .entry))) (now (curve .entry)) r
+        (now (expanded .entry)) (now (expanded .exit)) (now (returned .entry)) (now (returned .exit)) (now (work .entry)) (now (work .exit)) ⌝ }
 {
     let answer = expand_by(first, m, a, b, c, curve, expanded, work);
     let Answer::Finished = answer else {
@@ -85,7 +83,7 @@ pub fn decompose_after_expand(
 }
 
 // Expanding what Decompose handed out returns the coefficients, by either way each.
-pub fn expand_after_decompose(
+fn expand_after_decompose(
     first: Way,
     second: Way,
     m: u32,
@@ -97,7 +95,8 @@ pub fn expand_after_decompose(
     returned: &mut [u32],
     work: &mut [u32],
 ) -> Answer
-    ensures { λ r. ⌜ Returned decompose expand first second (family m (now (a .entry)) (now (b .entry)) (now (c .entry))) (now (coefficients .entry)) r (now (decomposed .entry)) (now (decomposed .exit)) (now (returned .entry)) (now (returned .exit)) (now (work .entry)) (now (work .exit)) ⌝ }
+    ensures { λ r. ⌜ Returned decompose expand first second (family m (now (a .entry)) (now (b .entry)) (now (c .entry))) (now (coefficients .entry)) r
+        (now (decomposed .entry)) (now (decomposed .exit)) (now (returned .entry)) (now (returned .exit)) (now (work .entry)) (now (work .exit)) ⌝ }
 {
     let answer = decompose_by(first, m, a, b, c, coefficients, decomposed, work);
     let Answer::Finished = answer else {
@@ -107,7 +106,7 @@ pub fn expand_after_decompose(
 }
 
 // Expand by the plain way and by the tree way: the same list.
-pub fn expand_by_both_ways(
+fn expand_by_both_ways(
     m: u32,
     a: &[u32],
     b: &[u32],
@@ -117,7 +116,8 @@ pub fn expand_by_both_ways(
     tree: &mut [u32],
     work: &mut [u32],
 ) -> Answer
-    ensures { λ r. ⌜ Agreed expand (family m (now (a .entry)) (now (b .entry)) (now (c .entry))) (now (curve .entry)) r (now (plain .entry)) (now (plain .exit)) (now (tree .entry)) (now (tree .exit)) (now (work .entry)) (now (work .exit)) ⌝ }
+    ensures { λ r. ⌜ Agreed expand (family m (now (a .entry)) (now (b .entry)) (now (c .entry))) (now (curve .entry)) r
+        (now (plain .entry)) (now (plain .exit)) (now (tree .entry)) (now (tree .exit)) (now (work .entry)) (now (work .exit)) ⌝ }
 {
     let answer = conversion::plain_expand(m, a, b, c, curve, plain);
     let Answer::Finished = answer else {
@@ -127,7 +127,7 @@ pub fn expand_by_both_ways(
 }
 
 // Adjoint by the plain way and by the tree way: the same list.
-pub fn adjoint_by_both_ways(
+fn adjoint_by_both_ways(
     m: u32,
     a: &[u32],
     b: &[u32],
@@ -137,13 +137,35 @@ pub fn adjoint_by_both_ways(
     tree: &mut [u32],
     work: &mut [u32],
 ) -> Answer
-    ensures { λ r. ⌜ Agreed adjoint (family m (now (a .entry)) (now (b .entry)) (now (c .entry))) (now (curve .entry)) r (now (plain .entry)) (now (plain .exit)) (now (tree .entry)) (now (tree .exit)) (now (work .entry)) (now (work .exit)) ⌝ }
+    ensures { λ r. ⌜ Agreed adjoint (family m (now (a .entry)) (now (b .entry)) (now (c .entry))) (now (curve .entry)) r
+        (now (plain .entry)) (now (plain .exit)) (now (tree .entry)) (now (tree .exit)) (now (work .entry)) (now (work .exit)) ⌝ }
 {
     let answer = conversion::plain_adjoint(m, a, b, c, curve, plain);
     let Answer::Finished = answer else {
         return answer;
     };
     conversion::tree_adjoint(m, a, b, c, curve, tree, work)
+}
+
+// Decompose by the plain way and by the tree way: the same list.
+fn decompose_by_both_ways(
+    m: u32,
+    a: &[u32],
+    b: &[u32],
+    c: &[u32],
+    coefficients: &[u32],
+    plain: &mut [u32],
+    tree: &mut [u32],
+    work: &mut [u32],
+) -> Answer
+    ensures { λ r. ⌜ Agreed decompose (family m (now (a .entry)) (now (b .entry)) (now (c .entry))) (now (coefficients .entry)) r
+        (now (plain .entry)) (now (plain .exit)) (now (tree .entry)) (now (tree .exit)) (now (work .entry)) (now (work .exit)) ⌝ }
+{
+    let answer = conversion::plain_decompose(m, a, b, c, coefficients, plain);
+    let Answer::Finished = answer else {
+        return answer;
+    };
+    conversion::tree_decompose(m, a, b, c, coefficients, tree, work)
 }
 
 // Expand for u and for v, Moments and Norms, until one refuses.
@@ -162,7 +184,9 @@ fn hand_out(
     norm: &mut [u32],
     work: &mut [u32],
 ) -> Answer
-    ensures { λ r. ⌜ (answered r ≡ verdict (lawTests first second (family m (now (a .entry)) (now (b .entry)) (now (c .entry))) (record { u = now (u .entry); v = now (v .entry); s = now (s .entry); t = now (t .entry); moment = now (moment .entry); norm = now (norm .entry); work = now (work .entry) })) []) × HandedOut first second (family m (now (a .entry)) (now (b .entry)) (now (c .entry))) (record { u = now (u .entry); v = now (v .entry); s = now (s .entry); t = now (t .entry); moment = now (moment .entry); norm = now (norm .entry); work = now (work .entry) }) (now (s .exit)) (now (t .exit)) (now (moment .exit)) (now (norm .exit)) (now (work .exit)) ⌝ }
+    ensures { λ r. ⌜ HandedOut first second (family m (now (a .entry)) (now (b .entry)) (now (c .entry))) (now (u .entry)) (now (v .entry))
+        (lists (now (s .entry)) (now (t .entry)) (now (moment .entry)) (now (norm .entry)) (now (work .entry))) r
+        (lists (now (s .exit)) (now (t .exit)) (now (moment .exit)) (now (norm .exit)) (now (work .exit))) ⌝ }
 {
     let one = expand_by(first, m, a, b, c, u, s, work);
     let Answer::Finished = one else {
@@ -179,8 +203,8 @@ fn hand_out(
     conversion::norms(m, a, b, c, norm)
 }
 
-// The product law: the uncut product of what Expand hands out for u and for v, weighed with the moments, and the products of the
-// entries of u and v, weighed with the norms. Both totals are handed out, and are equal.
+// The product law, demand 3: the uncut product of what Expand hands out for u and for v, weighed with the moments, and the products of
+// the entries of u and v, weighed with the norms. Both totals are answered, and are equal; each norm has an inverse.
 pub fn product_law(
     first: Way,
     second: Way,
@@ -196,7 +220,9 @@ pub fn product_law(
     norm: &mut [u32],
     work: &mut [u32],
 ) -> Totals
-    ensures { λ r. ⌜ Weighed first second (family m (now (a .entry)) (now (b .entry)) (now (c .entry))) (record { u = now (u .entry); v = now (v .entry); s = now (s .entry); t = now (t .entry); moment = now (moment .entry); norm = now (norm .entry); work = now (work .entry) }) r (now (s .exit)) (now (t .exit)) (now (moment .exit)) (now (norm .exit)) (now (work .exit)) ⌝ }
+    ensures { λ r. ⌜ Weighed first second (family m (now (a .entry)) (now (b .entry)) (now (c .entry))) (now (u .entry)) (now (v .entry))
+        (lists (now (s .entry)) (now (t .entry)) (now (moment .entry)) (now (norm .entry)) (now (work .entry))) r
+        (lists (now (s .exit)) (now (t .exit)) (now (moment .exit)) (now (norm .exit)) (now (work .exit))) ⌝ }
 {
     let answer = hand_out(first, second, m, a, b, c, u, v, s, t, moment, norm, work);
     if let Answer::Refused(k) = answer {

@@ -53,11 +53,13 @@ module _ {m n : ℕ} {f : ℕ → ℕ} where
   unfolding sum
   totalling-starts = record { reached = omega arith; totalIs = sym (zero-mod m) }
 
-  pub totalling-next : {total k x total′ : ℕ} → Totalling m n f total k → k < n → x ≡ f k % m → total′ ≡ (total + x) % m → Totalling m n f total′ (k + 1)
+  pub totalling-next : {total k x total′ : ℕ} → Totalling m n f total k → k < n → x ≡ f k % m → total′ ≡ (total + x) % m
+      → Totalling m n f total′ (k + 1)
   unfolding sum
   totalling-next {total} {k} h l d e = record {
     reached = omega arith;
-    totalIs = e ∙ ap₂ (λ y z. (y + z) % m) (h .totalIs) d ∙ mod-add-mod (sum k f) m (f k % m) ∙ add-mod-mod (sum k f) (f k) m ∙ ap (λ i. sum i f % m) (sym (add-one k));
+    totalIs = e ∙ ap₂ (λ y z. (y + z) % m) (h .totalIs) d ∙ mod-add-mod (sum k f) m (f k % m) ∙ add-mod-mod (sum k f) (f k) m
+        ∙ ap (λ i. sum i f % m) (sym (add-one k));
   }
 
   pub totalling-ends : {total k : ℕ} → Totalling m n f total k → n ≤ k → total ≡ sum n f % m
@@ -69,11 +71,14 @@ product-of-three m x y z d e = e ∙ ap (λ p. p * z % m) d ∙ mod-mul-mod (x *
 
 -- ---- the moments' total by rows
 module _ (m n : ℕ) (s t moment : List ℕ) (pos : 0 < m) where
-  res-rowTotals : res m pos (sum n (λ i. getD s i 0 * rowTotal m n t moment i) % m) ≡ form (Zmod m pos) n (entries m pos moment) (entries m pos s) (entries m pos t)
+  res-rowTotals : res m pos (sum n (λ i. getD s i 0 * rowTotal m n t moment i) % m)
+      ≡ form (Zmod m pos) n (entries m pos moment) (entries m pos s) (entries m pos t)
   unfolding rowTotal
-  res-rowTotals = simp (res-mod m pos, residue-sum m pos, res-mul m pos) (sym (form-rows (Zmod m pos) n (entries m pos moment) (entries m pos s) (entries m pos t)))
+  res-rowTotals = simp (res-mod m pos, residue-sum m pos, res-mul m pos)
+      (sym (form-rows (Zmod m pos) n (entries m pos moment) (entries m pos s) (entries m pos t)))
 
   pub rowTotals-momentTotal : 0 < n → sum n (λ i. getD s i 0 * rowTotal m n t moment i) % m ≡ momentTotal m n s t moment
   unfolding momentTotal
-  rowTotals-momentTotal h = res-injective m pos (sum n (λ i. getD s i 0 * rowTotal m n t moment i) % m) (momentTotal m n s t moment) (mod-lt _ pos) (mod-lt _ pos)
+  rowTotals-momentTotal h = res-injective m pos (sum n (λ i. getD s i 0 * rowTotal m n t moment i) % m) (momentTotal m n s t moment)
+      (mod-lt _ pos) (mod-lt _ pos)
       (res-rowTotals ∙ sym (res-momentTotal m pos n s t moment h))

@@ -1,5 +1,4 @@
 -- `decompose_after_expand` meets its law: Decompose undoes Expand on the lists that the calls hand out. Assumes nothing.
-use Rattle.definitions.specs.Conversion.{expand, decompose}
 use Rattle.laws.specs.Returned.{first-refused, both-made, decompose-undoes-expand}
 use borrow.Author.Needs.{needs}
 use Rattle.laws.proofs.decompose_after_expand.Statement.{statement}
@@ -21,7 +20,10 @@ same-length-2 : tie.Need-same-length-2
 same-length-2 c = search needs
 
 returns : tie.Need-returns
-returns c = first-refused expand decompose _ _ _ _ _ _ _ _ _ _ _ _ _ (c .before .before .before .before .before .before .expand-by .ensures) _ (c .enum-told2 .given .1)
+returns c =
+    first-refused decompose-undoes-expand _ _ _ _ _ _ _ _ _ _ _ _ _
+    (c .before .before .before .before .before .before .expand-by .ensures) _
+    (c .enum-told2 .given .1)
 
 decompose-by-requires : tie.Need-decompose-by-requires
 decompose-by-requires c κs = search needs
@@ -36,7 +38,11 @@ same-length-5 : tie.Need-same-length-5
 same-length-5 c = search needs
 
 returns-2 : tie.Need-returns-2
-returns-2 c = both-made expand decompose _ _ _ _ _ _ _ _ _ _ _ _ _ (c .before .before .before .before .before .before .before .before .before .before .before .before .before .before .expand-by .ensures) decompose-undoes-expand (c .before .before .before .before .before .before .before .before .enum-told .given .1) _ _ _ (c .before .before .before .before .decompose-by .ensures)
+returns-2 c =
+    both-made decompose-undoes-expand _ _ _ _ _ _ _ _ _ _ _ _ _
+    (c .before .before .before .before .before .before .before .before .before .before .before .before .before .before .expand-by .ensures)
+    (c .before .before .before .before .before .before .before .before .enum-told .given .1) _ _ _
+    (c .before .before .before .before .decompose-by .ensures)
 
 pub decompose-after-expand-spec : {M : Type 1} → statement M
 decompose-after-expand-spec =

@@ -1,5 +1,4 @@
 -- `expand_after_decompose` meets its law: Expand undoes Decompose on the lists that the calls hand out. Assumes nothing.
-use Rattle.definitions.specs.Conversion.{expand, decompose}
 use Rattle.laws.specs.Returned.{first-refused, both-made, expand-undoes-decompose}
 use borrow.Author.Needs.{needs}
 use Rattle.laws.proofs.expand_after_decompose.Statement.{statement}
@@ -21,7 +20,10 @@ same-length-2 : tie.Need-same-length-2
 same-length-2 c = search needs
 
 returns : tie.Need-returns
-returns c = first-refused decompose expand _ _ _ _ _ _ _ _ _ _ _ _ _ (c .before .before .before .before .before .before .decompose-by .ensures) _ (c .enum-told2 .given .1)
+returns c =
+    first-refused expand-undoes-decompose _ _ _ _ _ _ _ _ _ _ _ _ _
+    (c .before .before .before .before .before .before .decompose-by .ensures) _
+    (c .enum-told2 .given .1)
 
 expand-by-requires : tie.Need-expand-by-requires
 expand-by-requires c κs = search needs
@@ -36,7 +38,11 @@ same-length-5 : tie.Need-same-length-5
 same-length-5 c = search needs
 
 returns-2 : tie.Need-returns-2
-returns-2 c = both-made decompose expand _ _ _ _ _ _ _ _ _ _ _ _ _ (c .before .before .before .before .before .before .before .before .before .before .before .before .before .before .decompose-by .ensures) expand-undoes-decompose (c .before .before .before .before .before .before .before .before .enum-told .given .1) _ _ _ (c .before .before .before .before .expand-by .ensures)
+returns-2 c =
+    both-made expand-undoes-decompose _ _ _ _ _ _ _ _ _ _ _ _ _
+    (c .before .before .before .before .before .before .before .before .before .before .before .before .before .before .decompose-by .ensures)
+    (c .before .before .before .before .before .before .before .before .enum-told .given .1) _ _ _
+    (c .before .before .before .before .expand-by .ensures)
 
 pub expand-after-decompose-spec : {M : Type 1} → statement M
 expand-after-decompose-spec =

@@ -21,7 +21,8 @@ same-length : tie.Need-same-length
 same-length c = search needs
 
 returns : tie.Need-returns
-returns c = rw (c .before .before .before .before .enum-told .given .1) (by-plain expand _ _ _ _ _ _ (c .before .before .plain-expand .ensures))
+returns c =
+    rw (c .before .before .before .before .enum-told .given .1) (by-plain expand _ _ _ _ _ _ (c .before .before .plain-expand .ensures))
 
 same-length-2 : tie.Need-same-length-2
 same-length-2 c = search needs
@@ -30,7 +31,9 @@ same-length-3 : tie.Need-same-length-3
 same-length-3 c = search needs
 
 returns-2 : tie.Need-returns-2
-returns-2 c = rw (c .before .before .before .before .before .before .before .enum-told2 .given .1) (by-tree expand _ _ _ _ _ _ _ (c .before .before .before .before .tree-expand .ensures))
+returns-2 c =
+    rw (c .before .before .before .before .before .before .before .enum-told2 .given .1)
+    (by-tree expand _ _ _ _ _ _ _ (c .before .before .before .before .tree-expand .ensures))
 
 pub expand-by-spec : {M : Type 1} → statement M
 expand-by-spec =

@@ -17,7 +17,10 @@ same-length : tie.Need-same-length
 same-length c = search needs
 
 returns : tie.Need-returns
-returns c = plain-refused _ _ _ _ _ _ _ _ (c .before .before .before .before .plain-expand .ensures) _ (c .enum-told2 .given .1)
+returns c =
+    plain-refused _ _ _ _ _ _ _ _ _ _ _
+    (c .before .before .before .before .plain-expand .ensures) _
+    (c .enum-told2 .given .1)
 
 tree-expand-requires : tie.Need-tree-expand-requires
 tree-expand-requires c κs = search needs
@@ -32,7 +35,11 @@ same-length-4 : tie.Need-same-length-4
 same-length-4 c = search needs
 
 returns-2 : tie.Need-returns-2
-returns-2 c = ways-agree _ _ _ _ _ _ _ _ (c .before .before .before .before .before .before .before .before .before .before .before .plain-expand .ensures) (c .before .before .before .before .before .before .before .enum-told .given .1) _ _ _ (c .before .before .before .before .tree-expand .ensures)
+returns-2 c =
+    ways-agree _ _ _ _ _ _ _ _ _ _ _
+    (c .before .before .before .before .before .before .before .before .before .before .before .plain-expand .ensures)
+    (c .before .before .before .before .before .before .before .enum-told .given .1) _ _ _
+    (c .before .before .before .before .tree-expand .ensures)
 
 pub expand-by-both-ways-spec : {M : Type 1} → statement M
 expand-by-both-ways-spec =

@@ -20,7 +20,10 @@ same-length-2 : tie.Need-same-length-2
 same-length-2 c = search needs
 
 returns : tie.Need-returns
-returns c = first-refused _ _ _ _ _ _ _ _ _ _ (c .before .before .before .before .before .before .expand-by .ensures) _ (c .enum-told2 .given .1)
+returns c =
+    first-refused _ _ _ _ _ _ _ _ _
+    (c .before .before .before .before .before .before .expand-by .ensures) _
+    (c .enum-told2 .given .1)
 
 expand-by-requires-2 : tie.Need-expand-by-requires-2
 expand-by-requires-2 c κs = search needs
@@ -41,7 +44,13 @@ same-length-5 : tie.Need-same-length-5
 same-length-5 c = search needs
 
 returns-2 : tie.Need-returns-2
-returns-2 c = second-refused _ _ _ _ _ _ _ _ _ _ (c .before .before .before .before .before .before .before .before .before .before .before .before .before .before .before .expand-by .ensures) (c .before .before .before .before .before .before .before .before .before .enum-told .given .1) _ _ _ (c .before .before .before .before .before .before .expand-by2 .ensures) _ (c .enum-told4 .given .1)
+returns-2 c =
+    second-refused _ _ _ _ _ _ _ _ _
+    (c .before .before .before .before .before .before .before .before .before .before .before .before .before .before .before .expand-by
+    .ensures)
+    (c .before .before .before .before .before .before .before .before .before .enum-told .given .1) _ _ _
+    (c .before .before .before .before .before .before .expand-by2 .ensures) _
+    (c .enum-told4 .given .1)
 
 moments-requires : tie.Need-moments-requires
 moments-requires c κs = search needs
@@ -65,7 +74,17 @@ same-length-9 : tie.Need-same-length-9
 same-length-9 c = search needs
 
 returns-3 : tie.Need-returns-3
-returns-3 c = third-refused _ _ _ _ _ _ _ _ _ _ (c .before .before .before .before .before .before .before .before .before .before .before .before .before .before .before .before .before .before .before .before .before .before .before .before .expand-by .ensures) (c .before .before .before .before .before .before .before .before .before .before .before .before .before .before .before .before .before .before .enum-told .given .1) _ _ _ (c .before .before .before .before .before .before .before .before .before .before .before .before .before .before .before .expand-by2 .ensures) (c .before .before .before .before .before .before .before .before .before .enum-told3 .given .1) _ _ _ (c .before .before .before .before .before .before .moments .ensures) _ (c .enum-told6 .given .1)
+returns-3 c =
+    third-refused _ _ _ _ _ _ _ _ _
+    (c .before .before .before .before .before .before .before .before .before .before .before .before .before .before .before .before .before
+    .before .before .before .before .before .before .before .expand-by .ensures)
+    (c .before .before .before .before .before .before .before .before .before .before .before .before .before .before .before .before .before
+    .before .enum-told .given .1) _ _ _
+    (c .before .before .before .before .before .before .before .before .before .before .before .before .before .before .before .expand-by2
+    .ensures)
+    (c .before .before .before .before .before .before .before .before .before .enum-told3 .given .1) _ _ _
+    (c .before .before .before .before .before .before .moments .ensures) _
+    (c .enum-told6 .given .1)
 
 norms-requires : tie.Need-norms-requires
 norms-requires c κs = search needs
@@ -86,7 +105,18 @@ same-length-14 : tie.Need-same-length-14
 same-length-14 c = search needs
 
 returns-4 : tie.Need-returns-4
-returns-4 c = all-handed-out _ _ _ _ _ _ _ _ _ _ (c .before .before .before .before .before .before .before .before .before .before .before .before .before .before .before .before .before .before .before .before .before .before .before .before .before .before .before .before .expand-by .ensures) (c .before .before .before .before .before .before .before .before .before .before .before .before .before .before .before .before .before .before .before .before .before .before .enum-told .given .1) _ _ _ (c .before .before .before .before .before .before .before .before .before .before .before .before .before .before .before .before .before .before .before .expand-by2 .ensures) (c .before .before .before .before .before .before .before .before .before .before .before .before .before .enum-told3 .given .1) _ _ _ (c .before .before .before .before .before .before .before .before .before .before .moments .ensures) (c .before .before .before .before .enum-told5 .given .1) _ _ (c .before .before .norms .ensures)
+returns-4 c =
+    all-handed-out _ _ _ _ _ _ _ _ _
+    (c .before .before .before .before .before .before .before .before .before .before .before .before .before .before .before .before .before
+    .before .before .before .before .before .before .before .before .before .before .before .expand-by .ensures)
+    (c .before .before .before .before .before .before .before .before .before .before .before .before .before .before .before .before .before
+    .before .before .before .before .before .enum-told .given .1) _ _ _
+    (c .before .before .before .before .before .before .before .before .before .before .before .before .before .before .before .before .before
+    .before .before .expand-by2 .ensures)
+    (c .before .before .before .before .before .before .before .before .before .before .before .before .before .enum-told3 .given .1) _ _ _
+    (c .before .before .before .before .before .before .before .before .before .before .moments .ensures)
+    (c .before .before .before .before .enum-told5 .given .1) _ _
+    (c .before .before .norms .ensures)
 
 pub hand-out-spec : {M : Type 1} → statement M
 hand-out-spec =

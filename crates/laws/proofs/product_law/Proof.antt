@@ -27,19 +27,35 @@ same-length-5 : tie.Need-same-length-5
 same-length-5 c = search needs
 
 returns : tie.Need-returns
-returns c = refused-weighed _ _ _ _ _ _ _ _ _ _ _ _ _ (c .before .before .before .before .before .before .before .before .before .before .before .before .before .hand-out .ensures) _ (c .before .answer .given .1)
+returns c =
+    refused-weighed _ _ _ _ _ _ _ _ _ _ _
+    (c .before .before .before .before .before .before .before .before .before .before .before .before .before .hand-out .ensures) _
+    (c .before .answer .given .1)
 
 enum-told : tie.Need-enum-told
 enum-told c = search needs
 
 add-n : tie.Need-add-n
-add-n c = omega (arith, rows-few _ _ _ _ _ _ _ _ _ _ _ _ _ (c .before .before .before .before .before .before .before .before .before .before .before .before .hand-out .ensures) (c .enum-told .given .1))
+add-n c = omega (
+  arith,
+  rows-few _ _ _ _ _ _ _ _ _ _ _
+      (c .before .before .before .before .before .before .before .before .before .before .before .before .hand-out .ensures)
+      (c .enum-told .given .1),
+)
 
 moment-total-requires : tie.Need-moment-total-requires
-moment-total-requires c κs = moment-total-input _ _ _ _ _ _ _ _ _ _ _ _ _ (c .before .before .before .before .before .before .before .before .before .before .before .before .before .before .before .hand-out .ensures) (c .before .before .before .enum-told .given .1)
+moment-total-requires c κs =
+    moment-total-input _ _ _ _ _ _ _ _ _ _ _
+    (c .before .before .before .before .before .before .before .before .before .before .before .before .before .before .before .hand-out
+    .ensures)
+    (c .before .before .before .enum-told .given .1)
 
 norm-total-requires : tie.Need-norm-total-requires
-norm-total-requires c κs = norm-total-input _ _ _ _ _ _ _ _ _ _ _ _ _ (c .before .before .before .before .before .before .before .before .before .before .before .before .before .before .before .before .before .hand-out .ensures) (c .before .before .before .before .before .enum-told .given .1)
+norm-total-requires c κs =
+    norm-total-input _ _ _ _ _ _ _ _ _ _ _
+    (c .before .before .before .before .before .before .before .before .before .before .before .before .before .before .before .before .before
+    .hand-out .ensures)
+    (c .before .before .before .before .before .enum-told .given .1)
 
 same-length-6 : tie.Need-same-length-6
 same-length-6 c = search needs
@@ -57,7 +73,13 @@ same-length-10 : tie.Need-same-length-10
 same-length-10 c = search needs
 
 returns-2 : tie.Need-returns-2
-returns-2 c = totals-weighed _ _ _ _ _ _ _ _ _ _ _ _ _ (c .before .before .before .before .before .before .before .before .before .before .before .before .before .before .before .before .before .before .hand-out .ensures) (c .before .before .before .before .before .before .enum-told .given .1) _ _ (c .before .before .moment-total .ensures) (c .norm-total .ensures)
+returns-2 c =
+    totals-weighed _ _ _ _ _ _ _ _ _ _ _
+    (c .before .before .before .before .before .before .before .before .before .before .before .before .before .before .before .before .before
+    .before .hand-out .ensures)
+    (c .before .before .before .before .before .before .enum-told .given .1) _ _
+    (c .before .before .moment-total .ensures)
+    (c .norm-total .ensures)
 
 pub product-law-spec : {M : Type 1} → statement M
 product-law-spec =

@@ -40,10 +40,13 @@ loop-less : tie.Need-loop-less Inv-loop μ-loop
 loop-less c = omega arith
 
 loop-again : tie.Need-loop-again Inv-loop μ-loop
-loop-again c = totalling-next (c .before .before .before .before .before .loop .inv) (c .before .before .before .before .loop-test .taken) (rw (← c .before .before .row-total .ensures) (c .before .product .ensures)) (c .sum .ensures)
+loop-again c =
+    totalling-next (c .before .before .before .before .before .loop .inv) (c .before .before .before .before .loop-test .taken)
+    (rw (← c .before .before .row-total .ensures) (c .before .product .ensures)) (c .sum .ensures)
 
 returns : tie.Need-returns Inv-loop μ-loop
-returns c = totalling-ends (c .before .loop .inv) (c .loop-test .left) ∙ rowTotals-momentTotal _ _ _ _ _ (c .before .before .before .before .before .pre .positive) (c .before .before .before .before .before .pre .least)
+returns c = totalling-ends (c .before .loop .inv) (c .loop-test .left)
+    ∙ rowTotals-momentTotal _ _ _ _ _ (c .before .before .before .before .before .pre .positive) (c .before .before .before .before .before .pre .least)
 
 pub moment-total-spec : {M : Type 1} → statement M
 moment-total-spec =

@@ -44,7 +44,9 @@ loop-less : tie.Need-loop-less Inv-loop μ-loop
 loop-less c = omega arith
 
 loop-again : tie.Need-loop-again Inv-loop μ-loop
-loop-again c = totalling-next (c .before .before .before .before .before .loop .inv) (c .before .before .before .before .loop-test .taken) (c .before .product .ensures) (c .sum .ensures)
+loop-again c =
+    totalling-next (c .before .before .before .before .before .loop .inv) (c .before .before .before .before .loop-test .taken)
+    (c .before .product .ensures) (c .sum .ensures)
 
 returns : tie.Need-returns Inv-loop μ-loop
 unfolding rowTotal
