@@ -1,9 +1,10 @@
-// Reads one job text from standard input and prints its answer text, or `refused=`, the number and byte 10. It reads no further than
-// the first byte that makes a text too long. What cannot be read or printed is said on standard error, and then standard
+// Reads one job text from standard input and prints its answer text, or `refused=`, the number and byte 10, by one write. It reads no
+// further than the first byte that makes a text too long. What cannot be read or printed is said on standard error, and then standard
 // output holds no answer or a part of one. A program of this kit has no exit status of its own: bin/channel gives one.
+ghost use mathlib.Core.Path.{_≡_};
 ghost use lib.ListN.{length};
+ghost use Rattle.definitions.specs.Printing.{printed};
 ghost use Rattle.channel.specs.Input.{Within};
-use definitions::Valued;
 use libc::STDIN_FILENO;
 use libc::STDOUT_FILENO;
 
@@ -15,10 +16,6 @@ enum Input {
 // One byte more than the longest text.
 fn text_buffer() -> [u8; 8193] {
     [0; 8193]
-}
-
-fn working_list() -> [u32; 16384] {
-    [0; 16384]
 }
 
 // One read of standard input, which may bring a part only, as from a pipe. 0 bytes are its end.
@@ -49,23 +46,11 @@ fn read_input(text: &mut [u8]) -> Input
     Input::Bytes(count)
 }
 
-fn print_refusal(number: u32) -> bool {
-    io::write_all(STDOUT_FILENO, b"refused=")
-        && io::print_decimal(STDOUT_FILENO, number as u64)
-        && io::write_all(STDOUT_FILENO, b"\n")
-}
-
-// The answer to a text, printed, or its refusal. False: it could not be written.
-fn print_answer(text: &[u8]) -> bool {
-    let mut output = io::buffer();
-    let mut work = working_list();
-    match job::convert_text(text, &mut output, &mut work) {
-        Valued::Value(length) => {
-            let end = length as usize;
-            io::write_all(STDOUT_FILENO, &output[0..end])
-        }
-        Valued::Refused(number) => print_refusal(number),
-    }
+// The only write to standard output: of what is printed for the text, and of nothing else. False: it could not be written.
+fn print(text: &[u8], bytes: &[u8]) -> bool
+    requires { ⌜ now bytes ≡ printed (now text) ⌝ }
+{
+    io::write_all(STDOUT_FILENO, bytes)
 }
 
 fn main() {
@@ -74,7 +59,11 @@ fn main() {
         os::fail(b"channel: cannot read standard input");
         return;
     };
-    if !print_answer(&text[0..count]) {
+    let job = &text[0..count];
+    let printout = printing::print_job(job);
+    let bytes = printout.bytes;
+    let end = printout.length;
+    if !print(job, &bytes[0..end]) {
         os::fail(b"channel: cannot write standard output");
     }
 }

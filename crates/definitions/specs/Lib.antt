@@ -7,10 +7,11 @@
 --   Refusals      the tests of each call in their order; the verdict is the first that holds
 --   Answers       what an answer says, what the lent lists hold after it, and the promises of the calls
 --   Figures       P1 to P12 and four examples more, computed
---   Text          the job text and the answer text, each by its writer; the job that a written job means
+--   Text          the job text, the answer text and the refusal text, each by its writer; the job that a written job means
 --   Reading       how a job text is read
 --   TextCall      the tests of the text call in their order, what it hands out, and its promise
---   TextExamples  the paper's job and its answer byte for byte, and texts that are refused, computed
+--   Printing      what the program prints for the bytes that it reads
+--   TextExamples  the paper's job and its answer byte for byte, texts that are refused, and what is printed for each, computed
 -- Assumes nothing.
 pub mod Number
 pub mod Family
@@ -22,4 +23,5 @@ pub mod Figures
 pub mod Text
 pub mod Reading
 pub mod TextCall
+pub mod Printing
 pub mod TextExamples

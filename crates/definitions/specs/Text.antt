@@ -1,10 +1,11 @@
--- The job text and the answer text, each defined by its writer. A text is a list of bytes.
+-- The job text, the answer text and the refusal text, each defined by its writer. A text is a list of bytes.
 --   bytes s                 the bytes of a quoted text of ASCII characters
 --   decimal x               x in decimal digits, without a leading zero, 0 itself excepted
 --   numbers xs              numbers with one space between two
 --   line key content rest   a line: its key with the = after it, its content, byte 10; and then what follows the line
 --   WrittenJob              what stands in a job text;  Writable  each of its numbers is at most 4294967295
 --   jobText w               the six lines of a job;  answerText op xs  the two lines of an answer
+--   refusalText number      the line of a refusal
 --   Job, meant w            the job that a written job means
 -- A text is of the form if it is the text of a written job that is writable.
 -- The scope paper, 'The job text'. Assumes nothing.
@@ -75,6 +76,9 @@ curveKey = bytes "v="
 abbrev pub resultKey : List ℕ
 resultKey = bytes "out="
 
+abbrev pub refusalKey : List ℕ
+refusalKey = bytes "refused="
+
 unfoldable pub name : Operation → List ℕ
 name Operation.Expand = bytes "expand"
 name Operation.Adjoint = bytes "adjoint"
@@ -97,6 +101,9 @@ jobText w =
 
 unfoldable pub answerText : Operation → List ℕ → List ℕ
 answerText operation xs = line operationKey (name operation) (line resultKey (numbers xs) [])
+
+unfoldable pub refusalText : ℕ → List ℕ
+refusalText number = line refusalKey (decimal number) []
 
 abbrev pub AllWritable : List ℕ → Type 0
 AllWritable [] = Unit {0}

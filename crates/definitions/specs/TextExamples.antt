@@ -1,8 +1,9 @@
--- The paper's job and its answer byte for byte, and texts at the edges of the form, by computation.
+-- The paper's job and its answer byte for byte, texts at the edges of the form, and what is printed for each, by computation.
 --   verdictOn   what the text call hands out on a text and two lengths: its verdict, with the answer text's bytes as the values
 --   samples     each text, with the lengths of output and working list, beside what it must hand out
--- samples-hold: every row of the table is right. job-written and job-read: the paper's job is written and read so. bytes-counted and
--- rows-counted: where 1 and 5 begin.
+--   printouts   texts beside what the program must print for them, each number that it can give once
+-- samples-hold and printouts-hold: every row of the table is right. job-written and job-read: the paper's job is written and read so.
+-- bytes-counted and rows-counted: where 1 and 5 begin.
 -- Assumes nothing.
 use mathlib.Core.Path.{_≡_, refl}
 use mathlib.Core.List.{List, [], _∷_, map}
@@ -14,9 +15,10 @@ use Rattle.definitions.specs.Family.{rowAt, timesX, term, F, G}
 use Rattle.definitions.specs.Conversion.{expand, adjoint, top, lessTop, decomposeBelow, decompose}
 use Rattle.definitions.specs.Orthogonality.{reversal, nextQuotient, quotient, moments, signedProduct, norm, norms}
 use Rattle.definitions.specs.Refusals.{Verdict, finished, refused, verdict, some, differ, notBelow, noInverse, workLength, modulusTest, lengthsTest, rowCountTest, curveLengthTest, workTest, entriesTest, aInverseTest, cInverseTest, curveEntriesTest}
-use Rattle.definitions.specs.Text.{bytes, decimalWithin, decimal, spaced, numbers, line, name, WrittenJob, jobText, answerText}
+use Rattle.definitions.specs.Text.{bytes, decimalWithin, decimal, spaced, numbers, line, name, WrittenJob, jobText, answerText, refusalText}
 use Rattle.definitions.specs.Reading.{found, readKey, isDigit, readDigits, readNumber, readOn, readSome, readNumbers, readName, ended, readLine, readLines, readJob}
 use Rattle.definitions.specs.TextCall.{textOutputLength, textLengthTest, emptyCurveTest, curveTest, textOutputTest, jobTests, formTests, textTests, converted, result, replyTo, reply}
+use Rattle.definitions.specs.Printing.{shown, printed}
 use Rattle.definitions.specs.declared.Operation.{Operation}
 
 abbrev pub paperJob : WrittenJob
@@ -94,3 +96,32 @@ bytes-counted = (refl, refl)
 pub rows-counted : (verdictOn (jobText (rowsOf 127)) textOutputLength workLength ≡ refused 6) × (verdictOn (jobText (rowsOf 128)) textOutputLength workLength ≡ refused 5)
 unfolding verdictOn jobText
 rows-counted = (refl, refl)
+
+-- ---- what is printed
+pub record Printout : Type 0 where
+  pub input : List ℕ
+  pub output : String
+
+infix 80 _prints_
+abbrev _prints_ : List ℕ → String → Printout
+input prints output = record { input = input; output = output }
+
+abbrev pub printouts : List Printout
+printouts =
+    bytes paperText prints "op=expand\nout=1 3 2\n"
+    ∷ bytes "mod=15\na=2\nb=1\nc=4\nop=norms\nv=\n" prints "op=norms\nout=8 14\n"
+    ∷ replicate 8193 48 prints "refused=1\n"
+    ∷ [] prints "refused=2\n"
+    ∷ bytes "mod=1\na=1 2\nb=0\nc=1 5\nop=norms\nv=9\n" prints "refused=3\n"
+    ∷ bytes "mod=7\na=1 2\nb=0\nc=1 5\nop=norms\nv=9\n" prints "refused=4\n"
+    ∷ jobText (rowsOf 128) prints "refused=5\n"
+    ∷ bytes "mod=7\na=1 2\nb=0 9\nc=1 5\nop=expand\nv=9\n" prints "refused=6\n"
+    ∷ bytes "mod=7\na=1 0\nb=0 9\nc=1 5\nop=norms\nv=\n" prints "refused=9\n"
+    ∷ bytes "mod=7\na=1 0\nb=0 0\nc=1 0\nop=norms\nv=\n" prints "refused=10\n"
+    ∷ bytes "mod=15\na=1 1\nb=0 0\nc=1 6\nop=expand\nv=15 0 0\n" prints "refused=11\n"
+    ∷ bytes "mod=7\na=\nb=\nc=\nop=expand\nv=4294967295\n" prints "refused=12\n"
+    ∷ []
+
+pub printouts-hold : map (λ p. printed (p .input)) printouts ≡ map (λ p. bytes (p .output)) printouts
+unfolding verdictOn jobText refusalText shown printed
+printouts-hold = refl

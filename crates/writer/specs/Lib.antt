@@ -2,7 +2,9 @@
 --   Putting   bytes put over a part of a list, and parts one after the other
 --   Entries   numbers and lists of numbers
 --   Answer    the answer text
+--   Refusal   the refusal text
 -- Assumes nothing.
 pub mod Putting
 pub mod Entries
 pub mod Answer
+pub mod Refusal

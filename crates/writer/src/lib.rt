@@ -1,5 +1,5 @@
-// Writes an answer text (the scope paper, 'The job text') into a lent output: bytes, decimal numbers, lists of numbers, the two
-// lines. Each function writes from a place on, answers the place after what it wrote, and leaves every other byte as it was.
+// Writes an answer text or a refusal text (the scope paper, 'The job text') into a lent output: bytes, decimal numbers, lists of
+// numbers, lines. Each function writes from a place on, answers the place after what it wrote, and leaves every other byte as it was.
 ghost use mathlib.Core.List.{[]};
 ghost use Prim.Native.Nat.{_+_, _*_, _≤_};
 ghost use lib.ListN.{length};
@@ -7,6 +7,7 @@ ghost use Rattle.definitions.specs.Text.{decimal, numbers, line, operationKey, 
 ghost use Rattle.writer.specs.Putting.{Put};
 ghost use Rattle.writer.specs.Entries.{entry};
 ghost use Rattle.writer.specs.Answer.{Room, AnswerWritten};
+ghost use Rattle.writer.specs.Refusal.{longestRefusal, RefusalWritten};
 use definitions::Operation;
 
 fn put_bytes(out: &mut [u8], at: usize, bytes: &[u8]) -> usize
@@ -86,4 +87,15 @@ pub fn write_answer(out: &mut [u8], operation: Operation, list: &[u32]) -> usize
     let end = put_numbers(out, key, list);
     out[end] = b'\n';
     end + 1
+}
+
+// The refusal text at the front of the output, with its length as the answer. The output has room for that of any 32-bit number.
+pub fn write_refusal(out: &mut [u8], number: u32) -> usize
+    requires { ⌜ longestRefusal ≤ length (now out) ⌝ }
+    ensures { λ r. ⌜ RefusalWritten number r (now (out .entry)) (now (out .exit)) ⌝ }
+{
+    let key = put_bytes(out, 0, b"refused=");
+    let last = put_number(out, key, number);
+    out[last] = b'\n';
+    last + 1
 }

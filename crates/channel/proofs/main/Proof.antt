@@ -1,6 +1,7 @@
--- `main` is safe: the text that was read ends within its list. Assumes nothing.
+-- `main` prints what is printed for the text that was read, which ends within its list. Assumes nothing.
 use native.Mathlib.Omega.{arith}
 use borrow.Author.Needs.{needs}
+use Rattle.printing.specs.Printouts.{prints-within, prints-front}
 use Rattle.channel.specs.Input.{within-bytes}
 use Rattle.channel.proofs.main.Statement.{statement}
 use Rattle.channel.proofs.main.Tie as tie
@@ -29,17 +30,29 @@ fail-requires c κs = search needs
 returns : tie.Need-returns
 returns c = search needs
 
-sub-print-answer : tie.Need-sub-print-answer
-sub-print-answer c = search needs
+sub-job : tie.Need-sub-job
+sub-job c = search needs
 
-part-print-answer-start : tie.Need-part-print-answer-start
-part-print-answer-start c = search needs
+part-job-start : tie.Need-part-job-start
+part-job-start c = search needs
 
-part-print-answer-end : tie.Need-part-print-answer-end
-part-print-answer-end c = omega (arith, within-bytes (c .before .before .before .before .before .read-input .ensures) (c .before .before .count .given .1))
+part-job-end : tie.Need-part-job-end
+part-job-end c = omega (arith, within-bytes (c .before .before .before .before .before .read-input .ensures) (c .before .before .count .given .1))
 
-print-answer-requires : tie.Need-print-answer-requires
-print-answer-requires c κs = search needs
+print-job-requires : tie.Need-print-job-requires
+print-job-requires c κs = search needs
+
+sub-print : tie.Need-sub-print
+sub-print c = search needs
+
+part-print-start : tie.Need-part-print-start
+part-print-start c = search needs
+
+part-print-end : tie.Need-part-print-end
+part-print-end c = prints-within _ _ _ (c .before .before .print-job .ensures)
+
+print-requires : tie.Need-print-requires
+print-requires c κs = prints-front _ _ _ (c .before .before .before .print-job .ensures)
 
 slice-aggregate-fail-2 : tie.Need-slice-aggregate-fail-2
 slice-aggregate-fail-2 c = search needs
@@ -65,10 +78,14 @@ main-spec =
     slice-aggregate-fail
     fail-requires
     returns
-    sub-print-answer
-    part-print-answer-start
-    part-print-answer-end
-    print-answer-requires
+    sub-job
+    part-job-start
+    part-job-end
+    print-job-requires
+    sub-print
+    part-print-start
+    part-print-end
+    print-requires
     slice-aggregate-fail-2
     fail-requires-2
     returns-2
