@@ -4,15 +4,17 @@
 --   number v        the number of a verdict, and 0 for a finished one
 -- plain-order, tree-order, moments-order, norms-order and text-order: the number that each input gives. So no test of a call is left out,
 -- none stands before one of a lower number, and each condition holds where it must; a test that a call skips gives way to the next.
+-- curves-asked: which operations of a job take a curve, and which none. greatest-written: the greatest modulus in a text, and one more.
 -- Assumes nothing.
 use mathlib.Core.Path.{_≡_, refl}
-use mathlib.Core.List.{List, [], _∷_, map}
+use mathlib.Core.List.{List, [], _∷_, _++_, map}
 use Prim.Native.Nat.{ℕ, suc}
+use Prim.Native.String.{String}
 use lib.ListN.{replicate}
 use Rattle.definitions.specs.Family.{Family, family}
-use Rattle.definitions.specs.Refusals.{Test, Verdict, finished, refused, verdict, plainTests, treeTests, momentsTests, normsTests}
-use Rattle.definitions.specs.Figures.{handed}
-use Rattle.definitions.specs.Text.{WrittenJob, jobText}
+use Rattle.definitions.specs.Refusals.{Test, Verdict, finished, refused, verdict, workLength, plainTests, treeTests, momentsTests, normsTests}
+use Rattle.definitions.specs.Figures.{handed, R}
+use Rattle.definitions.specs.Text.{bytes, WrittenJob, jobText}
 use Rattle.definitions.specs.TextCall.{textOutputLength, textTests}
 use Rattle.definitions.specs.TextExamples.{verdictOn}
 use Rattle.definitions.specs.declared.Operation.{Operation}
@@ -82,12 +84,31 @@ pub norms-order : numbers (λ x. normsTests (x .family) (x .output)) 2
 unfolding handed
 norms-order = refl
 
--- the job that asks for Expand
-abbrev pub written : Lent → WrittenJob
-written x = record { modulus = x .family .m; a = x .family .a; b = x .family .b; c = x .family .c; operation = Operation.Expand; curve = x .curve }
+abbrev pub written : Operation → Family → List ℕ → WrittenJob
+written operation f u = record { modulus = f .m; a = f .a; b = f .b; c = f .c; operation = operation; curve = u }
 
 -- a longer output is taken
-pub text-order : numbers (λ x. textTests (jobText (written x)) (x .output) (x .work)) textOutputLength
+pub text-order : numbers (λ x. textTests (jobText (written Operation.Expand (x .family) (x .curve))) (x .output) (x .work)) textOutputLength
     ≡ 3 ∷ 4 ∷ 4 ∷ 4 ∷ 5 ∷ 6 ∷ 6 ∷ 7 ∷ 8 ∷ 8 ∷ 9 ∷ 9 ∷ 9 ∷ 10 ∷ 11 ∷ 12 ∷ 0 ∷ []
 unfolding verdictOn jobText
 text-order = refl
+
+-- each operation on R, without a curve and with one
+abbrev pub operations : List Operation
+operations = Operation.Expand ∷ Operation.Adjoint ∷ Operation.Decompose ∷ Operation.Moments ∷ Operation.Norms ∷ []
+
+abbrev pub askedOf : List ℕ → List ℕ
+askedOf u = map (λ o. number (verdict (textTests (jobText (written o R u)) textOutputLength workLength) [])) operations
+
+pub curves-asked : (askedOf [] ≡ 6 ∷ 6 ∷ 6 ∷ 0 ∷ 0 ∷ []) × (askedOf (3 ∷ 0 ∷ 1 ∷ []) ≡ 0 ∷ 0 ∷ 0 ∷ 6 ∷ 6 ∷ [])
+unfolding verdictOn jobText
+curves-asked = (refl, refl)
+
+-- no rows, and so no search for an inverse
+abbrev pub ofModulus : String → List ℕ
+ofModulus m = bytes "mod=" ++ (bytes m ++ bytes "\na=\nb=\nc=\nop=expand\nv=2147483646\n")
+
+pub greatest-written : (verdictOn (ofModulus "2147483647") textOutputLength workLength ≡ finished (bytes "op=expand\nout=2147483646\n"))
+    × (verdictOn (ofModulus "2147483648") textOutputLength workLength ≡ refused 3)
+unfolding verdictOn
+greatest-written = (refl, refl)
