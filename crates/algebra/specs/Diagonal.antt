@@ -1,15 +1,13 @@
 -- Sums over a diagonal, the pairs i + j = n, which the product of series is made of.
 --   diag R n f : f 0 n + f 1 (n - 1) + .. + f n 0, by recursion and with no subtraction
--- Proves congruence, linearity, symmetry, associativity, `diag-sum` (the same as a plain sum with n - i)
--- and `sum-diag`: the diagonals below n are the rows of the triangle i + j < n; where f ends, those of a
--- rectangle or a square. `diag` stays shut: `diag-zero` and `diag-first` are its clauses.
--- Assumes nothing.
+-- Proves congruence, linearity, symmetry, associativity, and `diag-sum`: the same as a plain sum with n - i.
+-- `diag` stays shut: `diag-zero` and `diag-first` are its clauses. Assumes nothing.
 use mathlib.Core.Path.{_≡_, refl, sym, _∙_, ap, ap₂}
-use Prim.Native.Nat.{ℕ, zero, suc, _+_, _-_, _≤_}
+use Prim.Native.Nat.{ℕ, zero, suc, _+_, _-_}
 use native.Mathlib.Omega.{arith}
 use Rattle.algebra.specs.Ring
 use Rattle.algebra.specs.Ring.{CommRing}
-use Rattle.algebra.specs.Sum.{sum, sum-empty, sum-first, sum-cong, sum-vanish, sum-add, sum-cut}
+use Rattle.algebra.specs.Sum.{sum, sum-first, sum-cong}
 
 module _ (R : CommRing) where
   open CommRing R using (Car, zero as 𝟘, add as _⊕_, mul as _⊗_, add-assoc, add-comm, mul-comm, mul-add)
@@ -79,22 +77,3 @@ module _ (R : CommRing) where
   diag-sum zero f = sym (Ring.zero-add R (f 0 0))
   diag-sum (suc n) f = ap₂ _⊕_ (ap (f 0) (omega arith)) (diag-sum n (λ i j. f (suc i) j) ∙ sum-cong R (suc n) (λ i p. ap (f (suc i)) (omega arith)))
       ∙ sym (sum-first R (suc n) (λ i. f i (suc n - i)))
-
-  -- the triangle i + j < n, by diagonals and by rows: row 0 is apart, and below it stands the triangle of f (suc i)
-  pub sum-diag : (n : ℕ) (f : ℕ → ℕ → Car) → sum R n (λ k. diag k f) ≡ sum R n (λ i. sum R (n - i) (λ j. f i j))
-  unfolding diag
-  sum-diag zero f = sum-empty R (λ k. diag k f) ∙ sym (sum-empty R (λ i. sum R (0 - i) (f i)))
-  sum-diag (suc n) f = sum-first R n (λ k. diag k f) ∙ ap (λ t. f 0 0 ⊕ t) (sum-add R n (λ k. f 0 (suc k)) (λ k. diag k (λ i j. f (suc i) j)))
-      ∙ sym (add-assoc (f 0 0) (sum R n (λ k. f 0 (suc k))) (sum R n (λ k. diag k (λ i j. f (suc i) j))))
-      ∙ ap₂ _⊕_ (sym (sum-first R n (f 0)) ∙ ap (λ t. sum R t (f 0)) (omega arith)) (sum-diag n (λ i j. f (suc i) j) ∙ sum-cong R n (λ i p. ap (λ t. sum R t (f (suc i))) (omega arith)))
-      ∙ sym (sum-first R n (λ i. sum R (suc n - i) (f i)))
-
-  -- the rectangle i < m, j < n, where f ends
-  pub sum-diag-rectangle : (m n k : ℕ) (f : ℕ → ℕ → Car) → m ≤ k → m + n ≤ suc k → ((i j : ℕ) → m ≤ i → f i j ≡ 𝟘) → ((i j : ℕ) → n ≤ j → f i j ≡ 𝟘)
-      → sum R k (λ t. diag t f) ≡ sum R m (λ i. sum R n (λ j. f i j))
-  sum-diag-rectangle m n k f h g zi zj = sum-diag k f ∙ sum-cut R m k (λ i. sum R (k - i) (f i)) h (λ i p. sum-vanish R (k - i) (λ j q. zi i j p))
-      ∙ sum-cong R m (λ i p. sum-cut R n (k - i) (f i) (omega arith) (zj i))
-
-  pub sum-diag-square : (n k : ℕ) (f : ℕ → ℕ → Car) → n + n ≤ suc k → ((i j : ℕ) → n ≤ i → f i j ≡ 𝟘) → ((i j : ℕ) → n ≤ j → f i j ≡ 𝟘)
-      → sum R k (λ t. diag t f) ≡ sum R n (λ i. sum R n (λ j. f i j))
-  sum-diag-square n k f h = sum-diag-rectangle n n k f (omega arith) h

@@ -3,7 +3,8 @@
 --   compose ψ φ : ψ after φ
 --   constants R : the map C from R into its power series
 --   series φ : φ on every coefficient, a map from the series over R to those over S
--- Proves that a map keeps 0, negatives, finite and diagonal sums, finite products and units.
+-- Proves that a map keeps 0, negatives, finite and diagonal sums, finite products and units. Nothing cites it yet: it is kept for
+-- the request that joins remainders to whole numbers, where the whole numbers are mapped to the residues.
 -- Assumes nothing.
 use mathlib.Core.Path.{_≡_, refl, sym, _∙_, ap, ap₂}
 use Prim.Native.Nat.{ℕ, zero, suc}

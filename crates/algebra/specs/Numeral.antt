@@ -21,10 +21,6 @@ module _ (R : CommRing) where
   unfolding numeral
   numeral-zero = refl
 
-  pub numeral-suc : (n : ℕ) → numeral (suc n) ≡ numeral n ⊕ 𝟙
-  unfolding numeral
-  numeral-suc n = refl
-
   pub numeral-one : numeral 1 ≡ 𝟙
   unfolding numeral
   numeral-one = Ring.zero-add R 𝟙

@@ -19,12 +19,12 @@ use Rattle.algebra.specs.Unit.{IsUnit, unit-cancel-zero}
 use Rattle.algebra.specs.Variable.{X, co-X-mul-zero, co-X-mul-suc}
 
 module _ (R : CommRing) where
-  open CommRing R using (Car, zero as 𝟘, add as _⊕_, mul as _⊗_, neg as ⊖_)
+  open CommRing R using (Car, zero as 𝟘, add as _⊕_, mul as _⊗_)
   open CommRing (Ser R) using (Car as Series, add as _+_, mul as _*_, neg as -_)
 
   infixl 65 _⊕_ _+_
   infixl 70 _⊗_ _*_
-  infix 75 ⊖_ -_
+  infix 75 -_
   abbrev pub VanishesBelow : ℕ → Series → Type 0
   VanishesBelow k f = (n : ℕ) → n < k → co R f n ≡ 𝟘
 
@@ -41,14 +41,8 @@ module _ (R : CommRing) where
   pub vanishes-add : (k : ℕ) (f g : Series) → VanishesBelow k f → VanishesBelow k g → VanishesBelow k (f + g)
   vanishes-add k f g v w n p = co-add R f g n ∙ ap₂ _⊕_ (v n p) (w n p) ∙ R .add-zero 𝟘
 
-  pub vanishes-neg : (k : ℕ) (f : Series) → VanishesBelow k f → VanishesBelow k (- f)
-  vanishes-neg k f v n p = co-neg R f n ∙ ap ⊖_ (v n p) ∙ Ring.neg-zero R
-
   pub vanishes-sub : (k : ℕ) (f g : Series) → AgreeBelow k f g → VanishesBelow k (f + - g)
   vanishes-sub k f g a n p = co-add R f (- g) n ∙ ap₂ _⊕_ (a n p) (co-neg R g n) ∙ R .add-neg (co R g n)
-
-  pub agree-of-sub : (k : ℕ) (f g : Series) → VanishesBelow k (f + - g) → AgreeBelow k f g
-  agree-of-sub k f g v n p = Ring.eq-of-sub R (co R f n) (co R g n) (ap (λ t. co R f n ⊕ t) (sym (co-neg R g n)) ∙ sym (co-add R f (- g) n) ∙ v n p)
 
   -- ---- products
   -- the term of a product where either factor vanishes

@@ -3,7 +3,7 @@
 --   res m pos x : the residue of the number x
 --   val m pos a : the number below m whose residue is a
 -- Proves that res keeps 0, 1, +, *, %, negatives and sums, that residues are equal just if the remainders are,
--- and which residues are units. `pos : 0 < m` is a parameter of all of it: two proofs of it are not equal by
+-- and that a number whose residue is a unit has an inverse modulo m. `pos : 0 < m` is a parameter of all of it: two proofs of it are not equal by
 -- computation, so a statement about Zmod should quantify over the proof.
 -- Assumes nothing.
 use mathlib.Core.Path.{_≡_, refl, sym, _∙_, ap}
@@ -72,10 +72,6 @@ module _ (m : ℕ) (pos : 0 < m) where
   unfolding Zmod
   val a = a .0
 
-  pub val-lt : (a : Zmod .Car) → val a < m
-  unfolding val Zmod
-  val-lt a = a .1
-
   pub val-res : (x : ℕ) → val (res x) ≡ x % m
   unfolding val res
   val-res x = refl
@@ -128,27 +124,11 @@ module _ (m : ℕ) (pos : 0 < m) where
       whole : x % m + (m - x % m) ≡ m
       whole = let h : x % m < m = mod-lt x pos in omega arith
 
-  pub val-add : (a b : Zmod .Car) → val (Zmod .add a b) ≡ (val a + val b) % m
-  unfolding val Zmod
-  val-add a b = refl
-
-  pub val-mul : (a b : Zmod .Car) → val (Zmod .mul a b) ≡ (val a * val b) % m
-  unfolding val Zmod
-  val-mul a b = refl
-
-  pub val-neg : (a : Zmod .Car) → val (Zmod .neg a) ≡ (m - val a) % m
-  unfolding val Zmod
-  val-neg a = refl
-
   -- sums of numbers, however they are defined: s n is the sum of f 0, .., f (n - 1)
   pub res-sum : (s f : ℕ → ℕ) → s 0 ≡ 0 → ((n : ℕ) → s (suc n) ≡ s n + f n) → (n : ℕ) → res (s n) ≡ sum Zmod n (λ i. res (f i))
   res-sum s f s-zero s-suc zero = ap res s-zero ∙ res-zero ∙ sym (sum-empty Zmod (λ i. res (f i)))
   res-sum s f s-zero s-suc (suc n) = ap res (s-suc n) ∙ res-add (s n) (f n) ∙ ap (λ t. Zmod .add t (res (f n))) (res-sum s f s-zero s-suc n)
       ∙ sym (sum-last Zmod n (λ i. res (f i)))
-
-  -- ---- units
-  pub res-unit : (x y : ℕ) → x * y % m ≡ 1 → IsUnit Zmod (res x)
-  res-unit x y e = (res y, sym (res-mul x y) ∙ sym (res-mod (x * y)) ∙ ap res e ∙ res-one)
 
   pub inverse-of-unit : (x : ℕ) → 1 < m → IsUnit Zmod (res x) → (y : ℕ) × (x * y % m ≡ 1)
   inverse-of-unit x h (a, e) = (val a, mod-of-res (x * val a) 1 (res-mul x (val a) ∙ ap (Zmod .mul (res x)) (res-val a) ∙ e ∙ sym res-one) ∙ mod-eq-of-lt h)

@@ -2,7 +2,7 @@
 --   Ser R : the ring of power series over R; it stays shut, so that `Solver` meets its operations as they stand
 --   gen R f : the series with coefficients f 0, f 1, ..
 --   co R s n : the coefficient of s at x^n
--- Proves that a series is its coefficients (`ser-ext`, `co-gen`, `gen-co`), and the coefficients of sums and products.
+-- Proves that a series is its coefficients (`ser-ext`, `co-gen`), and the coefficients of sums and products.
 -- Assumes nothing.
 use mathlib.Core.Path.{_≡_, refl, sym, _∙_, ap, fun-ext}
 use mathlib.Core.HLevel.{→-set}
@@ -77,10 +77,6 @@ module _ (R : CommRing) where
   pub co-gen : (f : ℕ → Car) (n : ℕ) → co (gen f) n ≡ f n
   unfolding co gen
   co-gen f n = refl
-
-  pub gen-co : (f : Ser .Car) → gen (co f) ≡ f
-  unfolding co gen
-  gen-co f = refl
 
   pub ser-ext : {f g : Ser .Car} → ((n : ℕ) → co f n ≡ co g n) → f ≡ g
   unfolding co Ser

@@ -1,7 +1,7 @@
 -- Finite sums over a commutative ring.
 --   sum R n f : f 0 + f 1 + .. + f (n - 1)
 -- Proves congruence, linearity, the first and the last term apart, splitting, exchange of two sums,
--- reversal, a single term that is not zero, and truncation where the terms end.
+-- a single term that is not zero, and truncation where the terms end.
 -- `sum` stays shut: `sum-empty` and `sum-last` are its clauses. A function argument that the goal shows
 -- can be left as `_`. Assumes nothing.
 use mathlib.Core.Path.{_≡_, refl, sym, _∙_, ap, ap₂}
@@ -12,11 +12,10 @@ use Rattle.algebra.specs.Ring
 use Rattle.algebra.specs.Ring.{CommRing}
 
 module _ (R : CommRing) where
-  open CommRing R using (Car, zero as 𝟘, add as _⊕_, mul as _⊗_, neg as ⊖_, add-assoc, add-comm, add-zero, mul-comm, mul-add)
+  open CommRing R using (Car, zero as 𝟘, add as _⊕_, mul as _⊗_, add-assoc, add-comm, add-zero, mul-comm, mul-add)
 
   infixl 65 _⊕_
   infixl 70 _⊗_
-  infix 75 ⊖_
   unfoldable pub sum : ℕ → (ℕ → Car) → Car
   sum zero f = 𝟘
   sum (suc n) f = sum n f ⊕ f n
@@ -52,11 +51,6 @@ module _ (R : CommRing) where
   unfolding sum
   sum-add zero f g = sym (add-zero 𝟘)
   sum-add (suc n) f g = ap (λ t. t ⊕ (f n ⊕ g n)) (sum-add n f g) ∙ Ring.add-interchange R (sum n f) (sum n g) (f n) (g n)
-
-  pub sum-neg : (n : ℕ) (f : ℕ → Car) → sum n (λ i. ⊖ f i) ≡ ⊖ sum n f
-  unfolding sum
-  sum-neg zero f = sym (Ring.neg-zero R)
-  sum-neg (suc n) f = ap (λ t. t ⊕ ⊖ f n) (sum-neg n f) ∙ sym (Ring.neg-add R (sum n f) (f n))
 
   pub sum-mul-left : (n : ℕ) (c : Car) (f : ℕ → Car) → sum n (λ i. c ⊗ f i) ≡ c ⊗ sum n f
   unfolding sum
@@ -95,12 +89,6 @@ module _ (R : CommRing) where
           ∙ ap₂ _⊕_ (ap f (Nat.add-zero k)) (sum-vanish (n - suc k) (λ i p. z (k + suc i) (omega arith) (λ e. omega arith))) ∙ add-zero (f k)
 
   -- ---- order
-  pub sum-reverse : (n : ℕ) (f : ℕ → Car) → sum n f ≡ sum n (λ i. f (n - suc i))
-  unfolding sum
-  sum-reverse zero f = refl
-  sum-reverse (suc n) f = add-comm (sum n f) (f n) ∙ ap₂ _⊕_ (ap f (omega arith)) (sum-reverse n f ∙ sum-cong n (λ i p. ap f (omega arith)))
-      ∙ sym (sum-first n (λ i. f (suc n - suc i)))
-
   pub sum-exchange : (m n : ℕ) (f : ℕ → ℕ → Car) → sum m (λ i. sum n (λ j. f i j)) ≡ sum n (λ j. sum m (λ i. f i j))
   unfolding sum
   sum-exchange zero n f = sym (sum-zero n)
@@ -111,9 +99,3 @@ module _ (R : CommRing) where
       → sum n (λ i. sum m (λ j. u j ⊗ p j i) ⊗ s i) ≡ sum m (λ j. u j ⊗ sum n (λ i. p j i ⊗ s i))
   sum-linear m n u p s = sum-cong n (λ i h. sym (sum-mul-right m (λ j. u j ⊗ p j i) (s i))) ∙ sum-exchange n m (λ i j. u j ⊗ p j i ⊗ s i)
       ∙ sum-cong m (λ j h. sum-cong n (λ i g. R .mul-assoc (u j) (p j i) (s i)) ∙ sum-mul-left n (u j) (λ i. p j i ⊗ s i))
-
-  -- the terms of a square, collected by i + j: d k i j is the term where k = i + j, and zero elsewhere
-  pub sum-collect : (n m : ℕ) (f : ℕ → ℕ → Car) (d : ℕ → ℕ → ℕ → Car) → n + n ≤ suc m → ((i j : ℕ) → d (i + j) i j ≡ f i j)
-      → ((k i j : ℕ) → ¬ (k ≡ i + j) → d k i j ≡ 𝟘) → sum m (λ k. sum n (λ i. sum n (λ j. d k i j))) ≡ sum n (λ i. sum n (λ j. f i j))
-  sum-collect n m f d h e z = sum-exchange m n (λ k i. sum n (λ j. d k i j)) ∙ sum-cong n (λ i p. sum-exchange m n (λ k j. d k i j)
-      ∙ sum-cong n (λ j q. sum-single m (i + j) (λ k. d k i j) (omega arith) (λ k r. z k i j) ∙ e i j))

@@ -1,10 +1,9 @@
 -- Units: the elements of a ring that have an inverse.
 --   IsUnit R x : an inverse, as the pair (y, x·y ≡ 1)
--- Proves that the inverse is unique, which products and negatives are units, that the factors of a unit
--- are units, and that a unit cancels. (`Unit` is the prelude's type with one element, hence the name.)
+-- Proves that the inverse is unique, that products and negatives of units are units, that a factor of a unit
+-- is one, and that a unit cancels. (`Unit` is the prelude's type with one element, hence the name.)
 -- Assumes nothing.
-use mathlib.Core.Path.{_≡_, sym, _∙_, ap}
-use mathlib.Core.HLevel.{Σ-prop-path}
+use mathlib.Core.Path.{_≡_, sym, _∙_}
 use mathlib.Core.List.{[], _∷_}
 use Rattle.algebra.specs.Ring
 use Rattle.algebra.specs.Ring.{CommRing}
@@ -29,15 +28,9 @@ module _ (R : CommRing) where
   pub inverse-unique : {x : Car} (y z : Car) → x ⊗ y ≡ 𝟙 → x ⊗ z ≡ 𝟙 → y ≡ z
   inverse-unique y z p q = unit-cancel y z (y, p) (p ∙ sym q)
 
-  pub unit-isProp : (x : Car) → IsProp (IsUnit x)
-  unit-isProp x (y, p) (z, q) = Σ-prop-path (λ w. R .isSet (x ⊗ w) 𝟙) (inverse-unique y z p q)
-
   -- ---- which elements are units
   pub unit-one : IsUnit 𝟙
   unit-one = (𝟙, R .mul-one 𝟙)
-
-  pub unit-inverse : {x : Car} (u : IsUnit x) → IsUnit (u .0)
-  unit-inverse {x} (y, e) = (x, R .mul-comm y x ∙ e)
 
   pub unit-neg : {x : Car} → IsUnit x → IsUnit (⊖ x)
   unit-neg {x} (y, e) = (⊖ y, linear R (x ∷ y ∷ []) (scaled R 𝟙 e) (search reify depth 20) tt)
@@ -47,6 +40,3 @@ module _ (R : CommRing) where
 
   pub unit-left : (x y : Car) → IsUnit (x ⊗ y) → IsUnit x
   unit-left x y (z, e) = (y ⊗ z, sym (R .mul-assoc x y z) ∙ e)
-
-  pub unit-right : (x y : Car) → IsUnit (x ⊗ y) → IsUnit y
-  unit-right x y (z, e) = unit-left y x (z, ap (λ t. t ⊗ z) (R .mul-comm y x) ∙ e)

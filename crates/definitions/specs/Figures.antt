@@ -67,7 +67,8 @@ figures =
     ∷ Norms (family 15 (2 ∷ []) (1 ∷ []) (4 ∷ [])) gives finished (8 ∷ 14 ∷ [])
     ∷ []
 
--- our own: the four-row family both ways; factors that are zero, that equal m and that share a factor with m; two faults at once
+-- our own: the four-row family both ways; factors that are zero, that equal m and that share a factor with m; two faults at once; the
+-- greatest modulus, with no row, since an inverse is searched for by as many steps as the modulus says
 abbrev pub examples : List Figure
 examples =
     Expand four (1 ∷ 2 ∷ 3 ∷ 4 ∷ 5 ∷ []) gives finished (6 ∷ 31 ∷ 7 ∷ 1 ∷ 20 ∷ [])
@@ -79,11 +80,14 @@ examples =
     ∷ Inverse 7 0 gives refused 13
     ∷ Inverse 7 7 gives refused 12
     ∷ Inverse 1 0 gives refused 3
+    ∷ Inverse 1 1 gives refused 3
     ∷ Norms (family 7 (1 ∷ 0 ∷ []) (0 ∷ 0 ∷ []) (1 ∷ 1 ∷ [])) gives refused 10
     ∷ Norms (family 7 (1 ∷ 7 ∷ []) (0 ∷ 0 ∷ []) (1 ∷ 1 ∷ [])) gives refused 9
     ∷ Norms (family 15 (1 ∷ 1 ∷ []) (0 ∷ 0 ∷ []) (1 ∷ 6 ∷ [])) gives refused 11
     ∷ Expand (family 15 (1 ∷ []) (0 ∷ []) (0 ∷ [])) (15 ∷ 15 ∷ []) gives refused 11
     ∷ Expand (family 15 (1 ∷ []) (0 ∷ []) (1 ∷ [])) (15 ∷ 15 ∷ []) gives refused 12
+    ∷ Expand (family 2147483647 [] [] []) (2147483646 ∷ []) gives finished (2147483646 ∷ [])
+    ∷ Expand (family 2147483648 [] [] []) (2147483646 ∷ []) gives refused 3
     ∷ []
 
 -- a table holds: each call hands out what stands beside it

@@ -6,12 +6,14 @@
 --   Orthogonality reversal, Moments, Norms, the product law
 --   Refusals      the tests of each call in their order; the verdict is the first that holds
 --   Answers       what an answer says, what the lent lists hold after it, and the promises of the calls
---   Figures       P1 to P12 and four examples more, computed
+--   Figures       P1 to P12 and examples of our own, computed
 --   Text          the job text, the answer text and the refusal text, each by its writer; the job that a written job means
 --   Reading       how a job text is read
 --   TextCall      the tests of the text call in their order, what it hands out, and its promise
 --   Printing      what the program prints for the bytes that it reads
 --   TextExamples  the paper's job and its answer byte for byte, texts that are refused, and what is printed for each, computed
+--   RefusalExamples  every fault at once, and then one after another mended, computed
+--   PromiseExamples  the outcome that each promise allows of the paper's family and job, computed
 -- Assumes nothing.
 pub mod Number
 pub mod Family
@@ -25,3 +27,5 @@ pub mod Reading
 pub mod TextCall
 pub mod Printing
 pub mod TextExamples
+pub mod RefusalExamples
+pub mod PromiseExamples

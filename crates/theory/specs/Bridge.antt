@@ -5,7 +5,7 @@
 -- Proves that the residues of F_j and G_j are the terms of the recurrence over the ring, that the entries of Expand and
 -- Adjoint are sums in it, and that these lists are curves, which their residues settle.
 -- pos, that m is not zero, is all that is needed: no inverse, and nothing of the rows or of the curve. Assumes nothing.
-use mathlib.Core.Path.{_≡_, refl, sym, _∙_, ap, fun-ext}
+use mathlib.Core.Path.{_≡_, refl, _∙_, ap}
 use mathlib.Core.List.{List}
 use Prim.Native.Nat.{ℕ, zero, suc, _+_, _*_, _%_, _<_}
 use native.Mathlib.Nat.{mod-lt}

@@ -1,12 +1,11 @@
 -- Curves, the lists of n numbers below m.
--- Proved: a table of n numbers below m is a curve; two curves are equal if their entries are, or the residues of their entries.
+-- Proved: a table of n numbers below m is a curve; two curves are equal if the residues of their entries are.
 -- Assumes nothing.
 use mathlib.Core.Path.{_≡_, sym, _∙_}
 use mathlib.Core.List.{List}
 use Prim.Native.Nat.{ℕ, _<_}
 use native.Mathlib.Omega.{arith}
 use lib.ListN.{length, getD}
-use lib.Seq.{ext-getD}
 use Rattle.algebra.specs.Residues.{res}
 use Rattle.definitions.specs.Number.{table}
 use Rattle.definitions.specs.Family.{Family, Curve, size}
@@ -20,9 +19,6 @@ module _ (f : Family) where
   module _ (u v : List ℕ) (cu : Curve f u) (cv : Curve f v) where
     curve-lengths : length u ≡ length v
     curve-lengths = cu .long ∙ sym (cv .long)
-
-    pub curves-equal : ((i : ℕ) → i < size f → getD u i 0 ≡ getD v i 0) → u ≡ v
-    curves-equal e = ext-getD 0 u v curve-lengths (λ i h. e i (rw (← cu .long) h))
 
     pub curves-equal-residues : (pos : 0 < f .m) → ((i : ℕ) → i < size f → res (f .m) pos (getD u i 0) ≡ res (f .m) pos (getD v i 0)) → u ≡ v
     curves-equal-residues pos e =

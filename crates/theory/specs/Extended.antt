@@ -13,14 +13,12 @@ use native.Mathlib.Omega.{arith}
 use lib.ListN.{length, getD, drop, replicate, length-replicate, getD-replicate, List·getD-append}
 use lib.Seq.{getD-at}
 use Rattle.definitions.specs.Conversion.{expand}
-use Rattle.definitions.specs.Family.{Family, Row, Accepted, rows, size, rowAt, term, F, G}
+use Rattle.definitions.specs.Family.{Family, Row, rows, size, rowAt, term, F, G}
 use Rattle.definitions.specs.Number.{sum, table}
-use Rattle.theory.specs.Acceptance.{row-accepted}
-use Rattle.theory.specs.Closing.{EqualLengths, accepted-lengths}
+use Rattle.theory.specs.Closing.{EqualLengths}
 use Rattle.theory.specs.Lists.{snoc-length, table-equal}
 use Rattle.theory.specs.Sums.{sum-zero}
 use Rattle.theory.specs.Tree.{treeExpand}
-use Rattle.theory.specs.TreeBelow.{RowBelow, RowsBelow}
 use Rattle.theory.specs.TreeExpand.{tree-expand}
 
 unfoldable pub extended : Family → Family
@@ -88,26 +86,6 @@ unfolding extended fromSecond
 fromSecond-lengths f equal = record {
   bLength = rest-snoc-length (f .b) (f .close .b) ∙ equal .bLength ∙ sym (rest-snoc-length (f .a) (f .close .a));
   cLength = rest-snoc-length (f .c) (f .close .c) ∙ equal .cLength ∙ sym (rest-snoc-length (f .a) (f .close .a));
-}
-
--- ---- an accepted family may have 127 rows, and 128 with the closing row
-row-below : (f : Family) → Accepted f → (i : ℕ) → RowBelow (f .m) (rowAt f i)
-row-below f acc i = let r = row-accepted f acc i in record { aBelow = r .aBelow; bBelow = r .bBelow; cBelow = r .cBelow }
-
-pub extended-below : (f : Family) → Accepted f → RowsBelow (extended f)
-unfolding extended
-extended-below f acc = record {
-  positive = omega (arith, acc .modulus .least);
-  lengths = extended-lengths f (accepted-lengths f acc);
-  row = λ i _. rw (row-extended f i) (row-below f acc i);
-}
-
-pub fromSecond-below : (f : Family) → Accepted f → RowsBelow (fromSecond (extended f))
-unfolding extended fromSecond
-fromSecond-below f acc = record {
-  positive = omega (arith, acc .modulus .least);
-  lengths = fromSecond-lengths f (accepted-lengths f acc);
-  row = λ i _. rw (row-fromSecond (extended f) i, row-extended f (suc i)) (row-below f acc (suc i));
 }
 
 -- ---- the list 0 .. 0 1

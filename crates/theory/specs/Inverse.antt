@@ -58,14 +58,6 @@ module _ (m x : ℕ) where
   unfolding inverse HasInverse
   inverse-absent n = ⊎-elim (λ e. absurd (n (inverse m x, e))) (λ e. e) (searched m x m .settled)
 
-  pub inverse-decided : 0 < m → Dec (HasInverse m x)
-  unfolding HasInverse
-  inverse-decided h = decide (ℕ-discrete (x * inverse m x % m) 1)
-    where
-      decide : Dec (x * inverse m x % m ≡ 1) → Dec (HasInverse m x)
-      decide (yes e) = yes (inverse m x, e)
-      decide (no n) = no (λ i. n (inverse-right h i))
-
   -- two inverses have one remainder
   inverses-agree : (y z : ℕ) → x * y % m ≡ 1 → x * z % m ≡ 1 → y % m ≡ z % m
   inverses-agree y z e f =
@@ -77,10 +69,6 @@ module _ (m x : ℕ) where
   inverse-unique y h l e =
       let p : 0 < m = omega arith in
       sym (mod-eq-of-lt l) ∙ inverses-agree y (inverse m x) e (inverse-right p (y, e)) ∙ mod-eq-of-lt (inverse-below p)
-
-  pub inverse-has-inverse : 0 < m → HasInverse m x → HasInverse m (inverse m x)
-  unfolding HasInverse
-  inverse-has-inverse h i = (x, rw (mul-comm (inverse m x) x) (inverse-right h i))
 
 pub one-has-inverse : (m : ℕ) → 1 < m → HasInverse m 1
 unfolding HasInverse

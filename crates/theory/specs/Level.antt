@@ -1,8 +1,8 @@
 -- How many rows a tree covers: the least power of two, from 2 on, that is not below n.
 --   span l       the rows under a node of level l, 2 times 2^l: 2, 4, 8, ..
 --   levelFor n   the least level whose span is n or more
--- Proved for every n: the level covers n and is the least that does; from n = 2 on its span is less than 2 n, and no other level has
--- both bounds, which is what code shows of the leading zeros of n - 1. Up to n = 256 the span is 256 at most, and it covers the
+-- Proved for every n: the level covers n and is the least that does; a level whose span is n or more and less than 2 n is that one,
+-- which is what code shows of the leading zeros of n - 1. Up to n = 256 the span is 256 at most, and it covers the
 -- n + 1 = 129 coefficients of F_n at 127 rows. The report, section 2; the scope paper, 'The tree covers the least power of two'.
 -- Assumes nothing.
 use mathlib.Core.Path.{_≡_, refl, ap}
@@ -82,11 +82,6 @@ unfolding levelFrom
 from-covers n zero l h = rw (← add-zero l) h
 from-covers n (suc k) l h = level-step (λ t. n ≤ span t) n k l (λ c. c) (λ _. from-covers n k (suc l) (rw (suc-add, ← add-suc) h))
 
-from-bound : (n k l : ℕ) → span l < 2 * n → span (levelFrom n k l) < 2 * n
-unfolding levelFrom
-from-bound n zero l h = h
-from-bound n (suc k) l h = level-step (λ t. span t < 2 * n) n k l (λ _. h) (λ p. from-bound n k (suc l) (rw span-suc (omega arith)))
-
 from-least : (n k l g : ℕ) → n ≤ span g → l ≤ g → levelFrom n k l ≤ g
 unfolding levelFrom
 from-least n zero l g c h = h
@@ -103,10 +98,6 @@ level-covers n = from-covers n n 0 (rw zero-add (omega (arith, span-past n)))
 pub level-least : (n l : ℕ) → n ≤ span l → levelFor n ≤ l
 unfolding levelFor
 level-least n l c = from-least n n 0 l c (omega arith)
-
-pub level-bound : (n : ℕ) → 2 ≤ n → span (levelFor n) < 2 * n
-unfolding levelFor
-level-bound n h = from-bound n n 0 (rw span-zero (omega arith))
 
 pub level-unique : (n l : ℕ) → n ≤ span l → span l < 2 * n → l ≡ levelFor n
 level-unique n l c b =

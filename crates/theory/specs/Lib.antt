@@ -4,8 +4,8 @@
 --   the recurrence over any ring, and the definitions read in the ring of residues: Recurrence, Operator, Combination, Bridge, Entries, Closing, Alone
 --   round trips, linearity, the transposed identity: RoundTrip, Linear, TransposedIdentity
 --   moments, norms and the product law (demand 3): Reversal, Determinant, Favard, Form, Orthogonal, Quotient, Moments, ProductLaw, Gram, NormInverse
---   the plain ways, as models on lists: PlainModels, PlainSteps, PlainExpand, PlainAdjoint, Horner, PlainDecompose, PlainBasis, PlainAnswers
---   the tree way, as a model on lists: Level, Products, ProductTerms, Tree, TreeClauses, TreeLengths, TreeBelow, ListSeries, TreeNodes, TreeExpand, Pairing, ListPairing, TreeAdjoint, Extended, TreeExamples
+--   the plain ways, as models on lists: PlainModels, PlainSteps, PlainExpand, PlainAdjoint, Horner, PlainDecompose, PlainBasis
+--   the tree way, as a model on lists: Level, Products, Tree, TreeClauses, TreeLengths, TreeBelow, ListSeries, TreeNodes, TreeExpand, Pairing, ListPairing, TreeAdjoint, Extended, TreeExamples
 --   parts of a working list: Regions
 --   texts: Decimal, DecimalReading, NumbersReading, LinesReading, Texts, AnswerTexts, Overwriting
 -- docs/THEOREMS.md leads from the demands to the statements. Assumes nothing.
@@ -45,10 +45,8 @@ pub mod PlainAdjoint
 pub mod Horner
 pub mod PlainDecompose
 pub mod PlainBasis
-pub mod PlainAnswers
 pub mod Level
 pub mod Products
-pub mod ProductTerms
 pub mod Tree
 pub mod TreeClauses
 pub mod TreeLengths

@@ -6,12 +6,12 @@
 -- entries and every list is the table of its own; where such a loop begins, one entry more, and where it ends.
 -- Assumes nothing.
 use mathlib.Core.Path.{_≡_, refl, sym, _∙_, ap}
-use mathlib.Core.List.{List, [], _∷_, _++_, append-assoc, append-nil}
+use mathlib.Core.List.{List, [], _∷_, _++_, append-assoc}
 use Prim.Native.Nat.{ℕ, zero, suc, _+_, _-_, _<_, _≤_}
 use native.Mathlib.Nat.{le-of-suc-le-suc}
 use native.Mathlib.Numerals.{add-one}
 use native.Mathlib.Omega.{arith}
-use lib.ListN.{length, getD, drop, set, length-append, length-drop, length-set, drop-of-length-le, List·getD-append, List·getD-eq-default}
+use lib.ListN.{length, getD, drop, set, length-append, length-drop, length-set, List·getD-append, List·getD-eq-default}
 use lib.Seq.{drop-cons, getD-append-add, getD-at, getD-drop, set-at}
 use Rattle.definitions.specs.Number.{table}
 
@@ -34,9 +34,6 @@ module _ (xs : List ℕ) (x : ℕ) where
 
   pub snoc-last : (i d : ℕ) → length xs ≡ i → getD (xs ++ x ∷ []) i d ≡ x
   snoc-last i d h = getD-at xs x [] d i h
-
-  pub snoc-past : (i d : ℕ) → length xs < i → getD (xs ++ x ∷ []) i d ≡ d
-  snoc-past i d h = List·getD-eq-default (xs ++ x ∷ []) d (simp snoc-length h)
 
 pub table-length : (n : ℕ) (f : ℕ → ℕ) → length (table n f) ≡ n
 unfolding table
@@ -91,10 +88,6 @@ module _ (f : ℕ → ℕ) (old : List ℕ) where
       rw (drop-cons old k 0) (set-at (table k f) (getD old k 0) (drop (suc k) old) (f k) k (table-length k f))
       ∙ sym (append-assoc (table k f) (f k ∷ []) (drop (suc k) old)) ∙ rw (add-one, table-snoc)
 
-  pub filled-all : (k : ℕ) → length old ≡ k → filled f k old ≡ table k f
-  unfolding filled
-  filled-all k e = rw (drop-of-length-le old {i = k} (omega arith)) (append-nil (table k f))
-
   pub filled-length : (k : ℕ) → k ≤ length old → length (filled f k old) ≡ length old
   unfolding filled
   filled-length k h = simp (length-append, table-length, length-drop) (omega arith)
@@ -125,9 +118,6 @@ module _ {f : ℕ → ℕ} {k : ℕ} {old out : List ℕ} (now : Filling f k old
 
   pub filling-stop : (n : ℕ) → k ≡ n → out ≡ filled f n old
   filling-stop n e = now .written ∙ ap (λ i. filled f i old) e
-
-  pub filling-end : (n : ℕ) → k ≡ n → length old ≡ n → out ≡ table n f
-  filling-end n e l = now .written ∙ rw e (filled-all f old n l)
 
   pub filling-below : (i d : ℕ) → i < k → getD out i d ≡ f i
   filling-below i d h = rw (now .written) (filled-below f old k i d h)

@@ -4,10 +4,11 @@
 --   forward, backward, readings z   the operators x·, the shift that drops the first entry, and times z_t at place t
 --   against n κ       w to the sums over i < n of κ_t(i) w_i
 --   pairing n u       the same with u_{t+i}: if u is zero from n on, the sums of u_i times the coefficient of x^i in x^t w
---   value ρ k x       the value of P_{k-1} at x;  shifted t w  the coefficients of x^t w
--- Proves that two terms settle what follows given rows, that combinations and images follow too, and the instances: the terms
--- P_{k-1} follow with forward, their values with readings, their pairings with backward. The last are the lists that Adjoint is
--- worked with. Assumes nothing.
+--   value ρ k x       the value of P_{k-1} at x
+-- Proves that two terms settle what follows given rows, that images follow too, and the instances: the terms P_{k-1} follow with forward,
+-- their values with readings, their pairings with backward. The last are the lists that Adjoint is worked with. Nothing cites the values
+-- yet, nor that two terms settle the others: they are kept for the request that takes values at readings.
+-- Assumes nothing.
 use mathlib.Core.Path.{_≡_, refl, sym, _∙_, ap, ap₂, fun-ext}
 use mathlib.Core.List.{[], _∷_}
 use Prim.Native.Nat.{ℕ, zero, suc, _+_, _≤_}
@@ -19,7 +20,7 @@ use Rattle.algebra.specs.Ring.{CommRing}
 use Rattle.algebra.specs.Solver.{ring, reify}
 use Rattle.algebra.specs.Sum.{sum, sum-empty, sum-last, sum-first, sum-cong, sum-vanish, sum-add, sum-mul-left, sum-cut}
 use Rattle.algebra.specs.Variable.{shift}
-use Rattle.theory.specs.Recurrence.{Rows, later, term, term-step, degree}
+use Rattle.theory.specs.Recurrence.{Rows, term, term-step, degree}
 
 module _ (R : CommRing) where
   open CommRing R using (Car, zero as 𝟘, one as 𝟙, add as _⊕_, mul as _⊗_)
@@ -43,15 +44,8 @@ module _ (R : CommRing) where
       let same : y (suc k) ≡ z (suc k) = fun-ext (follows-unique X ρ y z fy fz e₀ e₁ (suc k)) in
       fy k t ∙ rw (same, follows-unique X ρ y z fy fz e₀ e₁ k t) (sym (fz k t))
 
-  pub follows-later : (X : Operator) (ρ : Rows R) (y : ℕ → ℕ → Car) → Follows X ρ y → Follows X (later R ρ) (λ k. y (suc k))
-  follows-later X ρ y fy k = fy (suc k)
-
   operator-combine : (X : Operator) (x y : Car) (v w : ℕ → Car) (t : ℕ) → X .to (λ s. x ⊗ v s ⊕ y ⊗ w s) t ≡ x ⊗ X .to v t ⊕ y ⊗ X .to w t
   operator-combine X x y v w t = X .to-add (λ s. x ⊗ v s) (λ s. y ⊗ w s) t ∙ ap₂ _⊕_ (X .to-mul x v t) (X .to-mul y w t)
-
-  pub follows-combine : (X : Operator) (ρ : Rows R) (x y : Car) (v w : ℕ → ℕ → Car) → Follows X ρ v → Follows X ρ w → Follows X ρ (λ k t. x ⊗ v k t ⊕ y ⊗ w k t)
-  follows-combine X ρ x y v w fv fw k t = rw (fv k t, fw k t, operator-combine X x y (v (suc k)) (w (suc k)) t)
-      (ring R (ρ .a k ∷ ρ .b k ∷ ρ .c k ∷ x ∷ y ∷ v k t ∷ w k t ∷ v (suc k) t ∷ w (suc k) t ∷ X .to (v (suc k)) t ∷ X .to (w (suc k)) t ∷ []) (search reify depth 20) tt)
 
   -- the image of one step, where φ exchanges the operators at the term that X is applied to
   pub follows-image : (X Y φ : Operator) (ρ : Rows R) (y : ℕ → ℕ → Car) → Follows X ρ y → (k t : ℕ) → φ .to (X .to (y (suc k))) t ≡ Y .to (φ .to (y (suc k))) t
@@ -75,10 +69,6 @@ module _ (R : CommRing) where
       scales : (x : Car) (w : ℕ → Car) (t : ℕ) → shift R (λ s. x ⊗ w s) t ≡ x ⊗ shift R w t
       scales x w zero = sym (Ring.mul-zero R x)
       scales x w (suc t) = refl
-
-  unfoldable pub shifted : ℕ → (ℕ → Car) → ℕ → Car
-  shifted zero w = w
-  shifted (suc t) w = shifted t (shift R w)
 
   abbrev pub readings : (ℕ → Car) → Operator
   readings z = record { to = λ w t. z t ⊗ w t; to-add = λ v w t. R .mul-add (z t) (v t) (w t); to-mul = λ x w t. Ring.mul-left-comm R (z t) x (w t) }
@@ -154,11 +144,6 @@ module _ (R : CommRing) where
 
       pub pairing-forward : (p : ℕ → Car) (t : ℕ) → pairing .to (shift R p) t ≡ pairing .to p (suc t)
       pairing-forward p t = pairing-first (shift R p) t ∙ ap (λ x. x ⊕ pairing .to p (suc t)) (Ring.mul-zero R (u t)) ∙ Ring.zero-add R (pairing .to p (suc t))
-
-      pub pairing-shifted : (p : ℕ → Car) (t : ℕ) → sum R n (λ i. u i ⊗ shifted t p i) ≡ pairing .to p t
-      unfolding shifted
-      pairing-shifted p zero = sym (pairing-start p)
-      pairing-shifted p (suc t) = pairing-shifted (shift R p) t ∙ pairing-forward p t
 
       pub pairing-follows : (ρ : Rows R) → Follows backward ρ (λ k. pairing .to (term R ρ k))
       pairing-follows ρ = follows-map forward backward pairing ρ (term R ρ) pairing-forward (term-follows ρ)

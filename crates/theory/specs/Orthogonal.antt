@@ -41,9 +41,6 @@ module _ {R : CommRing} {r : ℕ} {ρ : Rows R} (reg : Regular R r ρ) where
   signedProduct-unit zero h = unit-one R
   signedProduct-unit (suc i) h = unit-mul R (signedProduct-unit i (omega arith)) (unit-neg R (reg .cUnit i h))
 
-  pub norm-is : {d : ℕ → Car} → Norms R r ρ d → (i : ℕ) (h : i ≤ r) → d i ≡ signedProduct R ρ i ⊗ (reg .aUnit i h) .0
-  norm-is {d} o i h = linear R (d i ∷ ρ .a i ∷ (reg .aUnit i h) .0 ∷ signedProduct R ρ i ∷ []) (both R (scaled R ((reg .aUnit i h) .0) (o .norm i h)) (scaled R (⊖ d i) ((reg .aUnit i h) .1))) (search reify depth 20) tt
-
   pub norm-unit : {d : ℕ → Car} → Norms R r ρ d → (i : ℕ) → i ≤ r → IsUnit R (d i)
   norm-unit {d} o i h = unit-left R (d i) (ρ .a i) (subst (IsUnit R) (sym (o .norm i h)) (signedProduct-unit i h))
 

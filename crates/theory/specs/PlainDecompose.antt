@@ -17,12 +17,11 @@ use Rattle.algebra.specs.Sum.{sum-vanish}
 use Rattle.algebra.specs.Variable.{shift}
 use Rattle.definitions.specs.Conversion.{expand, decompose}
 use Rattle.definitions.specs.Family.{Family, Curve, rows, size, rowAt, timesX}
-use Rattle.definitions.specs.Number.{HasInverse, inverse}
+use Rattle.definitions.specs.Number.{HasInverse}
 use Rattle.theory.specs.Bridge.{entries, rowsOf, entries-expand, expand-curve}
 use Rattle.theory.specs.Combination.{combination, combination-last, combination-cong}
 use Rattle.theory.specs.Entries.{entries-past, entries-zeros, entries-table, entry-zero}
 use Rattle.theory.specs.Horner.{raised, raised-ends, horner-combination}
-use Rattle.theory.specs.Inverse.{inverse-right}
 use Rattle.theory.specs.PlainModels.{constant, divide, raiseEntry, raise, decomposeState, plainDecompose, decomposeState-curve}
 use Rattle.theory.specs.Recurrence.{Rows, term, degree}
 use Rattle.theory.specs.Residue.{residue-negative, residue-product-one}
@@ -36,13 +35,6 @@ pub record Inverts (f : Family) (d : List ℕ) : Type 0 where
 pub inverts-decomposable : (f : Family) (d : List ℕ) → Inverts f d → Decomposable f
 unfolding HasInverse
 inverts-decomposable f d v = record { modulus = v .modulus; aInverse = λ i h. (getD d i 0, v .inverts i h) }
-
--- the inverses that the definitions find
-pub inverses-invert : (f : Family) (d : List ℕ) → Decomposable f → ((i : ℕ) → i < rows f → getD d i 0 ≡ inverse (f .m) (rowAt f i .a)) → Inverts f d
-inverses-invert f d e same =
-    let two : 2 ≤ f .m = e .modulus in
-    let pos : 0 < f .m = omega arith in
-    record { modulus = two; inverts = λ i h. rw (same i h) (inverse-right (f .m) (rowAt f i .a) pos (e .aInverse i h)) }
 
 module _ (f : Family) (pos : 0 < f .m) (d : List ℕ) where
   abbrev m : ℕ

@@ -28,7 +28,7 @@ use Rattle.theory.specs.Curves.{curves-equal-residues}
 
 module _ (R : CommRing) (ρ : Rows R) (u : ℕ → R .Car) where
   open CommRing R using (Car, zero as 𝟘)
-  open CommRing (Ser R) using (Car as Series, zero as 0#, one as 1#, add as _+_, mul as _*_)
+  open CommRing (Ser R) using (Car as Series, zero as 0#, add as _+_, mul as _*_)
 
   infixl 65 _+_
   infixl 70 _*_

@@ -103,10 +103,6 @@ module _ (f : Family) (pos : 0 < f .m) where
   adjointState-curves u cu zero = record { currentCurve = cu; previousCurve = zeros-curve }
   adjointState-curves u cu (suc j) = record { currentCurve = table-curve f _ (λ i h. mod-lt _ pos); previousCurve = adjointState-curves u cu j .currentCurve }
 
-  pub divide-curve : (d w : List ℕ) → Curve f (divide f d w)
-  unfolding divide
-  divide-curve d w = table-curve f _ (λ i h. mod-lt _ pos)
-
   pub raise-curve : (y : ℕ) (q : List ℕ) → Curve f (raise f y q)
   unfolding raise raiseEntry
   raise-curve y q = table-curve f _ (λ i h. mod-lt _ pos)

@@ -5,17 +5,16 @@
 --   transposedAt p w i           the sum over j of p_j w_{i+j}, where w ends in zeros
 --   transposed m n p w           its terms i = 0 to n - 1: the transposed product of w with p (the report's mul^t)
 --   transposedSum m n p v q w    the sum of two of them
--- Each entry is one remainder modulo m. Proved: lengths, entries below m, and that two steps, each with its remainder, come to the
--- same as one. The report, section 2. Assumes nothing.
-use mathlib.Core.Path.{_≡_, _∙_, ap, ap₂}
+-- Each entry is one remainder modulo m. Proved: lengths, and entries below m. The report, section 2. Assumes nothing.
+use mathlib.Core.Path.{_≡_}
 use mathlib.Core.List.{List}
 use Prim.Native.Nat.{ℕ, suc, _+_, _*_, _-_, _%_, _<_}
-use native.Mathlib.Nat.{mod-lt, mod-add-mod, add-mod-mod}
+use native.Mathlib.Nat.{mod-lt}
 use native.Mathlib.Decide.{decLt}
 use native.Mathlib.Omega.{arith}
 use lib.ListN.{length, getD}
 use Rattle.definitions.specs.Number.{sum, table}
-use Rattle.theory.specs.Lists.{table-length, table-entry, table-past, table-equal}
+use Rattle.theory.specs.Lists.{table-length, table-entry, table-past}
 
 unfoldable pub productAt : List ℕ → List ℕ → ℕ → ℕ
 productAt p q k = sum (suc k) (λ i. getD p i 0 * getD q (k - i) 0)
@@ -78,14 +77,3 @@ module _ (m n : ℕ) where
   pub transposedSum-below : 0 < m → (p v q w : List ℕ) → Below m (transposedSum m n p v q w)
   unfolding transposedSum
   transposedSum-below pos p v q w = table-all-below m n _ pos (λ i h. mod-lt _ pos)
-
-  -- ---- one product at a time
-  pub plusProduct-twice : (t p q r s : List ℕ) → plusProduct m n (plusProduct m n t p q) r s ≡ plusProducts m n t p q r s
-  unfolding plusProduct plusProducts
-  plusProduct-twice t p q r s = table-equal n _ _ (λ k h. ap (λ x. (x + productAt r s k) % m) (table-entry n _ k 0 h) ∙ mod-add-mod (getD t k 0 + productAt p q k) m (productAt r s k))
-
-  pub transposed-add : (p v q w : List ℕ) → table n (λ i. (getD (transposed m n p v) i 0 + getD (transposed m n q w) i 0) % m) ≡ transposedSum m n p v q w
-  unfolding transposed transposedSum
-  transposed-add p v q w = table-equal n _ _
-      (λ i h. ap₂ (λ x y. (x + y) % m) (table-entry n _ i 0 h) (table-entry n _ i 0 h)
-      ∙ mod-add-mod (transposedAt p v i) m (transposedAt q w i % m) ∙ add-mod-mod (transposedAt p v i) (transposedAt q w i) m)

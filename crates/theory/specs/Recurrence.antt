@@ -3,10 +3,10 @@
 --   later R ρ         the rows from row 2 on
 --   term R ρ k i      the coefficient of x^i in P_{k-1}, where P_{-1} = 0, P_0 = 1, P_k = (a_k x + b_k) P_{k-1} + c_k P_{k-2}
 --   poly R ρ k        P_{k-1} as a power series
--- Proves that P_{k-1} has degree below k, that its leading coefficient is a product of a's, that it rests on the rows below k
--- only and not on c_1, and that a map of rings takes terms to terms. The report, equation (1). Assumes nothing.
-use mathlib.Core.Path.{_≡_, refl, sym, _∙_, ap, ap₂, fun-ext}
-use Prim.Native.Nat.{ℕ, zero, suc, _<_, _≤_}
+-- Proves that P_{k-1} has degree below k, and that its leading coefficient is a product of a's. The report, equation (1). Assumes
+-- nothing.
+use mathlib.Core.Path.{_≡_, refl, sym, _∙_, ap}
+use Prim.Native.Nat.{ℕ, zero, suc, _≤_}
 use native.Mathlib.Nat.{le-of-suc-le-suc}
 use native.Mathlib.Omega.{arith}
 use Rattle.algebra.specs.Product.{product, product-empty, product-last}
@@ -86,23 +86,3 @@ module _ (R : CommRing) where
   leading ρ zero = sym (product-empty R (ρ .a))
   leading ρ (suc k) =
       simp (leading ρ k, degree ρ (suc k) (suc k) (omega arith), degree ρ k (suc k) (omega arith), Ring.mul-zero R, R .add-zero, product-last R) (R .mul-comm (ρ .a k) (product R k (ρ .a)))
-
-  -- ---- which rows matter: those below k, and of the first one not its c
-  pub record SameBelow (n : ℕ) (ρ σ : Rows) : Type 0 where
-    pub aSame : (i : ℕ) → i < n → ρ .a i ≡ σ .a i
-    pub bSame : (i : ℕ) → i < n → ρ .b i ≡ σ .b i
-    pub cSame : (i : ℕ) → suc i < n → ρ .c (suc i) ≡ σ .c (suc i)
-
-  -- c_1 multiplies P_{-1}, which is zero
-  c-term-same : (n : ℕ) (ρ σ : Rows) → SameBelow n ρ σ → (k i : ℕ) → k < n → term ρ k i ≡ term σ k i → ρ .c k ⊗ term ρ k i ≡ σ .c k ⊗ term σ k i
-  unfolding term
-  c-term-same n ρ σ s zero i h e = Ring.mul-zero R (ρ .c 0) ∙ sym (Ring.mul-zero R (σ .c 0))
-  c-term-same n ρ σ s (suc k) i h e = ap₂ _⊗_ (s .cSame k h) e
-
-  pub term-same : (n : ℕ) (ρ σ : Rows) → SameBelow n ρ σ → (k i : ℕ) → k ≤ suc n → term ρ k i ≡ term σ k i
-  unfolding term
-  term-same n ρ σ s zero i h = refl
-  term-same n ρ σ s (suc zero) zero h = refl
-  term-same n ρ σ s (suc zero) (suc i) h = refl
-  term-same n ρ σ s (suc (suc k)) i h = ap₂ _⊕_ (ap₂ _⊕_ (ap₂ _⊗_ (s .aSame k (le-of-suc-le-suc h)) (ap (λ p. shift R p i) (fun-ext (λ j. term-same n ρ σ s (suc k) j (omega arith))))) (ap₂ _⊗_ (s .bSame k (le-of-suc-le-suc h)) (term-same n ρ σ s (suc k) i (omega arith))))
-      (c-term-same n ρ σ s k i (le-of-suc-le-suc h) (term-same n ρ σ s k i (omega arith)))

@@ -28,7 +28,7 @@ use Rattle.theory.specs.ListPairing.{transposed-pairing, transposedSum-p
 use Rattle.theory.specs.ListSeries.{series}
 use Rattle.theory.specs.Pairing.{pairing, pairing-here, pairing-one}
 use Rattle.theory.specs.Products.{transposed, transposedSum}
-use Rattle.theory.specs.Recurrence.{term, co-poly}
+use Rattle.theory.specs.Recurrence.{co-poly}
 use Rattle.theory.specs.Tree.{padded, F₀, F₁, Matrix, Pair, node, firstTerms, lower, down, rootPair, adjointAt, treeAdjoint}
 use Rattle.theory.specs.TreeBelow.{adjointAt-below}
 use Rattle.theory.specs.TreeClauses.{withTree-cases}

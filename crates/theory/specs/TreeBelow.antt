@@ -1,34 +1,23 @@
 -- The entries of the tree's lists are below m.
 --   MatrixBelow m x, PairBelow m v   the entries of the matrix x, of the pair v, are below m
 --   RowBelow m row                   the three numbers of a row are
---   RowsBelow f                      every row's are, and the three lists are equally long
 -- Most entries are remainders. A leaf copies entries of a row, the pair of a leaf copies entries of the curve and `down` those of
--- its pair, so these must be below m to begin with; of an accepted family and a curve they are, the padding rows too.
+-- its pair, so these must be below m to begin with.
 -- Assumes nothing.
 use mathlib.Core.List.{List, [], _∷_, _++_}
 use Prim.Native.Nat.{ℕ, zero, suc, _+_, _<_}
-use native.Mathlib.Decide.{decLt}
 use native.Mathlib.Nat.{mod-lt}
 use native.Mathlib.Omega.{arith}
-use lib.ListN.{length, getD, take, List·getD-eq-default}
-use Rattle.definitions.specs.Family.{Family, Row, Accepted, Curve, rows, size, rowAt}
-use Rattle.theory.specs.Closing.{EqualLengths, accepted-lengths}
-use Rattle.theory.specs.Level.{span, levelFor}
-use Rattle.theory.specs.Lists.{getD-default}
+use lib.ListN.{take}
+use Rattle.definitions.specs.Family.{Family, Row, size, rowAt}
+use Rattle.theory.specs.Level.{span}
 use Rattle.theory.specs.Products.{Below, plusProduct-below, plusProducts-below, transposed-below, transposedSum-below}
-use Rattle.theory.specs.Tree.{padded, Matrix, Pair, F₀, F₁, leaf, join, node, raise, up, expandAt, treeExpand, firstTerms, lower, down, rootPair, adjointAt, treeAdjoint}
-use Rattle.theory.specs.TreeClauses.{withTree-cases}
+use Rattle.theory.specs.Tree.{Matrix, Pair, F₀, F₁, leaf, join, node, raise, up, expandAt, firstTerms, lower, down, rootPair, adjointAt}
 
 pub record RowBelow (m : ℕ) (row : Row) : Type 0 where
   pub aBelow : row .a < m
   pub bBelow : row .b < m
   pub cBelow : row .c < m
-
--- what the tree asks of a family
-pub record RowsBelow (f : Family) : Type 0 where
-  pub positive : 0 < f .m
-  pub lengths : EqualLengths f
-  pub row : (i : ℕ) → i < rows f → RowBelow (f .m) (rowAt f i)
 
 pub record MatrixBelow (m : ℕ) (x : Matrix) : Type 0 where
   pub b00 : Below m (x .e00)
@@ -63,33 +52,6 @@ take-below m zero xs h i = omega (arith, h 0)
 take-below m (suc n) [] h i = h i
 take-below m (suc n) (x ∷ xs) h zero = h 0
 take-below m (suc n) (x ∷ xs) h (suc i) = take-below m n xs (λ j. h (suc j)) i
-
--- an entry is below m if it is so inside the list, by whichever default it is read
-pub inside-below : (m d i : ℕ) (xs : List ℕ) → 0 < m → (i < length xs → getD xs i d < m) → getD xs i 0 < m
-inside-below m d i xs pos h = at (decLt i (length xs))
-  where
-    at : Dec (i < length xs) → getD xs i 0 < m
-    at (yes p) = rw (getD-default xs i 0 d p) (h p)
-    at (no p) = rw (List·getD-eq-default xs 0 {n = i} (omega arith)) pos
-
--- ---- where it begins
-pub accepted-below : (f : Family) → Accepted f → RowsBelow f
-accepted-below f acc = record {
-  positive = omega (arith, acc .modulus .least);
-  lengths = accepted-lengths f acc;
-  row = λ i h. let r = acc .row i h in record { aBelow = r .aBelow; bBelow = r .bBelow; cBelow = r .cBelow };
-}
-
-pub padded-below : (f : Family) → RowsBelow f → (i : ℕ) → RowBelow (f .m) (rowAt (padded f) i)
-unfolding rowAt
-padded-below f h i = record {
-  aBelow = inside-below (f .m) (f .close .a) i (f .a) (h .positive) (λ p. h .row i p .aBelow);
-  bBelow = inside-below (f .m) (f .close .b) i (f .b) (h .positive) (λ p. h .row i (omega (arith, h .lengths .bLength)) .bBelow);
-  cBelow = inside-below (f .m) (f .close .c) i (f .c) (h .positive) (λ p. h .row i (omega (arith, h .lengths .cLength)) .cBelow);
-}
-
-pub curve-below : (f : Family) (u : List ℕ) → 0 < f .m → Curve f u → Below (f .m) u
-curve-below f u pos curve i = inside-below (f .m) 0 i u pos (λ h. curve .below i (omega (arith, curve .long)))
 
 -- ---- matrices
 pub leaf-below : (m : ℕ) (p q : Row) → RowBelow m p → MatrixBelow m (leaf m p q)
@@ -134,10 +96,6 @@ pub expandAt-below : (f : Family) → 0 < f .m → (l : ℕ) (u : List ℕ) → 
 unfolding expandAt
 expandAt-below f pos l u = plusProduct-below (f .m) (size f) pos (up f u l 0 .v0) (up f u l 0 .v1) (F₁ f)
 
-pub treeExpand-below : (f : Family) → 0 < f .m → (u : List ℕ) → Below (f .m) (treeExpand f u)
-unfolding treeExpand
-treeExpand-below f pos u = withTree-cases (Below (f .m)) f u _ (λ _. one-below (f .m) _ (mod-lt _ pos)) (λ _. expandAt-below (padded f) pos (levelFor (size f)) u)
-
 -- ---- down the tree
 pub firstTerms-below : (m n : ℕ) (v : Pair) → PairBelow m v → PairBelow m (firstTerms n v)
 unfolding firstTerms
@@ -161,7 +119,3 @@ down-below f (suc l) t v h = append-below (f .m) (down f l t (firstTerms (span l
 pub adjointAt-below : (f : Family) → 0 < f .m → (l : ℕ) (u : List ℕ) → Below (f .m) (adjointAt f l u)
 unfolding adjointAt
 adjointAt-below f pos l u = take-below (f .m) (size f) (down f l 0 (rootPair f l u)) (down-below f l 0 (rootPair f l u) (rootPair-below f pos l u))
-
-pub treeAdjoint-below : (f : Family) → 0 < f .m → (u : List ℕ) → Below (f .m) (treeAdjoint f u)
-unfolding treeAdjoint
-treeAdjoint-below f pos u = withTree-cases (Below (f .m)) f u _ (λ _. one-below (f .m) _ (mod-lt _ pos)) (λ _. adjointAt-below (padded f) pos (levelFor (size f)) u)

@@ -1,18 +1,17 @@
 -- How long the tree's lists are.
 --   MatrixLength n x, PairLength n v   the four lists of the matrix x, the two of the pair v, have n numbers
 -- Proved: a node over span l rows has lists of span l + 1 numbers; the pairs that go up and those that go down have lists of
--- span l numbers; `down` answers span l numbers, `treeExpand` and `treeAdjoint` n. Assumes nothing.
-use mathlib.Core.Path.{_≡_, refl, sym, _∙_, ap, ap₂}
+-- span l numbers; `down` answers span l numbers, `expandAt` and `adjointAt` n. Assumes nothing.
+use mathlib.Core.Path.{_≡_, refl, _∙_, ap₂}
 use mathlib.Core.List.{List}
 use Prim.Native.Nat.{ℕ, zero, suc, _+_, _≤_}
 use native.Mathlib.Omega.{arith}
 use lib.ListN.{length, length-append}
 use lib.Seq.{length-take-le}
 use Rattle.definitions.specs.Family.{Family, Row, size, rowAt}
-use Rattle.theory.specs.Level.{span, levelFor, level-covers}
+use Rattle.theory.specs.Level.{span}
 use Rattle.theory.specs.Products.{plusProduct-length, plusProducts-length, transposed-length, transposedSum-length}
-use Rattle.theory.specs.Tree.{padded, Matrix, Pair, F₀, F₁, leaf, join, node, raise, up, expandAt, treeExpand, firstTerms, lower, down, rootPair, adjointAt, treeAdjoint}
-use Rattle.theory.specs.TreeClauses.{withTree-cases}
+use Rattle.theory.specs.Tree.{Matrix, Pair, F₀, F₁, leaf, join, node, raise, up, expandAt, firstTerms, lower, down, rootPair, adjointAt}
 
 pub record MatrixLength (n : ℕ) (x : Matrix) : Type 0 where
   pub l00 : length (x .e00) ≡ n
@@ -53,15 +52,7 @@ pub expandAt-length : (f : Family) (l : ℕ) (u : List ℕ) → length (expandAt
 unfolding expandAt
 expandAt-length f l u = plusProduct-length (f .m) (size f) (up f u l 0 .v0) (up f u l 0 .v1) (F₁ f)
 
-pub treeExpand-length : (f : Family) (u : List ℕ) → length (treeExpand f u) ≡ size f
-unfolding treeExpand
-treeExpand-length f u = withTree-cases (λ x. length x ≡ size f) f u _ (λ e. ap suc (sym e)) (λ _. expandAt-length (padded f) (levelFor (size f)) u)
-
 -- ---- down the tree
-pub firstTerms-length : (n k : ℕ) (v : Pair) → n ≤ k → PairLength k v → PairLength n (firstTerms n v)
-unfolding firstTerms
-firstTerms-length n k v h p = record { l0 = length-take-le n (v .v0) (omega arith); l1 = length-take-le n (v .v1) (omega arith) }
-
 pub lower-length : (m n : ℕ) (x : Matrix) (v : Pair) → PairLength n (lower m n x v)
 unfolding lower
 lower-length m n x v = record { l0 = transposedSum-length m n _ _ _ _; l1 = transposedSum-length m n _ _ _ _ }
@@ -78,7 +69,3 @@ down-length f (suc l) t v = length-append (down f l t (firstTerms (span l) v)) _
 pub adjointAt-length : (f : Family) (l : ℕ) (u : List ℕ) → size f ≤ span l → length (adjointAt f l u) ≡ size f
 unfolding adjointAt
 adjointAt-length f l u h = length-take-le (size f) (down f l 0 (rootPair f l u)) (omega (arith, down-length f l 0 (rootPair f l u)))
-
-pub treeAdjoint-length : (f : Family) (u : List ℕ) → length (treeAdjoint f u) ≡ size f
-unfolding treeAdjoint
-treeAdjoint-length f u = withTree-cases (λ x. length x ≡ size f) f u _ (λ e. ap suc (sym e)) (λ _. adjointAt-length (padded f) (levelFor (size f)) u (level-covers (size f)))

@@ -1,0 +1,62 @@
+-- What the promises of the calls say of the paper's R and of its job, by computation: the one outcome that each allows.
+-- plain-outcome, tree-outcome and text-outcome: the answer, the list or the text with what the output held after it, and of a working list
+-- 16,384 zeros and then what it held. plain-refusal, tree-refusal and text-refusal: the number, and every list as it was.
+-- Assumes nothing.
+use mathlib.Core.Path.{refl}
+use mathlib.Core.List.{List, [], _∷_, _++_}
+use Prim.Native.Nat.{ℕ}
+use lib.ListN.{length, replicate}
+use Rattle.definitions.specs.Conversion.{expand}
+use Rattle.definitions.specs.Refusals.{plainTests, treeTests}
+use Rattle.definitions.specs.Answers.{cleared, Converted, ConvertedIn}
+use Rattle.definitions.specs.Figures.{handed, R}
+use Rattle.definitions.specs.Text.{bytes}
+use Rattle.definitions.specs.TextCall.{TextConverted}
+use Rattle.definitions.specs.TextExamples.{verdictOn, paperText}
+use Rattle.definitions.specs.declared.Answer.{Answer}
+use Rattle.definitions.specs.declared.Valued.{Valued}
+
+-- P1's curve, and one with an entry that is not below 7
+abbrev pub curve : List ℕ
+curve = 3 ∷ 0 ∷ 1 ∷ []
+
+abbrev pub past : List ℕ
+past = 3 ∷ 0 ∷ 7 ∷ []
+
+-- an output, and a working list that is two numbers longer than it must be, before the call and after one that finished
+abbrev pub output : List ℕ
+output = 4 ∷ 5 ∷ 6 ∷ []
+
+abbrev pub work : List ℕ
+work = replicate 16384 3 ++ (8 ∷ 9 ∷ [])
+
+abbrev pub wiped : List ℕ
+wiped = replicate 16384 0 ++ (8 ∷ 9 ∷ [])
+
+pub plain-outcome : Converted (plainTests R curve 3) (expand R curve) Answer.Finished output (1 ∷ 3 ∷ 2 ∷ [])
+unfolding handed
+plain-outcome = record { answer = refl; written = refl }
+
+pub plain-refusal : Converted (plainTests R past 3) (expand R past) (Answer.Refused 12) output output
+unfolding handed
+plain-refusal = record { answer = refl; written = refl }
+
+pub tree-outcome : ConvertedIn (treeTests R curve 3 (length work)) (expand R curve) Answer.Finished output (1 ∷ 3 ∷ 2 ∷ []) work wiped
+unfolding handed treeTests cleared
+tree-outcome = record { answer = refl; written = refl; wiped = refl }
+
+pub tree-refusal : ConvertedIn (treeTests R past 3 (length work)) (expand R past) (Answer.Refused 12) output output work work
+unfolding handed treeTests
+tree-refusal = record { answer = refl; written = refl; wiped = refl }
+
+-- an output that is one byte longer than it must be
+abbrev pub page : List ℕ
+page = replicate 4097 120
+
+pub text-outcome : TextConverted (bytes paperText) (Valued.Value 20) page (bytes "op=expand\nout=1 3 2\n" ++ replicate 4077 120) work wiped
+unfolding verdictOn cleared
+text-outcome = record { answer = refl; written = refl; wiped = refl }
+
+pub text-refusal : TextConverted [] (Valued.Refused 2) page page work work
+unfolding verdictOn
+text-refusal = record { answer = refl; written = refl; wiped = refl }

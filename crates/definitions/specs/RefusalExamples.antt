@@ -1,0 +1,114 @@
+-- The tests of each call in their order, by computation: an input with every fault, and then one fault after another mended.
+--   Lent            what a call is lent: a family, a curve, and how long its output and its working list are
+--   mended output   inputs whose faults are all from 3 on, then from 4 on, and so on to none; the output must be as long as stated
+--   number v        the number of a verdict, and 0 for a finished one
+-- plain-order, tree-order, moments-order, norms-order and text-order: the number that each input gives. So no test of a call is left out,
+-- none stands before one of a lower number, and each condition holds where it must; a test that a call skips gives way to the next.
+-- curves-asked: which operations of a job take a curve, and which none. greatest-written: the greatest modulus in a text, and one more.
+-- Assumes nothing.
+use mathlib.Core.Path.{_≡_, refl}
+use mathlib.Core.List.{List, [], _∷_, _++_, map}
+use Prim.Native.Nat.{ℕ, suc}
+use Prim.Native.String.{String}
+use lib.ListN.{replicate}
+use Rattle.definitions.specs.Family.{Family, family}
+use Rattle.definitions.specs.Refusals.{Test, Verdict, finished, refused, verdict, workLength, plainTests, treeTests, momentsTests, normsTests}
+use Rattle.definitions.specs.Figures.{handed, R}
+use Rattle.definitions.specs.Text.{bytes, WrittenJob, jobText}
+use Rattle.definitions.specs.TextCall.{textOutputLength, textTests}
+use Rattle.definitions.specs.TextExamples.{verdictOn}
+use Rattle.definitions.specs.declared.Operation.{Operation}
+
+pub record Lent : Type 0 where
+  pub family : Family
+  pub curve : List ℕ
+  pub output : ℕ
+  pub work : ℕ
+
+abbrev lent : Family → List ℕ → ℕ → ℕ → Lent
+lent family curve output work = record { family = family; curve = curve; output = output; work = work }
+
+-- one row modulo 15
+abbrev pub row : ℕ → ℕ → ℕ → Family
+row a b c = family 15 (a ∷ []) (b ∷ []) (c ∷ [])
+
+-- 15 is not below 15 and has no inverse; nor has 0
+abbrev pub many : List ℕ
+many = replicate 128 15
+
+abbrev pub mended : ℕ → List Lent
+mended output =
+    lent (family 1 many [] []) (15 ∷ []) 0 0
+    ∷ lent (family 15 many [] []) (15 ∷ []) 0 0
+    ∷ lent (family 15 many [] many) (15 ∷ []) 0 0
+    ∷ lent (family 15 many many (15 ∷ many)) (15 ∷ []) 0 0
+    ∷ lent (family 15 many many many) (15 ∷ []) 0 0
+    ∷ lent (row 15 15 15) (15 ∷ []) 0 0
+    ∷ lent (row 15 15 15) (15 ∷ 15 ∷ 15 ∷ []) 0 0
+    ∷ lent (row 15 15 15) (15 ∷ 15 ∷ []) 0 0
+    ∷ lent (row 15 15 15) (15 ∷ 15 ∷ []) (suc output) 0
+    ∷ lent (row 15 15 15) (15 ∷ 15 ∷ []) output 16383
+    ∷ lent (row 15 0 0) (15 ∷ 15 ∷ []) output 16384
+    ∷ lent (row 0 15 0) (15 ∷ 15 ∷ []) output 16384
+    ∷ lent (row 0 0 15) (15 ∷ 15 ∷ []) output 16384
+    ∷ lent (row 0 0 0) (15 ∷ 15 ∷ []) output 16384
+    ∷ lent (row 1 0 0) (15 ∷ 15 ∷ []) output 16384
+    ∷ lent (row 1 0 1) (0 ∷ 15 ∷ []) output 16384
+    ∷ lent (row 1 0 1) (0 ∷ 14 ∷ []) output 16385
+    ∷ []
+
+abbrev pub number : Verdict → ℕ
+number (finished values) = 0
+number (refused k) = k
+
+abbrev pub numbers : (Lent → List Test) → ℕ → List ℕ
+numbers tests output = map (λ x. number (verdict (tests x) [])) (mended output)
+
+pub plain-order : numbers (λ x. plainTests (x .family) (x .curve) (x .output)) 2
+    ≡ 3 ∷ 4 ∷ 4 ∷ 4 ∷ 5 ∷ 6 ∷ 6 ∷ 7 ∷ 7 ∷ 9 ∷ 9 ∷ 9 ∷ 9 ∷ 10 ∷ 11 ∷ 12 ∷ 0 ∷ []
+unfolding handed
+plain-order = refl
+
+pub tree-order : numbers (λ x. treeTests (x .family) (x .curve) (x .output) (x .work)) 2
+    ≡ 3 ∷ 4 ∷ 4 ∷ 4 ∷ 5 ∷ 6 ∷ 6 ∷ 7 ∷ 7 ∷ 8 ∷ 9 ∷ 9 ∷ 9 ∷ 10 ∷ 11 ∷ 12 ∷ 0 ∷ []
+unfolding handed treeTests
+tree-order = refl
+
+pub moments-order : numbers (λ x. momentsTests (x .family) (x .output) (x .work)) 3
+    ≡ 3 ∷ 4 ∷ 4 ∷ 4 ∷ 5 ∷ 7 ∷ 7 ∷ 7 ∷ 7 ∷ 8 ∷ 9 ∷ 9 ∷ 9 ∷ 10 ∷ 11 ∷ 0 ∷ 0 ∷ []
+unfolding handed
+moments-order = refl
+
+pub norms-order : numbers (λ x. normsTests (x .family) (x .output)) 2
+    ≡ 3 ∷ 4 ∷ 4 ∷ 4 ∷ 5 ∷ 7 ∷ 7 ∷ 7 ∷ 7 ∷ 9 ∷ 9 ∷ 9 ∷ 9 ∷ 10 ∷ 11 ∷ 0 ∷ 0 ∷ []
+unfolding handed
+norms-order = refl
+
+abbrev pub written : Operation → Family → List ℕ → WrittenJob
+written operation f u = record { modulus = f .m; a = f .a; b = f .b; c = f .c; operation = operation; curve = u }
+
+-- a longer output is taken
+pub text-order : numbers (λ x. textTests (jobText (written Operation.Expand (x .family) (x .curve))) (x .output) (x .work)) textOutputLength
+    ≡ 3 ∷ 4 ∷ 4 ∷ 4 ∷ 5 ∷ 6 ∷ 6 ∷ 7 ∷ 8 ∷ 8 ∷ 9 ∷ 9 ∷ 9 ∷ 10 ∷ 11 ∷ 12 ∷ 0 ∷ []
+unfolding verdictOn jobText
+text-order = refl
+
+-- each operation on R, without a curve and with one
+abbrev pub operations : List Operation
+operations = Operation.Expand ∷ Operation.Adjoint ∷ Operation.Decompose ∷ Operation.Moments ∷ Operation.Norms ∷ []
+
+abbrev pub askedOf : List ℕ → List ℕ
+askedOf u = map (λ o. number (verdict (textTests (jobText (written o R u)) textOutputLength workLength) [])) operations
+
+pub curves-asked : (askedOf [] ≡ 6 ∷ 6 ∷ 6 ∷ 0 ∷ 0 ∷ []) × (askedOf (3 ∷ 0 ∷ 1 ∷ []) ≡ 0 ∷ 0 ∷ 0 ∷ 6 ∷ 6 ∷ [])
+unfolding verdictOn jobText
+curves-asked = (refl, refl)
+
+-- no rows, and so no search for an inverse
+abbrev pub ofModulus : String → List ℕ
+ofModulus m = bytes "mod=" ++ (bytes m ++ bytes "\na=\nb=\nc=\nop=expand\nv=2147483646\n")
+
+pub greatest-written : (verdictOn (ofModulus "2147483647") textOutputLength workLength ≡ finished (bytes "op=expand\nout=2147483646\n"))
+    × (verdictOn (ofModulus "2147483648") textOutputLength workLength ≡ refused 3)
+unfolding verdictOn
+greatest-written = (refl, refl)
