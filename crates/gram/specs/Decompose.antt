@@ -2,7 +2,8 @@
 --   divided      entry i times the inverse of norm i, from the a and the inverses of the c
 --   DivideInput  what the loop over the entries is lent
 --   Dividing     that loop in progress: i entries are divided, and the product of the inverses of the c is up to there
--- Proved: how the loop begins, goes on and ends; what each step of Decompose is handed; the last leaves Decompose. Assumes nothing.
+-- Proved: how the loop begins, goes on and ends; what each step of Decompose is handed; the last leaves Decompose. With one coefficient
+-- its remainder is the answer. Assumes nothing.
 use mathlib.Core.Path.{_≡_, refl, sym, _∙_, ap, ap₂}
 use mathlib.Core.List.{List, _++_}
 use mathlib.Core.Logic.{by-cases}
@@ -18,6 +19,7 @@ use Rattle.definitions.specs.Conversion.{adjoint, decompose}
 use Rattle.definitions.specs.Family.{Family, Row, Convertible, Curve, size, rowAt}
 use Rattle.definitions.specs.Number.{sum, table, negative, HasInverse, inverse}
 use Rattle.definitions.specs.Orthogonality.{moments, norm}
+use Rattle.theory.specs.Alone.{decompose-alone}
 use Rattle.theory.specs.Closing.{closedBy}
 use Rattle.theory.specs.Gram.{hankelProduct, gramDecompose, hankelProduct-curve, gram-decompose}
 use Rattle.theory.specs.Lists.{Filling, filled, table-length, table-equal, table-entries, filling-start, filling-next, filling-stop, filling-from}
@@ -32,7 +34,7 @@ use Rattle.plain.specs.FirstRows.{entry-inside, entry-past}
 use Rattle.plain.specs.Input.{closedRows}
 use Rattle.products.specs.Places.{ListInput}
 use Rattle.subproduct.specs.Leaf.{familyOf, rowOf}
-use Rattle.tree.specs.Core.{Input, Output}
+use Rattle.tree.specs.Core.{Input, Output, alone-output}
 use Rattle.gram.specs.Input.{DecomposeInput}
 use Rattle.gram.specs.Moments.{entryOr, closed-inverts, front-entry, front-below}
 use Rattle.gram.specs.Polynomials.{cleared-length, cleared-twice, closed-size, closed-lengths, closed-modulus}
@@ -138,6 +140,12 @@ module _ (m : ℕ) (a b c inverses reciprocals : List ℕ) (p q r inv reciprocal
   norm-is : (i : ℕ) → signedInverse m (entryOr reciprocals (n - 1) reciprocal) i * entryOr a (n - 1) p i % m ≡ inverse m (norm f i)
   unfolding closedRows rowAt entryOr
   norm-is i = norm-inverse f two (entryOr reciprocals (n - 1) reciprocal) i (a-inverse i) (λ j _. c-inverts (suc j) (omega arith))
+
+  pub decompose-one : n ≡ 1 → (output′ work′ : List ℕ) → output′ ≡ set output 0 (getD coefficients 0 0 % m) → work′ ≡ cleared work
+      → Output (decompose f u) n output output′ work work′
+  unfolding closedRows
+  decompose-one e output′ work′ g w =
+      alone-output m n coefficients output output′ work work′ _ e (input .outputLong) (decompose-alone f u (omega (arith, sized)) two) g w
 
   module _ (blank blank′ : List ℕ) (z : blank ≡ replicate 255 0) (z′ : blank′ ≡ replicate 255 0) where
     module _ (moment work₁ : List ℕ) (h : Output (moments f) (2 * n - 1) blank moment work work₁) where

@@ -25,6 +25,7 @@ use residue::negative;
 use residue::product_by;
 use series::quotient;
 use tree::adjoint;
+use tree::clear;
 use tree::expand;
 
 // A local list with room for every moment, all zeros.
@@ -159,7 +160,36 @@ fn divide_by_norms(
     }
 }
 
-// The curve of the first n coefficients in powers of x, by F^t H F = D: the product with the moments, Adjoint, and the norms.
+// Decompose of n coefficients, from n = 2 on, by F^t H F = D: the product with the moments, Adjoint, and the norms.
+fn decompose_tree(
+    m: u32,
+    a: &[u32],
+    b: &[u32],
+    c: &[u32],
+    inverses: &[u32],
+    reciprocals: &[u32],
+    p: u32,
+    q: u32,
+    r: u32,
+    inverse: u32,
+    reciprocal: u32,
+    coefficients: &[u32],
+    n: usize,
+    output: &mut [u32],
+    work: &mut [u32],
+)
+    requires { ⌜ DecomposeInput m (now a) (now b) (now c) (now inverses) (now reciprocals) p q r inverse reciprocal (now coefficients) n (now output) (now work) × (2 ≤ n) ⌝ }
+    ensures { λ _. ⌜ Output (decompose (closedRows m n (now (a .entry)) (now (b .entry)) (now (c .entry)) (rowOf p q r)) (take n (now (coefficients .entry)))) n (now (output .entry)) (now (output .exit)) (now (work .entry)) (now (work .exit)) ⌝ }
+{
+    let mut moment = blank();
+    let mut weighed = blank();
+    moments(m, a, b, c, inverses, p, q, r, inverse, n, &mut moment, work);
+    transposed(m, &coefficients[..n], &moment, &mut weighed, 0, n);
+    adjoint(m, a, b, c, &weighed, n, output, work);
+    divide_by_norms(m, a, reciprocals, p, reciprocal, n, output);
+}
+
+// The curve of the first n coefficients in powers of x. With one coefficient there is no tree, and the answer is that of F_0.
 // inverses[i] is the inverse of a_{i+1}, reciprocals[i] that of c_{i+1} from i = 1 on, inverse and reciprocal those of p and r.
 pub fn decompose(
     m: u32,
@@ -181,10 +211,26 @@ pub fn decompose(
     requires { ⌜ DecomposeInput m (now a) (now b) (now c) (now inverses) (now reciprocals) p q r inverse reciprocal (now coefficients) n (now output) (now work) ⌝ }
     ensures { λ _. ⌜ Output (decompose (closedRows m n (now (a .entry)) (now (b .entry)) (now (c .entry)) (rowOf p q r)) (take n (now (coefficients .entry)))) n (now (output .entry)) (now (output .exit)) (now (work .entry)) (now (work .exit)) ⌝ }
 {
-    let mut moment = blank();
-    let mut weighed = blank();
-    moments(m, a, b, c, inverses, p, q, r, inverse, n, &mut moment, work);
-    transposed(m, &coefficients[..n], &moment, &mut weighed, 0, n);
-    adjoint(m, a, b, c, &weighed, n, output, work);
-    divide_by_norms(m, a, reciprocals, p, reciprocal, n, output);
+    if n == 1 {
+        output[0] = coefficients[0] % m;
+        clear(work);
+        return;
+    }
+    decompose_tree(
+        m,
+        a,
+        b,
+        c,
+        inverses,
+        reciprocals,
+        p,
+        q,
+        r,
+        inverse,
+        reciprocal,
+        coefficients,
+        n,
+        output,
+        work,
+    );
 }

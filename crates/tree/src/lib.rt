@@ -12,7 +12,7 @@ ghost use Rattle.theory.specs.Tree.{treeExpand, treeAdjoint};
 ghost use Rattle.subproduct.specs.Layout.{pairList};
 ghost use Rattle.subproduct.specs.Leaf.{familyOf};
 ghost use Rattle.tree.specs.Root.{RootInput, CoefficientInput, PairInput, rootEntry, rootLists};
-ghost use Rattle.tree.specs.Core.{Input, TreeOutput, Output};
+ghost use Rattle.tree.specs.Core.{Input, TreeOutput, Output, expandVectors, adjointVectors};
 use convolution::products_at;
 use products::transposed;
 use subproduct::build;
@@ -119,6 +119,8 @@ pub fn clear(work: &mut [u32])
     }
 }
 
+// Expand with two entries at least: the tree is stored, the pairs climb it to the root, and the root's pair gives the coefficients. The
+// tree and that pair are left in the working list, for `expand` to clear.
 fn expand_tree(
     m: u32,
     a: &[u32],
@@ -130,7 +132,7 @@ fn expand_tree(
     work: &mut [u32],
 )
     requires { ⌜ Input m (now a) (now b) (now c) (now curve) n (now output) (now work) × (2 ≤ n) ⌝ }
-    ensures { λ _. ⌜ TreeOutput (treeExpand (familyOf m (n - 1) (now (a .entry)) (now (b .entry)) (now (c .entry))) (take n (now (curve .entry)))) n (now (output .entry)) (now (output .exit)) (now (work .entry)) (now (work .exit)) ⌝ }
+    ensures { λ _. ⌜ TreeOutput treeExpand expandVectors (familyOf m (n - 1) (now (a .entry)) (now (b .entry)) (now (c .entry))) (take n (now (curve .entry))) n (now (output .entry)) (now (output .exit)) (now (work .entry)) (now (work .exit)) ⌝ }
 {
     let level = level_for(n);
     let pairs = pairs_for(level);
@@ -140,6 +142,8 @@ fn expand_tree(
     expand_root(m, work, 9212, pairs + pairs, &first, n, output);
 }
 
+// Adjoint with two entries at least: the tree is stored, and the root's pair descends it to the entries. The tree, that pair and the
+// entries are left in the working list, for `adjoint` to clear.
 fn adjoint_tree(
     m: u32,
     a: &[u32],
@@ -151,7 +155,7 @@ fn adjoint_tree(
     work: &mut [u32],
 )
     requires { ⌜ Input m (now a) (now b) (now c) (now curve) n (now output) (now work) × (2 ≤ n) ⌝ }
-    ensures { λ _. ⌜ TreeOutput (treeAdjoint (familyOf m (n - 1) (now (a .entry)) (now (b .entry)) (now (c .entry))) (take n (now (curve .entry)))) n (now (output .entry)) (now (output .exit)) (now (work .entry)) (now (work .exit)) ⌝ }
+    ensures { λ _. ⌜ TreeOutput treeAdjoint adjointVectors (familyOf m (n - 1) (now (a .entry)) (now (b .entry)) (now (c .entry))) (take n (now (curve .entry))) n (now (output .entry)) (now (output .exit)) (now (work .entry)) (now (work .exit)) ⌝ }
 {
     let level = level_for(n);
     let pairs = pairs_for(level);

@@ -1,43 +1,21 @@
--- `decompose` meets its contract: the moments, the product with them, Adjoint, and the norms.
--- Assumes nothing.
-use mathlib.Core.Path.{sym}
-use Rattle.gram.specs.Decompose.{decompose-length, decompose-hankel, decompose-adjoint, decompose-divide, decompose-is}
+-- `decompose` meets its contract: with one coefficient there is no tree; otherwise the answer by the moments stands. Assumes nothing.
+use mathlib.Core.Path.{refl}
+use Rattle.gram.specs.Decompose.{decompose-one}
 use borrow.Author.Needs.{needs}
 use Rattle.gram.proofs.decompose.Statement.{statement}
 use Rattle.gram.proofs.decompose.Tie as tie
 
-blank-requires : tie.Need-blank-requires
-blank-requires c κs = search needs
+shared-slice-read-output : tie.Need-shared-slice-read-output
+shared-slice-read-output c = search needs
 
-blank-requires-2 : tie.Need-blank-requires-2
-blank-requires-2 c κs = search needs
+rem-output : tie.Need-rem-output
+rem-output c = search needs
 
-slice-aggregate-moments : tie.Need-slice-aggregate-moments
-slice-aggregate-moments c = search needs
+slice-write-output : tie.Need-slice-write-output
+slice-write-output c = search needs
 
-moments-requires : tie.Need-moments-requires
-moments-requires c κs = search needs
-
-slice-aggregate-transposed : tie.Need-slice-aggregate-transposed
-slice-aggregate-transposed c = sym (decompose-length _ _ _ _ _ _ _ _ _ _ _ _ _ _ _ (c .before .before .before .before .before .before .before .before .before .before .before .before .before .before .before .before .before .pre))
-
-slice-aggregate-transposed-2 : tie.Need-slice-aggregate-transposed-2
-slice-aggregate-transposed-2 c = search needs
-
-slice-aggregate-transposed-3 : tie.Need-slice-aggregate-transposed-3
-slice-aggregate-transposed-3 c = search needs
-
-transposed-requires : tie.Need-transposed-requires
-transposed-requires c κs = decompose-hankel _ _ _ _ _ _ _ _ _ _ _ _ _ _ _ (c .before .before .before .before .before .before .before .before .before .before .before .before .before .before .before .before .before .before .before .pre) _ _ (c .before .before .before .before .before .before .before .before .before .before .blank .ensures) (c .before .before .before .before .before .before .before .before .before .blank2 .ensures) _ _ (c .before .before .before .before .before .before .moments .ensures)
-
-slice-aggregate-adjoint : tie.Need-slice-aggregate-adjoint
-slice-aggregate-adjoint c = search needs
-
-adjoint-requires : tie.Need-adjoint-requires
-adjoint-requires c κs = decompose-adjoint _ _ _ _ _ _ _ _ _ _ _ _ _ _ _ (c .before .before .before .before .before .before .before .before .before .before .before .before .before .before .before .before .before .before .before .before .before .before .before .before .pre) _ _ (c .before .before .before .before .before .before .before .before .before .before .before .before .before .before .before .blank .ensures) (c .before .before .before .before .before .before .before .before .before .before .before .before .before .before .blank2 .ensures) _ _ (c .before .before .before .before .before .before .before .before .before .before .before .moments .ensures) _ (c .before .before .before .before .transposed .ensures)
-
-divide-by-norms-requires : tie.Need-divide-by-norms-requires
-divide-by-norms-requires c κs = decompose-divide _ _ _ _ _ _ _ _ _ _ _ _ _ _ _ (c .before .before .before .before .before .before .before .before .before .before .before .before .before .before .before .before .before .before .before .before .before .before .before .before .before .before .before .before .before .before .pre) _ _ (c .before .before .before .before .before .before .before .before .before .before .before .before .before .before .before .before .before .before .before .before .before .blank .ensures) (c .before .before .before .before .before .before .before .before .before .before .before .before .before .before .before .before .before .before .before .before .blank2 .ensures) _ _ (c .before .before .before .before .before .before .before .before .before .before .before .before .before .before .before .before .before .moments .ensures) _ (c .before .before .before .before .before .before .before .before .before .before .transposed .ensures) _ _ (c .before .before .before .before .before .adjoint .ensures)
+clear-requires : tie.Need-clear-requires
+clear-requires c κs = search needs
 
 same-length : tie.Need-same-length
 same-length c = search needs
@@ -46,23 +24,32 @@ same-length-2 : tie.Need-same-length-2
 same-length-2 c = search needs
 
 returns : tie.Need-returns
-returns c = decompose-is _ _ _ _ _ _ _ _ _ _ _ _ _ _ _ (c .before .before .before .before .before .before .before .before .before .before .before .before .before .before .before .before .before .before .before .before .before .before .before .before .before .before .before .before .before .before .before .before .before .pre) _ _ (c .before .before .before .before .before .before .before .before .before .before .before .before .before .before .before .before .before .before .before .before .before .before .before .before .blank .ensures) (c .before .before .before .before .before .before .before .before .before .before .before .before .before .before .before .before .before .before .before .before .before .before .before .blank2 .ensures) _ _ (c .before .before .before .before .before .before .before .before .before .before .before .before .before .before .before .before .before .before .before .before .moments .ensures) _ (c .before .before .before .before .before .before .before .before .before .before .before .before .before .transposed .ensures) _ _ (c .before .before .before .before .before .before .before .before .adjoint .ensures) _ (c .before .before .divide-by-norms .ensures)
+returns c = decompose-one _ _ _ _ _ _ _ _ _ _ _ _ _ _ _ (c .before .before .before .before .before .before .before .before .before .before .before .before .before .before .pre) (c .before .before .before .before .before .if1 .taken) _ _ refl (c .before .before .clear .ensures)
+
+decompose-tree-requires : tie.Need-decompose-tree-requires
+decompose-tree-requires c κs = search needs
+
+same-length-3 : tie.Need-same-length-3
+same-length-3 c = search needs
+
+same-length-4 : tie.Need-same-length-4
+same-length-4 c = search needs
+
+returns-2 : tie.Need-returns-2
+returns-2 c = search needs
 
 pub decompose-spec : {M : Type 1} → statement M
 decompose-spec =
     tie.close
     (tie.spec
-    blank-requires
-    blank-requires-2
-    slice-aggregate-moments
-    moments-requires
-    slice-aggregate-transposed
-    slice-aggregate-transposed-2
-    slice-aggregate-transposed-3
-    transposed-requires
-    slice-aggregate-adjoint
-    adjoint-requires
-    divide-by-norms-requires
+    shared-slice-read-output
+    rem-output
+    slice-write-output
+    clear-requires
     same-length
     same-length-2
-    returns)
+    returns
+    decompose-tree-requires
+    same-length-3
+    same-length-4
+    returns-2)

@@ -39,7 +39,7 @@ same-length-4 : tie.Need-same-length-4
 same-length-4 c = search needs
 
 returns-2 : tie.Need-returns-2
-returns-2 c = wiped-output _ _ _ _ _ _ _ (c .before .before .before .before .before .before .before .before .adjoint-tree .ensures) (c .before .before .clear2 .ensures)
+returns-2 c = wiped-output _ _ _ _ _ _ _ _ _ _ (c .before .before .before .before .before .before .before .before .adjoint-tree .ensures) (c .before .before .clear2 .ensures)
 
 pub adjoint-spec : {M : Type 1} → statement M
 adjoint-spec =
