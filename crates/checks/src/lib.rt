@@ -3,10 +3,12 @@
 ghost use mathlib.Core.Path.{_≡_};
 ghost use mathlib.Core.List.{List, [], _∷_};
 ghost use Prim.Native.Nat.{ℕ, _<_};
+ghost use lib.Dec.{ltb};
 ghost use lib.ListN.{length};
 ghost use Rattle.definitions.specs.Answers.{answered};
 ghost use Rattle.definitions.specs.Family.{family};
-ghost use Rattle.definitions.specs.Refusals.{verdict, modulusTest, outputTest, workTest};
+ghost use Rattle.definitions.specs.Refusals.{test, verdict, modulusTest, outputTest, workTest};
+ghost use Rattle.definitions.specs.TextCall.{mostBytes};
 ghost use Rattle.checks.specs.Passes.{BelowAnswer, FactorAnswer};
 ghost use Rattle.checks.specs.Groups.{shapeTests, rowTests, lengthTests};
 use definitions::Answer;
@@ -152,5 +154,15 @@ pub fn family_rows(m: u32, a: &[u32], b: &[u32], c: &[u32]) -> Answer
     let Factors::Invertible = invertible(m, c) else {
         return Answer::Refused(11);
     };
+    Answer::Finished
+}
+
+// 1: the number of bytes of a job text.
+pub fn text_length(count: usize) -> Answer
+    ensures { λ r. ⌜ answered r ≡ verdict (test 1 (ltb mostBytes count) ∷ []) [] ⌝ }
+{
+    if 8192 < count {
+        return Answer::Refused(1);
+    }
     Answer::Finished
 }

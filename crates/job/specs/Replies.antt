@@ -75,7 +75,8 @@ module _ (operation : Operation) (m : ℕ) (a b c : List ℕ) (r : ℕ) (us : Li
     }
 
     -- the conversion has answered, and its list stands at the front of list′
-    module _ (tested : Answer) (list list′ work′ : List ℕ) (done : ConvertedIn (valueTests f u) (converted operation f u ++ drop count list) tested list list′ work work′) where
+    module _ (tested : Answer) (list list′ work′ : List ℕ)
+        (done : ConvertedIn (valueTests f u) (converted operation f u ++ drop count list) tested list list′ work work′) where
       pub values-refused : (k : ℕ) → tested ≡ Answer.Refused k → (v : Valued) → v ≡ withLength 0 tested → Replied operation f u v output output work work′
       values-refused k q v is =
           let n = length (replyText operation f u) in
@@ -98,7 +99,8 @@ module _ (operation : Operation) (m : ℕ) (a b c : List ℕ) (r : ℕ) (us : Li
         unfolding replyText
         text-is = ap (answerText operation) (sym (rw (sub-zero count, stored) (take-at (converted operation f u) (drop count list) count long)))
 
-        pub replied : (n : ℕ) (output′ : List ℕ) → AnswerWritten operation (take (count - 0) list′) n output output′ → Replied operation f u (Valued.Value n) output output′ work work′
+        pub replied : (n : ℕ) (output′ : List ℕ) → AnswerWritten operation (take (count - 0) list′) n output output′
+            → Replied operation f u (Valued.Value n) output output′ work work′
         replied n output′ p =
             let size : n ≡ length (replyText operation f u) = p .answer ∙ ap length (sym text-is) in
             let none = verdict-finished (valueTests f u) [] .0 (sym (done .answer) ∙ ap answered q) in

@@ -3,11 +3,11 @@
 use mathlib.Core.Bool.{true, false}
 use mathlib.Core.List.{List, [], _∷_, _++_}
 use mathlib.Core.Path.{_≡_, refl, sym, _∙_, ap, ap₂}
-use Prim.Native.Nat.{ℕ, _<_, _≤_}
+use Prim.Native.Nat.{ℕ, _≤_}
 use native.Mathlib.Omega.{arith}
-use lib.ListN.{length, take, drop, replicate, length-take, length-replicate}
-use borrow.Author.Tests.{lt-ltb, le-ltb}
-use Rattle.definitions.specs.Answers.{answered, after}
+use lib.Dec.{ltb}
+use lib.ListN.{length, take, replicate, length-take, length-replicate}
+use Rattle.definitions.specs.Answers.{answered}
 use Rattle.definitions.specs.Family.{Family, family}
 use Rattle.definitions.specs.Reading.{found, malformed, readJob}
 use Rattle.definitions.specs.Refusals.{Test, refused, verdict, test}
@@ -22,19 +22,28 @@ use Rattle.reader.specs.Storing.{Stored, kept-front}
 use Rattle.form.specs.Form.{JobAt}
 use Rattle.job.specs.Replies.{withLength, Ready, replyText, Replied}
 
+pub short-text : (t : List ℕ) (r : Answer) → answered r ≡ verdict (test 1 (ltb mostBytes (length t)) ∷ []) [] → r ≡ Answer.Finished → None (textLengthTest t ∷ [])
+unfolding textLengthTest
+short-text t r says q = verdict-finished (textLengthTest t ∷ []) [] .0 (sym says ∙ ap answered q)
+
 -- ---- a refusal
 module _ (t output work : List ℕ) where
-  pub refused-text : (k : ℕ) → verdict (textTests t (length output) (length work)) (length (reply t) ∷ []) ≡ refused k → TextConverted t (Valued.Refused k) output output work work
+  refused-text : (k : ℕ) → verdict (textTests t (length output) (length work)) (length (reply t) ∷ []) ≡ refused k
+      → TextConverted t (Valued.Refused k) output output work work
   refused-text k e = record { answer = sym e; written = refl; wiped = refl }
 
-  pub too-long : mostBytes < length t → TextConverted t (Valued.Refused 1) output output work work
+  pub too-long : (r : Answer) → answered r ≡ verdict (test 1 (ltb mostBytes (length t)) ∷ []) [] → (k : ℕ) → r ≡ Answer.Refused k
+      → (x : Valued) → x ≡ withLength 0 r → TextConverted t x output output work work
   unfolding textTests textLengthTest
-  too-long h = refused-text 1 (verdict-here (textLengthTest t) (formTests (readJob t) (length output) (length work)) _ (lt-ltb mostBytes (length t) h))
+  too-long r says k q x is =
+      let rest = formTests (readJob t) (length output) (length work) in
+      let no = verdict-stops rest (length (reply t) ∷ []) (textLengthTest t ∷ []) [] k (sym says ∙ ap answered q) in
+      rw (is ∙ ap (withLength 0) q) (refused-text k no)
 
-  module _ (short : length t ≤ mostBytes) where
+  module _ (short : None (textLengthTest t ∷ [])) where
     past-length : (vs : List ℕ) → verdict (textTests t (length output) (length work)) vs ≡ verdict (formTests (readJob t) (length output) (length work)) vs
-    unfolding textTests textLengthTest
-    past-length vs = verdict-next (textLengthTest t) (formTests (readJob t) (length output) (length work)) vs (le-ltb mostBytes (length t) short)
+    unfolding textTests
+    past-length vs = verdict-goes-on (formTests (readJob t) (length output) (length work)) vs (textLengthTest t ∷ []) short
 
     pub no-form : readJob t ≡ malformed → TextConverted t (Valued.Refused 2) output output work work
     unfolding formTests
@@ -59,7 +68,7 @@ front-is : (xs : List ℕ) (n r : ℕ) (old list : List ℕ) → old ≡ replica
 front-is xs n r old list z s e h = rw (sym e) (kept-front xs n old list s (omega (arith, ap length z ∙ length-replicate {A = ℕ} 128 0)))
 
 -- a₀, b₀, c₀ and v₀: the lists before they are read into, a, b, c and v after it
-module _ (t : List ℕ) (modulus : ℕ) (operation : Operation) (na nb nc nv : ℕ) (a₀ a b₀ b c₀ c v₀ v output work : List ℕ) (short : length t ≤ mostBytes)
+module _ (t : List ℕ) (modulus : ℕ) (operation : Operation) (na nb nc nv : ℕ) (a₀ a b₀ b c₀ c v₀ v output work : List ℕ) (short : None (textLengthTest t ∷ []))
     (stands : JobAt t modulus operation na nb nc nv a₀ a b₀ b c₀ c v₀ v)
     (az : a₀ ≡ replicate 128 0) (bz : b₀ ≡ replicate 128 0) (cz : c₀ ≡ replicate 128 0) (vz : v₀ ≡ replicate 128 0) where
   abbrev w : WrittenJob
@@ -76,7 +85,8 @@ module _ (t : List ℕ) (modulus : ℕ) (operation : Operation) (na nb nc nv : �
   whole : (vs : List ℕ) → verdict (textTests t (length output) (length work)) vs ≡ verdict (sizes ++ valueTests (meant w .family) (w .curve)) vs
   whole vs =
       past-form t output work short w (stands .read) vs
-      ∙ ap (λ ts. verdict ts vs) (job-tests (meant w .family) (w .operation) (w .curve) (length output) (length work) ∙ ap (λ ts. ts ++ valueTests (meant w .family) (w .curve)) sizes-are)
+      ∙ ap (λ ts. verdict ts vs) (job-tests (meant w .family) (w .operation) (w .curve) (length output) (length work)
+      ∙ ap (λ ts. ts ++ valueTests (meant w .family) (w .curve)) sizes-are)
 
   module _ (r : Answer) (says : answered r ≡ verdict sizes []) where
     pub sizes-refused : (k : ℕ) → r ≡ Answer.Refused k → (x : Valued) → x ≡ withLength 0 r → TextConverted t x output output work work
@@ -135,7 +145,8 @@ module _ (t : List ℕ) (modulus : ℕ) (operation : Operation) (na nb nc nv : �
       values-left : (vs : List ℕ) → verdict (textTests t (length output) (length work)) vs ≡ verdict (valueTests loaded (take nv v)) vs
       values-left vs = whole vs ∙ verdict-goes-on _ vs sizes passed ∙ sym (ap₂ (λ f u. verdict (valueTests f u) vs) family-is curve-is)
 
-      pub text-answered : (x : Valued) (output′ work′ : List ℕ) → Replied operation loaded (take nv v) x output output′ work work′ → TextConverted t x output output′ work work′
+      pub text-answered : (x : Valued) (output′ work′ : List ℕ) → Replied operation loaded (take nv v) x output output′ work work′
+          → TextConverted t x output output′ work work′
       text-answered x output′ work′ p = record {
         answer = p .answer ∙ sym (rw reply-is (values-left _));
         written = p .written ∙ rw reply-is;

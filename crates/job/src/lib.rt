@@ -34,7 +34,9 @@ fn answer(
     work: &mut [u32],
 ) -> Valued
     requires { ⌜ Ready operation modulus (now a) (now b) (now c) rows (now curve) entries (now output) (now work) ⌝ }
-    ensures { λ r. ⌜ Replied operation (family modulus (take rows (now (a .entry))) (take rows (now (b .entry))) (take rows (now (c .entry)))) (take entries (now (curve .entry))) r (now (output .entry)) (now (output .exit)) (now (work .entry)) (now (work .exit)) ⌝ }
+    ensures { λ r. ⌜ Replied operation
+        (family modulus (take rows (now (a .entry))) (take rows (now (b .entry))) (take rows (now (c .entry)))) (take entries (now (curve .entry)))
+        r (now (output .entry)) (now (output .exit)) (now (work .entry)) (now (work .exit)) ⌝ }
 {
     let mut list = [0u32; 255];
     let count = operations::result_count(operation, rows);
@@ -66,9 +68,10 @@ fn answer(
 pub fn convert_text(text: &[u8], output: &mut [u8], work: &mut [u32]) -> Valued
     ensures { λ r. ⌜ TextConverted (now (text .entry)) r (now (output .entry)) (now (output .exit)) (now (work .entry)) (now (work .exit)) ⌝ }
 {
-    if 8192 < text.len() {
-        return Valued::Refused(1);
-    }
+    let fits = checks::text_length(text.len());
+    let Answer::Finished = fits else {
+        return with_length(fits, 0);
+    };
     let mut xs = polynomial::zeros();
     let mut ys = polynomial::zeros();
     let mut zs = polynomial::zeros();
