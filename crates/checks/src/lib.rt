@@ -3,10 +3,11 @@
 ghost use mathlib.Core.Path.{_≡_};
 ghost use mathlib.Core.List.{[], _∷_};
 ghost use Prim.Native.Nat.{_<_};
+ghost use lib.Dec.{ltb};
 ghost use Rattle.definitions.specs.Answers.{answered};
 ghost use Rattle.definitions.specs.Family.{family};
-ghost use Rattle.definitions.specs.Refusals.{verdict, modulusTest, outputTest, workTest, entriesTest, numberTest};
-ghost use Rattle.definitions.specs.TextCall.{textOutputTest};
+ghost use Rattle.definitions.specs.Refusals.{test, verdict, modulusTest, outputTest, workTest, entriesTest, numberTest};
+ghost use Rattle.definitions.specs.TextCall.{mostBytes, textOutputTest};
 ghost use Rattle.checks.specs.Passes.{BelowAnswer, FactorAnswer};
 ghost use Rattle.checks.specs.Groups.{countsTest, rowsTest, lengthTest, shapeTests, lengthTests, inverseRowTests, rowTests};
 use definitions::Answer;
@@ -68,6 +69,16 @@ pub fn invertible(m: u32, list: &[u32]) -> Factors
         i += 1;
     }
     Factors::Invertible
+}
+
+// 1: the number of bytes of a job text.
+pub fn text_length(count: usize) -> Answer
+    ensures { λ r. ⌜ answered r ≡ verdict (test 1 (ltb mostBytes count) ∷ []) [] ⌝ }
+{
+    if 8192 < count {
+        return Answer::Refused(1);
+    }
+    Answer::Finished
 }
 
 // 3: the range of the modulus.

@@ -1,26 +1,14 @@
-// The text call: a job text in, its answer text out. The lists are read by `reader`, converted by `operations` and
-// written by `writer`. Nothing is written before every test has passed, and it has no 'requires'.
+// The text call: a job text in, its answer text out. The lists are read by `form`, converted by `operations` and written by `writer`.
+// Nothing is written before every test has passed, and it has no 'requires'.
 ghost use mathlib.Core.Path.{_≡_};
-ghost use mathlib.Core.List.{_++_};
-ghost use lib.ListN.{drop, replicate};
+ghost use lib.ListN.{take};
+ghost use Rattle.definitions.specs.Family.{family};
 ghost use Rattle.definitions.specs.TextCall.{TextConverted};
-ghost use Rattle.reader.specs.Loading.{Loadable, readList};
-ghost use Rattle.job.specs.Texts.{withLength, Ready};
+ghost use Rattle.job.specs.Replies.{withLength, Ready, Replied};
 use definitions::Answer;
 use definitions::Operation;
 use definitions::Valued;
-use reader::Form;
-use reader::Span;
-
-// A list that stands in a text.
-fn loaded(text: &[u8], at: usize, count: usize) -> [u32; 128]
-    requires { ⌜ Loadable (now text) at count (replicate 128 0) ⌝ }
-    ensures { λ r. ⌜ r ≡ readList (drop at (now (text .entry))) ++ drop count (replicate 128 0) ⌝ }
-{
-    let mut list = [0u32; 128];
-    reader::load_numbers(text, at, count, &mut list);
-    list
-}
+use form::Form;
 
 // An answer with a length in its finished kind.
 fn with_length(answer: Answer, length: u32) -> Valued
@@ -32,37 +20,34 @@ fn with_length(answer: Answer, length: u32) -> Valued
     }
 }
 
-// The job that stands in a text, once its sizes are in order.
+// The answer text of an operation on the fronts of the lists, once its sizes are in order: 9 to 12 are still to be tested.
 fn answer(
-    text: &[u8],
-    modulus: u32,
     operation: Operation,
-    a: Span,
-    b: Span,
-    c: Span,
-    curve: Span,
+    modulus: u32,
+    a: &[u32],
+    b: &[u32],
+    c: &[u32],
+    rows: usize,
+    curve: &[u32],
+    entries: usize,
     output: &mut [u8],
     work: &mut [u32],
 ) -> Valued
-    requires { ⌜ Ready (now text) modulus operation a b c curve (now output) (now work) ⌝ }
-    ensures { λ r. ⌜ TextConverted (now (text .entry)) r (now (output .entry)) (now (output .exit)) (now (work .entry)) (now (work .exit)) ⌝ }
+    requires { ⌜ Ready operation modulus (now a) (now b) (now c) rows (now curve) entries (now output) (now work) ⌝ }
+    ensures { λ r. ⌜ Replied operation
+        (family modulus (take rows (now (a .entry))) (take rows (now (b .entry))) (take rows (now (c .entry)))) (take entries (now (curve .entry)))
+        r (now (output .entry)) (now (output .exit)) (now (work .entry)) (now (work .exit)) ⌝ }
 {
-    let rows = a.count;
-    let entries = curve.count;
-    let xs = loaded(text, a.at, rows);
-    let ys = loaded(text, b.at, b.count);
-    let zs = loaded(text, c.at, c.count);
-    let us = loaded(text, curve.at, entries);
     let mut list = [0u32; 255];
     let count = operations::result_count(operation, rows);
     let tested = operations::convert_parts(
         operation,
         modulus,
-        &xs,
-        &ys,
-        &zs,
+        a,
+        b,
+        c,
         rows,
-        &us,
+        curve,
         entries,
         &mut list,
         count,
@@ -83,9 +68,14 @@ fn answer(
 pub fn convert_text(text: &[u8], output: &mut [u8], work: &mut [u32]) -> Valued
     ensures { λ r. ⌜ TextConverted (now (text .entry)) r (now (output .entry)) (now (output .exit)) (now (work .entry)) (now (work .exit)) ⌝ }
 {
-    if 8192 < text.len() {
-        return Valued::Refused(1);
-    }
+    let fits = checks::text_length(text.len());
+    let Answer::Finished = fits else {
+        return with_length(fits, 0);
+    };
+    let mut xs = polynomial::zeros();
+    let mut ys = polynomial::zeros();
+    let mut zs = polynomial::zeros();
+    let mut us = polynomial::zeros();
     let Form::Job {
         modulus,
         operation,
@@ -93,22 +83,24 @@ pub fn convert_text(text: &[u8], output: &mut [u8], work: &mut [u32]) -> Valued
         b,
         c,
         curve,
-    } = reader::job_form(text)
+    } = form::job_form(text, &mut xs, &mut ys, &mut zs, &mut us)
     else {
         return Valued::Refused(2);
     };
-    let sized = operations::sizes(
-        modulus,
-        operation,
-        a.count,
-        b.count,
-        c.count,
-        curve.count,
-        output.len(),
-        work.len(),
-    );
+    let sized = operations::sizes(modulus, operation, a, b, c, curve, output.len(), work.len());
     let Answer::Finished = sized else {
         return with_length(sized, 0);
     };
-    answer(text, modulus, operation, a, b, c, curve, output, work)
+    answer(
+        operation,
+        modulus,
+        &xs,
+        &ys,
+        &zs,
+        a,
+        &us,
+        curve,
+        output,
+        work,
+    )
 }

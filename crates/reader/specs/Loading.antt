@@ -1,125 +1,175 @@
--- Loading a list of numbers.
---   readList t                the numbers that are read off the front of t
---   Loadable t at n out       a list of n numbers stands in t at place at, and out has room for it
---   Loading t at n old out i k   the first k of them are in out, and the next one begins at place i
--- Proved: how loading begins, goes on and ends; no number is missing on the way; what is read at a place where a list stands is
--- that list (list-at), and the front of what was loaded is it (loaded-front). Assumes nothing.
+-- One step of loading the numbers of a line.
+--   onto done f               the answer f, with the numbers done before those that were read
+--   Loading t at old out k i  k numbers of the list that begins at place at are read and put into out, and the next begins at place i
+-- Proved: how loading begins, goes on and ends. Assumes nothing.
 use mathlib.Core.Path.{_≡_, refl, sym, _∙_, ap}
-use mathlib.Core.List.{List, [], _∷_, _++_, append-assoc, append-nil}
-use Prim.Native.Nat.{ℕ, suc, _+_, _<_, _≤_}
+use mathlib.Core.Bool.{Bool, true, false}
+use mathlib.Core.List.{List, [], _∷_, _++_, append-assoc}
+use Prim.Native.Nat.{ℕ, zero, suc, _+_, _-_, _<_, _≤_}
 use native.Mathlib.Numerals.{add-one}
 use native.Mathlib.Omega.{arith}
-use lib.ListN.{length, getD, take, drop, set, length-append, length-set}
-use lib.Seq.{drop-cons, drop-drop, set-at, take-at}
-use Rattle.definitions.specs.Text.{newline, decimal, spaced, numbers}
-use Rattle.definitions.specs.Reading.{Front, got, bad, readNumber, readNumbers}
-use Rattle.theory.specs.DecimalReading.{got-not-bad}
-use Rattle.theory.specs.NumbersReading.{read-first, read-numbers, spaced-numbers}
+use lib.ListN.{length, drop, getD, set, length-append, length-drop, length-set, drop-of-length-le}
+use lib.Seq.{drop-cons}
+use borrow.Author.Tests.{ne-eqb}
+use Rattle.definitions.specs.Text.{newline, space}
+use Rattle.definitions.specs.Reading.{Front, got, bad, readKey, isDigit, readNumber, put, readOn, readSome, readNumbers, ended}
+use Rattle.theory.specs.NumbersReading.{readSome-step}
 use Rattle.reader.specs.Places.{NumberAt}
-use Rattle.reader.specs.Lines.{NumbersAt}
+use Rattle.reader.specs.Digits.{number-past, number-other}
+use Rattle.reader.specs.Storing.{kept, ListAt, kept-none, kept-next}
 
-abbrev pub listOf : Front (List ℕ) → List ℕ
-listOf (got xs rest) = xs
-listOf bad = []
+abbrev pub onto : List ℕ → Front (List ℕ) → Front (List ℕ)
+onto done (got xs rest) = got (done ++ xs) rest
+onto done bad = bad
 
-unfoldable pub readList : List ℕ → List ℕ
-readList t = listOf (readNumbers t)
+onto-none : (f : Front (List ℕ)) → f ≡ onto [] f
+onto-none (got xs rest) = refl
+onto-none bad = refl
 
-pub record Loadable (t : List ℕ) (at n : ℕ) (out : List ℕ) : Type 0 where
-  pub xs : List ℕ
-  pub stands : NumbersAt t at n xs
-  pub room : n ≤ length out
+onto-put : (done : List ℕ) (x : ℕ) (f : Front (List ℕ)) → onto done (put x f) ≡ onto (done ++ x ∷ []) f
+onto-put done x (got xs rest) = ap (λ ys. got ys rest) (sym (append-assoc done (x ∷ []) xs))
+onto-put done x bad = refl
 
-pub list-at : (t : List ℕ) (at n : ℕ) (xs : List ℕ) → NumbersAt t at n xs → readList (drop at t) ≡ xs
-unfolding readList
-list-at t at n xs h = ap (λ q. listOf (readNumbers q)) (h .text) ∙ ap listOf (read-numbers xs (h .rest) (h .writable))
+-- ---- the end of a line
+ended-put : (x : ℕ) (r : Front (List ℕ)) → ended (put x r) ≡ put x (ended r)
+unfolding ended
+ended-put x (got xs t) = cases (readKey (newline ∷ []) t) refl
+  where
+    cases : (f : Front (Unit {0})) → readKey (newline ∷ []) t ≡ f → ended (put x (got xs t)) ≡ put x (ended (got xs t))
+    cases (got u rest) e = rw e
+    cases bad e = rw e
+ended-put x bad = refl
 
--- for a caller: the front of the list after loading
-pub loaded-front : (t : List ℕ) (at n : ℕ) (xs old new : List ℕ) → NumbersAt t at n xs → new ≡ readList (drop at t) ++ drop n old → take n new ≡ xs
-loaded-front t at n xs old new h e =
-    ap (take n) (e ∙ ap (λ ys. ys ++ drop n old) (list-at t at n xs h)) ∙ take-at xs (drop n old) n (h .count)
+module _ (xs : List ℕ) where
+  ended-here : (rest : List ℕ) → ended (got xs (newline ∷ rest)) ≡ got xs rest
+  unfolding ended readKey
+  ended-here rest = refl
 
--- ---- the first number of a list, and the rest of it
-first-at : (t : List ℕ) (i n x : ℕ) (xs : List ℕ) (h : NumbersAt t i n (x ∷ xs)) → readNumber (drop i t) ≡ got x (spaced xs ++ newline ∷ h .rest)
-unfolding numbers
-first-at t i n x xs h = ap readNumber (h .text ∙ append-assoc (decimal x) (spaced xs) (newline ∷ h .rest)) ∙ read-first x xs (h .rest) (h .writable .0)
+  ended-past : ended (got xs []) ≡ bad
+  unfolding ended readKey
+  ended-past = refl
 
-rest-at : (t : List ℕ) (i n x : ℕ) (xs : List ℕ) (h : NumbersAt t i n (x ∷ xs)) (next : ℕ) → drop next t ≡ spaced xs ++ newline ∷ h .rest
-    → 0 < length xs → NumbersAt t (next + 1) (length xs) xs
-rest-at t i n x xs h next e l = record {
-  count = refl;
-  writable = h .writable .1;
-  rest = h .rest;
-  text = sym (drop-drop 1 next t) ∙ ap (drop 1) (e ∙ ap (λ s. s ++ newline ∷ h .rest) (spaced-numbers xs l));
-}
+  ended-other : (b : ℕ) (rest : List ℕ) → (b ≡ newline → ⊥) → ended (got xs (b ∷ rest)) ≡ bad
+  unfolding ended readKey
+  ended-other b rest n = rw (ne-eqb b newline n)
 
--- ---- loading
-pub record Loading (t : List ℕ) (at n : ℕ) (old out : List ℕ) (i k : ℕ) : Type 0 where
-  pub done : List ℕ
-  pub left : List ℕ
-  pub count : length done ≡ k
-  pub total : k + length left ≡ n
-  pub all : readList (drop at t) ≡ done ++ left
-  pub ahead : 0 < length left → NumbersAt t i (length left) left
-  pub stored : out ≡ done ++ drop k old
-  pub size : length out ≡ length old
+ended-bad : ended {A = List ℕ} bad ≡ bad
+unfolding ended
+ended-bad = refl
 
-stored-next : (done old : List ℕ) (k x : ℕ) → length done ≡ k → k < length old → set (done ++ drop k old) k x ≡ (done ++ x ∷ []) ++ drop (k + 1) old
-stored-next done old k x e l =
-    rw (drop-cons old k 0) (set-at done (getD old k 0) (drop (suc k) old) x k e) ∙ sym (append-assoc done (x ∷ []) (drop (suc k) old)) ∙ rw add-one
+some-bad : (f : ℕ) (q : List ℕ) → readNumber q ≡ bad → readSome f q ≡ bad
+unfolding readSome
+some-bad zero q e = refl
+some-bad (suc f) q e = rw e
 
-module _ (t : List ℕ) (at n : ℕ) (old : List ℕ) where
-  pub loading-starts : Loadable t at n old → Loading t at n old old at 0
-  loading-starts h =
-      let stands = h .stands in
-      record {
-        done = [];
-        left = h .xs;
-        count = refl;
-        total = omega (arith, stands .count);
-        all = list-at t at n (h .xs) stands;
-        ahead = λ l. record { count = refl; writable = stands .writable; rest = stands .rest; text = stands .text };
-        stored = refl;
-        size = refl;
-      }
+-- ---- where a list begins
+module _ (t : List ℕ) (at : ℕ) (old : List ℕ) where
+  abbrev list : Front (List ℕ)
+  list = ended (readNumbers (drop at t))
 
-  module _ (out : List ℕ) (i k : ℕ) (h : Loading t at n old out i k) where
-    pub loading-ends : n ≤ k → out ≡ readList (drop at t) ++ drop n old
-    loading-ends l = none (h .left) (omega (arith, h .total)) (h .all)
+  pub record Loading (out : List ℕ) (k i : ℕ) : Type 0 where
+    pub inside : i ≤ length t
+    pub passed : at + k ≤ i
+    pub done : List ℕ
+    pub count : length done ≡ k
+    pub same : list ≡ onto done (ended (readSome (length t - (at + k)) (drop i t)))
+    pub front : out ≡ kept done old
+    pub size : length out ≡ length old
+
+  pub list-past : length t ≤ at → list ≡ bad
+  unfolding readNumbers
+  list-past h = rw (drop-of-length-le t {i = at} h, ended-past)
+
+  module _ (l : at < length t) where
+    pub list-empty : getD t at 0 ≡ newline → ListAt t list 0 (at + 1) old old
+    unfolding readNumbers isDigit
+    list-empty e = record {
+      xs = [];
+      read = rw (drop-cons t at 0, e, ended-here, ← add-one at);
+      inside = omega arith;
+      stored = record { count = refl; front = sym (kept-none old) };
+    }
+
+    -- a byte that is neither a digit nor byte 10 is wrong either way
+    readNumbers-some : (getD t at 0 ≡ newline → ⊥) → list ≡ ended (readSome (length (drop at t)) (drop at t))
+    unfolding readNumbers
+    readNumbers-some n = cases (isDigit (getD t at 0)) refl
       where
-        none : (left : List ℕ) → length left ≡ 0 → readList (drop at t) ≡ h .done ++ left → out ≡ readList (drop at t) ++ drop n old
-        none [] z e =
-            let same : k ≡ n = omega (arith, h .total) in
-            h .stored ∙ ap (λ j. h .done ++ drop j old) same ∙ ap (λ q. q ++ drop n old) (sym (e ∙ append-nil (h .done)))
-        none (x ∷ xs) z e = absurd (omega arith)
+        cases : (d : Bool) → isDigit (getD t at 0) ≡ d → ended (readNumbers (drop at t)) ≡ ended (readSome (length (drop at t)) (drop at t))
+        cases true d = ap ended (rw (drop-cons t at 0, d))
+        cases false d =
+            let none : ended (readNumbers (drop at t)) ≡ bad = rw (drop-cons t at 0, d, ended-other [] (getD t at 0) (drop (suc at) t) n) in
+            none ∙ sym (ap ended (some-bad (length (drop at t)) (drop at t) (number-other t at l d)) ∙ ended-bad)
 
-    module _ (l : k < n) where
-      pub loading-never : readNumber (drop i t) ≡ bad → ⊥
-      loading-never e = none (h .left) (omega (arith, h .total)) (h .ahead)
-        where
-          none : (left : List ℕ) → 0 < length left → (0 < length left → NumbersAt t i (length left) left) → ⊥
-          none [] p ahead = absurd (omega arith)
-          none (x ∷ xs) p ahead = got-not-bad (sym e ∙ first-at t i (length (x ∷ xs)) x xs (ahead p))
+    pub loading-starts : (getD t at 0 ≡ newline → ⊥) → Loading old 0 at
+    loading-starts n =
+        let f : length (drop at t) ≡ length t - (at + 0) = omega (arith, length-drop at t) in
+        record {
+          inside = omega arith;
+          passed = omega arith;
+          done = [];
+          count = refl;
+          same = readNumbers-some n ∙ ap (λ k. ended (readSome k (drop at t))) f ∙ onto-none (ended (readSome (length t - (at + 0)) (drop at t)));
+          front = sym (kept-none old);
+          size = refl;
+        }
 
-      pub loading-next : (x next : ℕ) → NumberAt t i x next → k < length old → Loading t at n old (set out k x) (next + 1) (k + 1)
-      loading-next x next f w = step (h .left) (omega (arith, h .total)) (h .total) (h .all) (h .ahead)
-        where
-          step : (left : List ℕ) → 0 < length left → k + length left ≡ n → readList (drop at t) ≡ h .done ++ left
-              → (0 < length left → NumbersAt t i (length left) left) → Loading t at n old (set out k x) (next + 1) (k + 1)
-          step [] p total all ahead = absurd (omega arith)
-          step (y ∷ ys) p total all ahead =
-              let here = ahead p in
-              let first = first-at t i (length (y ∷ ys)) y ys here in
-              let read = f .read in
-              let same : x ≡ y = cc in
-              let rest : drop next t ≡ spaced ys ++ newline ∷ here .rest = cc in
-              record {
-                done = h .done ++ x ∷ [];
-                left = ys;
-                count = length-append (h .done) (x ∷ []) ∙ ap (λ j. j + 1) (h .count);
-                total = omega arith;
-                all = all ∙ ap (λ z. h .done ++ z ∷ ys) (sym same) ∙ sym (append-assoc (h .done) (x ∷ []) ys);
-                ahead = rest-at t i (length (y ∷ ys)) y ys here next rest;
-                stored = ap (λ q. set q k x) (h .stored) ∙ stored-next (h .done) old k x (h .count) w;
-                size = length-set out k x ∙ h .size;
-              }
+  -- ---- one number and the byte after it
+  module _ (out : List ℕ) (k i : ℕ) (c : Loading out k i) where
+    pub loading-none : readNumber (drop i t) ≡ bad → list ≡ bad
+    loading-none e = c .same ∙ rw (some-bad (length t - (at + k)) (drop i t) e, ended-bad)
+
+    pub loading-past : length t ≤ i → list ≡ bad
+    loading-past h = loading-none (number-past t i h)
+
+    module _ (x next : ℕ) (e : NumberAt t i x next) where
+      some-turn : readSome (length t - (at + k)) (drop i t) ≡ readOn (readSome (length t - (at + (k + 1)))) x (drop next t)
+      some-turn =
+          let f : length t - (at + k) ≡ suc (length t - (at + (k + 1))) = omega (arith, e .on, e .inside, c .passed) in
+          ap (λ j. readSome j (drop i t)) f ∙ readSome-step (length t - (at + (k + 1))) x (drop i t) (drop next t) (e .read)
+
+      pub loading-open : length t ≤ next → list ≡ bad
+      unfolding readOn
+      loading-open h = c .same ∙ rw (some-turn, drop-of-length-le t {i = next} h, ended-past)
+
+      module _ (l : next < length t) where
+        pub loading-other : (getD t next 0 ≡ space → ⊥) → (getD t next 0 ≡ newline → ⊥) → list ≡ bad
+        unfolding readOn
+        loading-other m n =
+            let b = getD t next 0 in
+            c .same ∙ rw (some-turn, drop-cons t next 0, ne-eqb b space m, ended-other (x ∷ []) b (drop (suc next) t) n)
+
+        module _ (out′ : List ℕ) (w : out′ ≡ set out k x) where
+          more : List ℕ
+          more = c .done ++ x ∷ []
+
+          more-count : length more ≡ k + 1
+          unfolding more
+          more-count = length-append (c .done) (x ∷ []) ∙ ap (λ j. j + 1) (c .count)
+
+          more-front : out′ ≡ kept more old
+          unfolding more
+          more-front = w ∙ rw (← c .count, c .front) (kept-next (c .done) old x)
+
+          pub loading-next : getD t next 0 ≡ space → Loading out′ (k + 1) (next + 1)
+          unfolding readOn more
+          loading-next b = record {
+            inside = omega arith;
+            passed = omega (arith, e .on, c .passed);
+            done = more;
+            count = more-count;
+            same = c .same
+                ∙ rw (some-turn, drop-cons t next 0, b, ended-put, add-one next)
+                (onto-put (c .done) x (ended (readSome (length t - (at + (k + 1))) (drop (suc next) t))));
+            front = more-front;
+            size = ap length w ∙ length-set out k x ∙ c .size;
+          }
+
+          pub loading-ends : getD t next 0 ≡ newline → ListAt t list (k + 1) (next + 1) old out′
+          unfolding readOn more
+          loading-ends b = record {
+            xs = more;
+            read = c .same ∙ rw (some-turn, drop-cons t next 0, b, ended-here, ← add-one next);
+            inside = omega arith;
+            stored = record { count = more-count; front = more-front };
+          }

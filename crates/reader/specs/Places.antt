@@ -1,6 +1,5 @@
 -- What the reader answers: the place after what was read, in a text of n bytes, for what is left of the text.
---   placed n r         a number that was read;  chosen n r  an operation
---   spanned at n r     a list that was read, which begins at place at
+--   placed n r         a number that was read
 --   opens r            whether a key stands there
 --   NumberAt t i x j   the number x stands in t from place i to place j
 -- Proved: what an answer says of the reader's; where something stands at a place, what is left begins right after it; an answer of
@@ -15,25 +14,13 @@ use lib.ListN.{length, drop, length-append, length-drop}
 use lib.Seq.{drop-append-seam, drop-drop}
 use Rattle.definitions.specs.Text.{decimal}
 use Rattle.definitions.specs.Reading.{Front, got, bad, readNumber}
-use Rattle.definitions.specs.declared.Operation.{Operation}
 use Rattle.theory.specs.Decimal.{decimal-not-empty}
 use Rattle.theory.specs.DecimalReading.{decimal-read}
 use Rattle.reader.specs.declared.Number.{Number}
-use Rattle.reader.specs.declared.Span.{Span}
-use Rattle.reader.specs.declared.Numbers.{Numbers}
-use Rattle.reader.specs.declared.Choice.{Choice}
 
 abbrev pub placed : ℕ → Front ℕ → Number
 placed n (got x rest) = Number.Found x (n - length rest)
 placed n bad = Number.Wrong
-
-abbrev pub spanned : ℕ → ℕ → Front (List ℕ) → Numbers
-spanned at n (got xs rest) = Numbers.Found (record { at = at; count = length xs }) (n - length rest)
-spanned at n bad = Numbers.Wrong
-
-abbrev pub chosen : ℕ → Front Operation → Choice
-chosen n (got operation rest) = Choice.Found operation (n - length rest)
-chosen n bad = Choice.Wrong
 
 abbrev pub opens : Front (Unit {0}) → Bool
 opens (got u rest) = true
@@ -44,43 +31,25 @@ wrong-way : _≡_ {A = ℕ} 0 1 → ⊥
 wrong-way e = omega arith
 
 module _ (n : ℕ) where
-  pub placed-found : (f : Front ℕ) (x next : ℕ) → placed n f ≡ Number.Found x next → (rest : List ℕ) × (f ≡ got x rest) × (next ≡ n - length rest)
+  placed-found : (f : Front ℕ) (x next : ℕ) → placed n f ≡ Number.Found x next → (rest : List ℕ) × (f ≡ got x rest) × (next ≡ n - length rest)
   placed-found (got y rest) x next e = (rest, cc, cc)
   placed-found bad x next e = absurd (wrong-way cc)
 
-  pub placed-missed : (f : Front ℕ) → placed n f ≡ Number.Wrong → f ≡ bad
+  placed-missed : (f : Front ℕ) → placed n f ≡ Number.Wrong → f ≡ bad
   placed-missed (got x rest) e = absurd (wrong-way cc)
   placed-missed bad e = refl
-
-  pub spanned-found : (at : ℕ) (f : Front (List ℕ)) (s : Span) (next : ℕ) → spanned at n f ≡ Numbers.Found s next
-      → (xs : List ℕ) × (rest : List ℕ) × (f ≡ got xs rest) × (s ≡ record { at = at; count = length xs }) × (next ≡ n - length rest)
-  spanned-found at (got xs rest) s next e = (xs, rest, refl, cc, cc)
-  spanned-found at bad s next e = absurd (wrong-way cc)
-
-  pub spanned-missed : (at : ℕ) (f : Front (List ℕ)) → spanned at n f ≡ Numbers.Wrong → f ≡ bad
-  spanned-missed at (got xs rest) e = absurd (wrong-way cc)
-  spanned-missed at bad e = refl
-
-  pub chosen-found : (f : Front Operation) (operation : Operation) (next : ℕ) → chosen n f ≡ Choice.Found operation next
-      → (rest : List ℕ) × (f ≡ got operation rest) × (next ≡ n - length rest)
-  chosen-found (got o rest) operation next e = (rest, cc, cc)
-  chosen-found bad operation next e = absurd (wrong-way cc)
-
-  pub chosen-missed : (f : Front Operation) → chosen n f ≡ Choice.Wrong → f ≡ bad
-  chosen-missed (got o rest) e = absurd (wrong-way cc)
-  chosen-missed bad e = refl
 
 -- ---- places
 pub place-drop : (t : List ℕ) (i : ℕ) → i ≤ length t → length t - length (drop i t) ≡ i
 place-drop t i h = omega (arith, length-drop i t)
 
 -- what is left of t after `front`, which stands at place at
-pub record Rest (t : List ℕ) (at : ℕ) (front rest : List ℕ) : Type 0 where
-  pub inside : at + length front ≤ length t
-  pub place : length t - length rest ≡ at + length front
-  pub left : drop (length t - length rest) t ≡ rest
+record Rest (t : List ℕ) (at : ℕ) (front rest : List ℕ) : Type 0 where
+  inside : at + length front ≤ length t
+  place : length t - length rest ≡ at + length front
+  left : drop (length t - length rest) t ≡ rest
 
-pub rest-after : (t : List ℕ) (at : ℕ) (front rest : List ℕ) → drop at t ≡ front ++ rest → 0 < length front → Rest t at front rest
+rest-after : (t : List ℕ) (at : ℕ) (front rest : List ℕ) → drop at t ≡ front ++ rest → 0 < length front → Rest t at front rest
 rest-after t at front rest e h =
     let n : length t - at ≡ length front + length rest = sym (length-drop at t) ∙ ap length e ∙ length-append front rest in
     let place : length t - length rest ≡ at + length front = omega arith in

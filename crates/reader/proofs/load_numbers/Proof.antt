@@ -1,21 +1,34 @@
--- `load_numbers` loads a list. The loop's invariant: the numbers loaded and those ahead are the list that stands there, so no
--- number is missing on the way. Assumes nothing.
+-- `load_numbers` loads the numbers up to the end of a line. The loop's invariant: reading on from here, with the numbers
+-- loaded before it, is reading from where the list began. Assumes nothing.
 use Prim.Native.Nat.{_-_}
 use native.Mathlib.Omega.{arith}
+use lib.ListN.{length}
 use borrow.Author.Needs.{needs}
 use Rattle.reader.specs.Places.{number-found, number-missed}
-use Rattle.reader.specs.Loading.{Loading, loading-starts, loading-ends, loading-never, loading-next}
+use Rattle.reader.specs.Loading.{Loading, list-past, list-empty, loading-starts, loading-none, loading-past, loading-open, loading-next, loading-ends, loading-other}
 use Rattle.reader.proofs.load_numbers.Statement.{statement}
 use Rattle.reader.proofs.load_numbers.Tie as tie
 
 abbrev Inv-loop : tie.InvT-loop
-Inv-loop text at count out₀ i₀ k₀ out i k = Loading text at count out₀ out i k
+Inv-loop text at out₀ i₀ count₀ out i count = Loading text at out₀ out count i
 
 abbrev μ-loop : tie.MeasureT-loop
-μ-loop text at count out₀ i₀ k₀ out i k = count - k
+μ-loop text at out₀ i₀ count₀ out i count = length text - i
+
+returns : tie.Need-returns Inv-loop μ-loop
+returns c = list-past _ _ (c .before .before .before .args .out .now) (c .if1 .taken)
+
+shared-slice-read-if2 : tie.Need-shared-slice-read-if2 Inv-loop μ-loop
+shared-slice-read-if2 c = omega arith
+
+add-t13 : tie.Need-add-t13 Inv-loop μ-loop
+add-t13 c = omega arith
+
+returns-2 : tie.Need-returns-2 Inv-loop μ-loop
+returns-2 c = list-empty _ _ _ (c .before .before .if1 .left) (c .if2 .taken)
 
 loop-holds : tie.Need-loop-holds Inv-loop μ-loop
-loop-holds c = loading-starts _ _ _ _ (c .before .before .pre)
+loop-holds c = loading-starts _ _ _ (c .before .before .if1 .left) (c .if2 .left)
 
 read-number-requires : tie.Need-read-number-requires Inv-loop μ-loop
 read-number-requires c κs = tt
@@ -29,32 +42,53 @@ enum-told c = search needs
 same-length : tie.Need-same-length Inv-loop μ-loop
 same-length c = c .before .before .before .before .loop .inv .size
 
-returns : tie.Need-returns Inv-loop μ-loop
-returns c = absurd (loading-never _ _ _ _ _ _ _ (c .before .before .before .before .loop .inv) (c .before .before .before .loop-test .taken) (number-missed (c .before .before .before .before .before .before .before .args .text .now) (c .before .before .before .before .loop .i) _ (c .before .before .read-number .ensures) (c .enum-told .given .1)))
-
-mul-out : tie.Need-mul-out Inv-loop μ-loop
-mul-out c = omega arith
-
-slice-write-out : tie.Need-slice-write-out Inv-loop μ-loop
-slice-write-out c = omega arith
-
-add-i : tie.Need-add-i Inv-loop μ-loop
-add-i c = omega (arith, number-found (c .before .before .before .before .before .before .before .before .args .text .now) (c .before .before .before .before .before .loop .i) _ (c .before .before .before .read-number .ensures) _ _ (c .before .x .given .1) .inside)
-
-add-k : tie.Need-add-k Inv-loop μ-loop
-add-k c = omega arith
-
-loop-less : tie.Need-loop-less Inv-loop μ-loop
-loop-less c = omega arith
-
-loop-again : tie.Need-loop-again Inv-loop μ-loop
-loop-again c = loading-next _ _ _ _ _ _ _ (c .before .before .before .before .before .loop .inv) (c .before .before .before .before .loop-test .taken) _ _ (number-found _ _ _ (c .before .before .before .read-number .ensures) _ _ (c .before .x .given .1)) (omega arith)
+returns-3 : tie.Need-returns-3 Inv-loop μ-loop
+returns-3 c = loading-none _ _ _ _ _ _ (c .before .before .before .before .loop .inv) (number-missed (c .before .before .before .before .before .before .before .before .before .before .args .text .now) (c .before .before .before .before .loop .i) _ (c .before .before .read-number .ensures) (c .enum-told .given .1))
 
 same-length-2 : tie.Need-same-length-2 Inv-loop μ-loop
-same-length-2 c = c .before .loop .inv .size
+same-length-2 c = c .before .before .before .before .before .before .loop .inv .size
 
-returns-2 : tie.Need-returns-2 Inv-loop μ-loop
-returns-2 c = loading-ends _ _ _ _ _ _ _ (c .before .loop .inv) (c .loop-test .left)
+returns-4 : tie.Need-returns-4 Inv-loop μ-loop
+returns-4 c = loading-open _ _ _ _ _ _ (c .before .before .before .before .before .before .loop .inv) _ _ (number-found _ _ _ (c .before .before .before .before .read-number .ensures) _ _ (c .before .before .x .given .1)) (c .if3 .taken)
+
+store-requires : tie.Need-store-requires Inv-loop μ-loop
+store-requires c κs = tt
+
+add-count : tie.Need-add-count Inv-loop μ-loop
+add-count c = omega arith
+
+shared-slice-read-b : tie.Need-shared-slice-read-b Inv-loop μ-loop
+shared-slice-read-b c = omega arith
+
+add-i : tie.Need-add-i Inv-loop μ-loop
+add-i c = omega arith
+
+loop-less : tie.Need-loop-less Inv-loop μ-loop
+loop-less c = omega (arith, number-found (c .before .before .before .before .before .before .before .before .before .before .before .before .before .before .before .before .before .before .args .text .now) (c .before .before .before .before .before .before .before .before .before .before .before .before .loop .i) _ (c .before .before .before .before .before .before .before .before .before .before .read-number .ensures) _ _ (c .before .before .before .before .before .before .before .before .x .given .1) .on)
+
+loop-again : tie.Need-loop-again Inv-loop μ-loop
+loop-again c = loading-next _ _ _ _ _ _ (c .before .before .before .before .before .before .before .before .before .before .before .before .loop .inv) _ _ (number-found _ _ _ (c .before .before .before .before .before .before .before .before .before .before .read-number .ensures) _ _ (c .before .before .before .before .before .before .before .before .x .given .1)) (c .before .before .before .before .before .before .if3 .left) _ (c .before .before .before .before .store .ensures) (c .match2 .keys1)
+
+add-t22 : tie.Need-add-t22 Inv-loop μ-loop
+add-t22 c = omega arith
+
+same-length-3 : tie.Need-same-length-3 Inv-loop μ-loop
+same-length-3 c = search needs
+
+returns-5 : tie.Need-returns-5 Inv-loop μ-loop
+returns-5 c = loading-ends _ _ _ _ _ _ (c .before .before .before .before .before .before .before .before .before .before .before .before .loop .inv) _ _ (number-found _ _ _ (c .before .before .before .before .before .before .before .before .before .before .read-number .ensures) _ _ (c .before .before .before .before .before .before .before .before .x .given .1)) (c .before .before .before .before .before .before .if3 .left) _ (c .before .before .before .before .store .ensures) (c .match2 .keys2)
+
+same-length-4 : tie.Need-same-length-4 Inv-loop μ-loop
+same-length-4 c = search needs
+
+returns-6 : tie.Need-returns-6 Inv-loop μ-loop
+returns-6 c = loading-other _ _ _ _ _ _ (c .before .before .before .before .before .before .before .before .before .before .before .before .loop .inv) _ _ (number-found _ _ _ (c .before .before .before .before .before .before .before .before .before .before .read-number .ensures) _ _ (c .before .before .before .before .before .before .before .before .x .given .1)) (c .before .before .before .before .before .before .if3 .left) (c .match2 .rest .0 .1) (c .match2 .rest .1)
+
+same-length-5 : tie.Need-same-length-5 Inv-loop μ-loop
+same-length-5 c = c .before .loop .inv .size
+
+returns-7 : tie.Need-returns-7 Inv-loop μ-loop
+returns-7 c = loading-past _ _ _ _ _ _ (c .before .loop .inv) (c .loop-test .left)
 
 pub load-numbers-spec : {M : Type 1} → statement M
 load-numbers-spec =
@@ -62,17 +96,28 @@ load-numbers-spec =
     (tie.spec
     Inv-loop
     μ-loop
+    returns
+    shared-slice-read-if2
+    add-t13
+    returns-2
     loop-holds
     read-number-requires
     enum-known-x
     enum-told
     same-length
-    returns
-    mul-out
-    slice-write-out
+    returns-3
+    same-length-2
+    returns-4
+    store-requires
+    add-count
+    shared-slice-read-b
     add-i
-    add-k
     loop-less
     loop-again
-    same-length-2
-    returns-2)
+    add-t22
+    same-length-3
+    returns-5
+    same-length-4
+    returns-6
+    same-length-5
+    returns-7)

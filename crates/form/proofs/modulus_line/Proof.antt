@@ -2,9 +2,9 @@
 use native.Mathlib.Omega.{arith}
 use borrow.Author.Tests.{not-true, not-false}
 use borrow.Author.Needs.{needs}
-use Rattle.reader.specs.Keys.{modulus-none, modulus-wrong, modulus-inside, modulus-open, modulus-end, modulus-found}
-use Rattle.reader.proofs.modulus_line.Statement.{statement}
-use Rattle.reader.proofs.modulus_line.Tie as tie
+use Rattle.form.specs.Lines.{modulus-none, modulus-wrong, modulus-inside, modulus-open, modulus-end, modulus-found}
+use Rattle.form.proofs.modulus_line.Statement.{statement}
+use Rattle.form.proofs.modulus_line.Tie as tie
 
 slice-aggregate-has-key : tie.Need-slice-aggregate-has-key
 slice-aggregate-has-key c = search needs

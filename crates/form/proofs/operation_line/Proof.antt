@@ -3,9 +3,10 @@
 use borrow.Author.Needs.{needs}
 use Rattle.definitions.specs.Text.{line, name}
 use Rattle.definitions.specs.declared.Operation.{Operation}
-use Rattle.reader.specs.Keys.{namedLine, key-found, key-missed, operation-found, operation-missed, each-operation}
-use Rattle.reader.proofs.operation_line.Statement.{statement}
-use Rattle.reader.proofs.operation_line.Tie as tie
+use Rattle.reader.specs.Keys.{key-found, key-missed}
+use Rattle.form.specs.Lines.{namedLine, operation-found, operation-missed, each-operation}
+use Rattle.form.proofs.operation_line.Statement.{statement}
+use Rattle.form.proofs.operation_line.Tie as tie
 
 slice-aggregate-has-key : tie.Need-slice-aggregate-has-key
 slice-aggregate-has-key c = search needs
