@@ -5,9 +5,11 @@
  * F_i = (a_i x + b_i) F_{i-1} + c_i F_{i-2}. n is r + 1 throughout. Lists have the lowest index or power first.
  *
  * What a function returns: ZAHUPNIK_FINISHED, and then the result that its comment states is written; or the number of a
- * refusal, and then nothing is written. It tests all that it is lent, so no number and no length is asked of the caller. Its
- * comment lists the refusals that it tests, in this order, each over all rows or entries before the next; the first that is the
- * case is returned.
+ * refusal, and then nothing is written, so that the output is what it was: look at the number before you use the output. A function
+ * tests all that it is lent, so no number and no length is asked of the caller. Its comment lists the refusals that it tests, in this
+ * order, each over all rows or entries before the next; the first that is the case is returned.
+ *
+ * Which way to take: the plain way is the quicker one at every size that bench/run measures, and the tree way gives the same list.
  *
  * A function of the tree way, zahupnik_moments and zahupnik_convert_text are lent a working list besides, of any length from
  * ZAHUPNIK_LEAST_WORK on, and what it holds does not matter. When the function has finished, the first ZAHUPNIK_LEAST_WORK numbers
@@ -18,6 +20,19 @@
  * output, the working list) overlaps nothing else that it is lent, and nobody else touches what is lent while the call runs.
  *
  * Nothing is allocated and nothing is kept, so calls from several threads do not disturb one another.
+ *
+ * The stack that a call takes at most, in bytes: measured by tests/stack/run on a painted stack and rounded up, not proved. It counts
+ * the arguments, and memcpy and memset of the C library once they are bound.
+ *     zahupnik_invert              64
+ *     zahupnik_plain_expand      1536
+ *     zahupnik_plain_adjoint     1536
+ *     zahupnik_plain_decompose   3072
+ *     zahupnik_norms             1024
+ *     zahupnik_tree_expand       2560
+ *     zahupnik_tree_adjoint      2560
+ *     zahupnik_tree_decompose   11264
+ *     zahupnik_moments           8704
+ *     zahupnik_convert_text     15360
  *
  * Build the library with `rt staticlib zahupnik` and link target/staticlib/libzahupnik.a; it is for x86-64 Linux. The functions
  * are proved to do this on every input (crates/zahupnik); that these declarations fit them is tested (tests/library).

@@ -2,9 +2,12 @@
  *
  * usage: differential [CASES [SEED [FIRST]]]
  *
- * Compares the number returned, all that a call writes, and that it writes nothing else (trial.h). Prints how often each call
- * gave each answer and exits 0; shows the first case that differs and exits 1. It exits 1 too if some call never gave one of
- * the answers that it can give, unless FIRST, the number of the first case, is stated. Bad arguments exit with 2.
+ * Of the first million cases each is of any of the ten calls. The others, 4,550,000 if CASES is not stated, are of the five quick
+ * calls in turn. So each quick call has a million cases and more, and each of the others about 100,000.
+ *
+ * Compares the number returned, all that a call writes, and that it writes nothing else (trial.h). Prints how many cases each call
+ * had and how often it gave each answer, and exits 0; shows the first case that differs and exits 1. It exits 1 too if some call
+ * never gave one of the answers that it can give, unless FIRST, the number of the first case, is stated. Bad arguments exit with 2.
  */
 #include <inttypes.h>
 #include <stdio.h>
@@ -15,9 +18,9 @@
 #include "trial.h"
 #include "zahupnik.h"
 
-static const uint64_t CASES = 1000000, SEED = 20240229;
+static const uint64_t ALL_CALLS = 1000000, QUICK_CALLS = 4550000, SEED = 20240229;
 
-enum { ANSWERS = 14 };
+enum { ANSWERS = 14, QUICK = 5 };
 
 /* A call by its name in the header without zahupnik_, which answers it can give, how it is run on lists, how often it gave each
  * answer, and whether it finished with so many rows. The text call is not run on lists. */
@@ -50,7 +53,7 @@ RUN(tree_adjoint, FAMILY, LIST(curve), OUTPUT, WORK)
 RUN(tree_decompose, FAMILY, LIST(curve), OUTPUT, WORK)
 RUN(moments, FAMILY, OUTPUT, WORK)
 
-/* Answers: a sign for each number from 0 to 13, a point where the call cannot give it. */
+/* Answers: a sign for each number from 0 to 13, a point where the call cannot give it. The quick calls come first. */
 static struct call calls[] = {
     {"invert", "0..3........CD", INVERSE, PLAIN, invert, {0}, {0}},
     {"plain_expand", "0..34567.9ABC.", EXPAND, PLAIN, plain_expand, {0}, {0}},
@@ -95,20 +98,22 @@ static uint32_t run_on_lists(const struct call *call, struct trial *trial, struc
 
 static void run_case(uint64_t seed, uint64_t number_of_case) {
     struct random random = random_of_case(seed, number_of_case);
-    struct call *call = &ONE_OF(&random, calls);
+    struct call *call = number_of_case < ALL_CALLS ? &ONE_OF(&random, calls) : &calls[number_of_case % QUICK];
     struct trial trial = {.call = call->name, .seed = seed, .number_of_case = number_of_case};
     uint32_t answer = call->run ? run_on_lists(call, &trial, &random) : run_on_text(&trial, &random);
     call->met[answer]++;
     if (answer == 0) call->finished[trial.rows] = true;
 }
 
-/* How often each call gave each answer, and with how many different numbers of rows it finished. */
+/* How many cases each call had, how often it gave each answer, and with how many different numbers of rows it finished. */
 static void print_table(void) {
-    printf("%-15s", "answer");
+    printf("%-15s %7s", "answer", "cases");
     for (int answer = 0; answer < ANSWERS; answer++) printf(" %6d", answer);
     printf("  rows\n");
     for (size_t i = 0; i < COUNT; i++) {
-        printf("%-15s", calls[i].name);
+        unsigned long cases = 0;
+        for (int answer = 0; answer < ANSWERS; answer++) cases += calls[i].met[answer];
+        printf("%-15s %7lu", calls[i].name, cases);
         for (int answer = 0; answer < ANSWERS; answer++) {
             if (can_give(&calls[i], answer))
                 printf(" %6lu", calls[i].met[answer]);
@@ -153,7 +158,7 @@ int main(int argc, char **argv) {
         fprintf(stderr, "usage: differential [CASES [SEED [FIRST]]]\n");
         return 2;
     }
-    uint64_t cases = argument(argc, argv, 1, CASES), seed = argument(argc, argv, 2, SEED), first = argument(argc, argv, 3, 0);
+    uint64_t cases = argument(argc, argv, 1, ALL_CALLS + QUICK_CALLS), seed = argument(argc, argv, 2, SEED), first = argument(argc, argv, 3, 0);
     prepare_trials(WORK_ROOM * sizeof(uint32_t));
     for (uint64_t i = 0; i < cases; i++) run_case(seed, first + i);
     print_table();

@@ -1,7 +1,8 @@
 # What the runs of the library from C share, to be sourced by bash in the repository's root: the compiler's words, and
-# build_library, which makes the static library. The script that sources this sets `built`, the folder for what it builds, and
-# `name`, which opens its messages.
+# build_library, which makes the static library if a source or the kit has changed since it was made. The script that sources this
+# sets `built`, the folder for what it builds, and `name`, which opens its messages.
 archive=target/staticlib/libzahupnik.a
+seal=target/staticlib/libzahupnik.seal
 sanitize=('-fsanitize=address,undefined' -fno-sanitize-recover=all)
 
 fail() {
@@ -20,14 +21,26 @@ sanitizes() { # whether cc and this machine have the sanitizers
 functions() { # of what the header declares, or of what nm lists, the functions of zahupnik
     sed -nE 's/^(uint32_t|.* T) (zahupnik_[a-z_]+).*/\2/p' | sort
 }
+is_sealed() { # whether the archive is the one that the kit made last, and no source has changed since that build began
+    local newer
+    [ -f "$archive" ] && [ -f "$seal" ] && [ "$(cat "$seal")" = "$(rt version) $(cksum <"$archive")" ] &&
+        newer=$(find crates crates.txt -newer "$seal" -print -quit) && [ -z "$newer" ]
+}
 build_library() {
     command -v rt >/dev/null || fail "rt, the command of the Rattle kit, is not on the PATH"
     command -v cc >/dev/null || fail "cc, a C compiler, is not on the PATH"
     [ "$(uname -m)" = x86_64 ] || fail "the static library is for x86-64, and this machine is $(uname -m)"
     mkdir -p "$built"
-    rt staticlib zahupnik >"$built/staticlib.log" 2>&1 || {
-        cat "$built/staticlib.log" >&2
-        fail "rt staticlib zahupnik failed"
+    is_sealed || {
+        rm -f "$seal"
+        : >"$built/staticlib.begun"
+        rt staticlib zahupnik >"$built/staticlib.log" 2>&1 || {
+            cat "$built/staticlib.log" >&2
+            fail "rt staticlib zahupnik failed"
+        }
+        printf '%s %s\n' "$(rt version)" "$(cksum <"$archive")" >"$seal.begun"
+        touch -r "$built/staticlib.begun" "$seal.begun"
+        mv "$seal.begun" "$seal"
     }
     diff <(functions <include/zahupnik.h) <(nm "$archive" | functions) >&2 ||
         fail "the functions that the header declares (<) and those that the library has (>) differ"

@@ -1,0 +1,176 @@
+"""Counts the divisions in the compiled functions of an archive, outside loops and in them, and holds the counts to a table.
+
+usage: tests/compiled/divisions.py ARCHIVE
+
+A division takes many times as long as a product, so the remainders of rows and of products are taken by a reciprocal: a high
+product each, if the compiler makes one of it. A loop is a cycle of a function's own jumps, and a division is counted by how many
+of them stand around it: none, one, or more.
+
+Prints the counts in the form of the table. Fails if a count differs from the table, if a function is in one of them alone, if a
+function of ROWS has a division in more than one loop or one of PRODUCTS in any, and if a function's jumps cannot be followed.
+"""
+
+import re
+import shutil
+import subprocess
+import sys
+
+# Every function that has a division: how many stand in no loop, in one, and in more. Where the compiler tries a short division before a
+# long one, one remainder has two. In more than one loop: Euclid's algorithm for each entry, to find whom to blame, and the root of a tree.
+TABLE = """
+products::add_products        1  0  0
+checks::invertible            1  2  2
+reciprocals::inverses         2  2  2
+subproduct::descend           1  0  0
+subproduct::build            10  0  0
+tree::expand                  1  0  2
+tree::adjoint                 2  2  0
+gram::moments                 3  7  0
+conversion::norms             0  5  0
+conversion::tree_decompose    1  8  0
+zahupnik_invert               0  2  0
+zahupnik_plain_adjoint        0  1  0
+zahupnik_plain_decompose      1  6  0
+zahupnik_plain_expand         1  0  0
+"""
+ROWS = ("zahupnik_plain_expand", "zahupnik_plain_adjoint", "zahupnik_plain_decompose", "conversion::norms")
+PRODUCTS = ("products::add_products", "subproduct::descend")
+
+JUMP = re.compile(r"(j[a-z]+|loop[a-z]*)\s+([0-9a-f]+) <")
+END = re.compile(r"(ret[qlw]?|ud2|hlt)\b")
+INDIRECT = re.compile(r"(notrack\s+)?jmp[qlw]?\s+\*")
+DIVISION = re.compile(r"i?div[bwlq]?\s")
+
+
+def functions(archive):
+    """Each function of the archive by its name: its instructions by their address, in order."""
+    if shutil.which("objdump") is None:
+        sys.exit("divisions: objdump, of binutils, is not on the PATH")
+    words = ["objdump", "--disassemble", "--no-show-raw-insn", archive]
+    text = subprocess.run(words, capture_output=True, text=True, check=True).stdout
+    found, body = {}, None
+    for line in text.splitlines():
+        if match := re.fullmatch(r"[0-9a-f]+ <(.*)>:", line):
+            if match[1] in found:
+                sys.exit(f"divisions: {archive} has two functions {match[1]}")
+            body = found[match[1]] = {}
+        elif match := re.fullmatch(r"\s*([0-9a-f]+):\t(.*?)\s*", line):
+            body[int(match[1], 16)] = match[2]
+    if not found:
+        sys.exit(f"divisions: {archive} has no function")
+    return found
+
+
+def graph(name, body):
+    """Where each instruction may go on to, by their addresses."""
+    addresses = list(body)
+    after = dict(zip(addresses, addresses[1:]))
+    successors = {}
+    for address, words in body.items():
+        goes_on = [after[address]] if address in after else []
+        if END.match(words):
+            successors[address] = []
+        elif INDIRECT.match(words):
+            sys.exit(f"divisions: {name} jumps at {address:x} to a place that is not written there")
+        elif match := JUMP.match(words):
+            target = int(match[2], 16)
+            if target not in body:
+                sys.exit(f"divisions: {name} jumps at {address:x} out of itself")
+            successors[address] = [target] if match[1] == "jmp" else [*goes_on, target]
+        else:
+            successors[address] = goes_on
+    return successors
+
+
+def reached(start, successors):
+    """The instructions that are reached from the first: what fills the space between two loops is not."""
+    seen, left = {start}, [start]
+    while left:
+        for target in successors[left.pop()]:
+            if target not in seen:
+                seen.add(target)
+                left.append(target)
+    return seen
+
+
+def cycles(nodes, successors):
+    """The largest sets of nodes that reach each other, those that are no cycle left out (Tarjan)."""
+    index, low, stack, on_stack, sets = {}, {}, [], set(), []
+    for root in nodes:
+        if root in index:
+            continue
+        work = [(root, iter(successors[root]))]
+        index[root] = low[root] = len(index)
+        stack.append(root)
+        on_stack.add(root)
+        while work:
+            node, left = work[-1]
+            for target in left:
+                if target not in nodes:
+                    continue
+                if target not in index:
+                    index[target] = low[target] = len(index)
+                    stack.append(target)
+                    on_stack.add(target)
+                    work.append((target, iter(successors[target])))
+                    break
+                if target in on_stack:
+                    low[node] = min(low[node], index[target])
+            else:
+                work.pop()
+                if work:
+                    low[work[-1][0]] = min(low[work[-1][0]], low[node])
+                if low[node] == index[node]:
+                    members = set()
+                    while node not in members:
+                        members.add(stack.pop())
+                    on_stack -= members
+                    if len(members) > 1 or node in successors[node]:
+                        sets.append(members)
+    return sets
+
+
+def depths(nodes, successors, depth=0):
+    """How many loops stand around each node: a loop's jumps to where it is entered are cut, and what still goes round is within it."""
+    found = dict.fromkeys(nodes, depth)
+    for loop in cycles(nodes, successors):
+        entered = {t for node in nodes - loop for t in successors[node] if t in loop} or {min(loop)}
+        inside = {node: [t for t in successors[node] if t in loop and t not in entered] for node in loop}
+        found.update(depths(loop, inside, depth + 1))
+    return found
+
+
+def counted(name, body):
+    """The divisions in no loop, in one, and in more."""
+    divisions = [address for address, words in body.items() if DIVISION.match(words)]
+    if not divisions:
+        return 0, 0, 0
+    successors = graph(name, body)
+    deep = depths(reached(min(body), successors), successors)
+    if not all(address in deep for address in divisions):
+        sys.exit(f"divisions: {name} has a division that no jump reaches")
+    return tuple(sum(min(deep[address], 2) == depth for address in divisions) for depth in range(3))
+
+
+def main():
+    """Print the counts, and compare them with the table."""
+    if len(sys.argv) != 2:
+        sys.exit(__doc__)
+    found = functions(sys.argv[1])
+    wanted = {name: tuple(map(int, counts)) for name, *counts in map(str.split, TABLE.strip().splitlines())}
+    faults = [f"{name} is not in the archive" for name in (*wanted, *ROWS, *PRODUCTS) if name not in found]
+    for name, body in found.items():
+        counts = counted(name, body)
+        if any(counts):
+            print(f"{name:28}", *(f"{count:2}" for count in counts))
+        if counts != wanted.get(name, (0, 0, 0)):
+            faults.append(f"{name} has {counts}, and in the table {wanted.get(name, 'it is not')}")
+        if name in ROWS and counts[2] or name in PRODUCTS and any(counts[1:]):
+            faults.append(f"{name} has a division for each coefficient of a row or a product")
+    for fault in faults:
+        print(f"divisions: {fault}", file=sys.stderr)
+    if faults:
+        sys.exit("divisions: the compiler made divisions where the table has none, or the table is of another source")
+
+
+main()

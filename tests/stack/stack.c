@@ -1,0 +1,146 @@
+/* Measures how much stack each call takes: it is run on a stack that is painted before and looked at after.
+ *
+ * usage: stack
+ *
+ * For each function a line: its name and the most bytes that it took, of accepted cases with r = 127 and r = 0 and of a refused one,
+ * modulo a prime and a composite number; of the text call, for every operation. A byte counts if it lies between the frame of the
+ * caller, which holds the arguments, and the lowest byte that was written. Exits 1 if a call gives another answer than it should.
+ */
+#define _XOPEN_SOURCE 700
+#include <inttypes.h>
+#include <stdio.h>
+#include <stdlib.h>
+#include <string.h>
+#include <ucontext.h>
+
+#include "zahupnik.h"
+
+enum { STACK = 1 << 18, PAINT = 0xA5, MOST = ZAHUPNIK_MOST_ROWS, LIST = 2 * MOST + 1 };
+
+static unsigned char stack[STACK] __attribute__((aligned(64)));
+static ucontext_t here, there;
+
+/* What the calls are lent, and what they answer. */
+static uint32_t m, a[MOST], b[MOST], c[MOST], curve[MOST + 1], output[LIST], work[ZAHUPNIK_LEAST_WORK];
+static size_t r, n, text_length;
+static uint8_t text[ZAHUPNIK_MOST_TEXT], text_output[ZAHUPNIK_LEAST_TEXT_OUTPUT];
+static uint32_t length, answer;
+static unsigned char *frame;
+
+#define FAMILY m, a, r, b, r, c, r
+#define CALL(name, ...)                                               \
+    static __attribute__((noinline)) void name(void) {                \
+        frame = __builtin_frame_address(0);                           \
+        answer = zahupnik_##name(__VA_ARGS__);                        \
+    }
+CALL(invert, m, r ? a[r - 1] : 1, output)
+CALL(plain_expand, FAMILY, curve, n, output, n)
+CALL(plain_adjoint, FAMILY, curve, n, output, n)
+CALL(plain_decompose, FAMILY, curve, n, output, n)
+CALL(norms, FAMILY, output, n)
+CALL(tree_expand, FAMILY, curve, n, output, n, work, ZAHUPNIK_LEAST_WORK)
+CALL(tree_adjoint, FAMILY, curve, n, output, n, work, ZAHUPNIK_LEAST_WORK)
+CALL(tree_decompose, FAMILY, curve, n, output, n, work, ZAHUPNIK_LEAST_WORK)
+CALL(moments, FAMILY, output, 2 * n - 1, work, ZAHUPNIK_LEAST_WORK)
+CALL(convert_text, text, text_length, text_output, sizeof text_output, work, ZAHUPNIK_LEAST_WORK, &length)
+
+static const struct {
+    const char *name;
+    void (*run)(void);
+} calls[] = {
+    {"zahupnik_invert", invert},
+    {"zahupnik_plain_expand", plain_expand},
+    {"zahupnik_plain_adjoint", plain_adjoint},
+    {"zahupnik_plain_decompose", plain_decompose},
+    {"zahupnik_norms", norms},
+    {"zahupnik_tree_expand", tree_expand},
+    {"zahupnik_tree_adjoint", tree_adjoint},
+    {"zahupnik_tree_decompose", tree_decompose},
+    {"zahupnik_moments", moments},
+    {"zahupnik_convert_text", convert_text},
+};
+
+/* How many bytes of the painted stack lie between the caller's frame and the lowest that the call wrote. */
+static size_t measure(const char *name, void (*run)(void), uint32_t wanted) {
+    memset(stack, PAINT, sizeof stack);
+    if (getcontext(&there) != 0) abort();
+    there.uc_stack.ss_sp = stack;
+    there.uc_stack.ss_size = sizeof stack;
+    there.uc_link = &here;
+    makecontext(&there, run, 0);
+    if (swapcontext(&here, &there) != 0) abort();
+    size_t lowest = 0;
+    while (lowest < sizeof stack && stack[lowest] == PAINT) lowest++;
+    if (answer != wanted || lowest == 0) {
+        fprintf(stderr, "stack: %s with m = %" PRIu32 ", r = %zu: answers %" PRIu32 " and not %" PRIu32 "\n", name, m, r, answer, wanted);
+        exit(1);
+    }
+    return (size_t)(frame - (stack + lowest));
+}
+
+/* Numbers that look random, and are the same at each run; odd ones below the modulus for a and c, which 2^30 takes. */
+static uint32_t next(void) {
+    static uint64_t state = 20240229;
+    state = state * UINT64_C(6364136223846793005) + UINT64_C(1442695040888963407);
+    return (uint32_t)(state >> 33);
+}
+static void make_case(uint32_t modulus, size_t rows) {
+    m = modulus;
+    r = rows;
+    n = rows + 1;
+    for (size_t i = 0; i < MOST; i++) {
+        a[i] = next() % m | 1;
+        b[i] = next() % m;
+        c[i] = next() % m | 1;
+    }
+    for (size_t i = 0; i <= MOST; i++) curve[i] = next() % m;
+}
+
+static char *write_list(char *at, const char *key, const uint32_t *list, size_t count) {
+    at += sprintf(at, "%s=", key);
+    for (size_t i = 0; i < count; i++) at += sprintf(at, "%s%" PRIu32, i ? " " : "", list[i]);
+    return at + sprintf(at, "\n");
+}
+static void make_text(const char *operation) {
+    char *at = (char *)text;
+    size_t entries = strcmp(operation, "moments") && strcmp(operation, "norms") ? n : 0;
+    at = write_list(at, "mod", &m, 1);
+    at = write_list(at, "a", a, r);
+    at = write_list(at, "b", b, r);
+    at = write_list(at, "c", c, r);
+    at += sprintf(at, "op=%s\n", operation);
+    at = write_list(at, "v", curve, entries);
+    text_length = (size_t)(at - (char *)text);
+}
+
+/* The most that a call takes of the case at hand. */
+static size_t most_of(size_t i, uint32_t wanted) {
+    static const char *const operations[] = {"expand", "adjoint", "decompose", "moments", "norms"};
+    size_t most = 0;
+    if (calls[i].run != convert_text) return measure(calls[i].name, calls[i].run, wanted);
+    for (size_t k = 0; k < sizeof operations / sizeof *operations; k++) {
+        make_text(operations[k]);
+        size_t bytes = measure(calls[i].name, calls[i].run, wanted);
+        if (bytes > most) most = bytes;
+    }
+    return most;
+}
+
+int main(void) {
+    static const uint32_t moduli[] = {ZAHUPNIK_GREATEST_MODULUS, UINT32_C(1) << 30};
+    static const size_t rows[] = {MOST, 0};
+    for (size_t i = 0; i < sizeof calls / sizeof *calls; i++) {
+        size_t most = 0, bytes;
+        for (size_t j = 0; j < 2; j++) {
+            for (size_t k = 0; k < 2; k++) {
+                make_case(moduli[j], rows[k]);
+                if ((bytes = most_of(i, ZAHUPNIK_FINISHED)) > most) most = bytes;
+            }
+            make_case(moduli[j], MOST);
+            a[MOST - 1] = 0;
+            if ((bytes = most_of(i, calls[i].run == invert ? ZAHUPNIK_NO_INVERSE : ZAHUPNIK_A_INVERSE)) > most) most = bytes;
+        }
+        printf("%-24s %6zu\n", calls[i].name, most);
+    }
+    return 0;
+}
