@@ -23,7 +23,7 @@ use Rattle.theory.specs.Lists.{table-length}
 use Rattle.theory.specs.Moments.{moments-length}
 use Rattle.theory.specs.RoundTrip.{decomposeBelow-length}
 use Rattle.theory.specs.Verdicts.{None, verdict-here, verdict-next, verdict-goes-on, none-append, differ-false, output-passes, work-passes}
-use Rattle.checks.specs.Groups.{shapeOf, lengthTests, rowTests, tree-groups, moments-groups, norms-groups}
+use Rattle.checks.specs.Groups.{lengthTest, shapeOf, lengthTests, rowTests, tree-groups, moments-groups, norms-groups}
 use Rattle.operations.specs.Tests.{curveCount, resultCount, sizeTests, valueTests, sizesOf, lentTests}
 
 pub record Sized (operation : Operation) (f : Family) (u : List ℕ) (output work : ℕ) : Type 0 where
@@ -42,7 +42,7 @@ pub record Parts (operation : Operation) (m : ℕ) (a b c : List ℕ) (r : ℕ) 
 
 pub sized-by-tests : (operation : Operation) (f : Family) (u : List ℕ) (text work count : ℕ) → None (sizesOf operation f u text work)
     → count ≡ resultCount operation (rows f) → Sized operation f u count work
-unfolding sizeTests
+unfolding sizeTests lengthTest
 sized-by-tests operation f u text work count n e =
     let parts = none-append (shapeOf f) (lentTests operation (rows f) (length u) text work) .0 n in
     record {
@@ -72,7 +72,7 @@ spare-test (s ∷ ts) t values q = split (s .holds) refl (spare-test ts t values
 
 module _ (f : Family) (u : List ℕ) (output work : ℕ) where
   curve-left : None (shapeOf f) → length u ≡ size f → output ≡ size f → workLength ≤ work → verdict (treeTests f u output work) [] ≡ verdict (valueTests f u) []
-  unfolding lengthTests valueTests
+  unfolding lengthTest lengthTests valueTests
   curve-left shape curve result room =
       ap (λ ts. verdict ts []) (tree-groups f u output work)
       ∙ verdict-goes-on _ [] (shapeOf f) shape

@@ -29,7 +29,7 @@ enum-told-4 c = search needs
 returns-2 : tie.Need-returns-2
 returns-2 c = let first = c .before .before .before in
     number-refused _ _ _ (first .before .before .modulus .ensures) (first .enum-told .given .1) _ (c .before .before .number-below .ensures) _
-        (c .enum-told4 .given .1)
+    (c .enum-told4 .given .1)
 
 invert-requires : tie.Need-invert-requires
 invert-requires c κs = search needs
@@ -44,13 +44,13 @@ returns-3 : tie.Need-returns-3
 returns-3 c = let second = c .before .before .before in
     let first = second .before .before .before in
     number-without _ _ _ (first .before .before .modulus .ensures) (first .enum-told .given .1) _ (second .before .before .number-below .ensures)
-        (second .enum-told3 .given .1) _ (inverted-absent _ _ (c .before .before .invert .ensures) (c .enum-told5 .given .1))
+    (second .enum-told3 .given .1) _ (inverted-absent _ _ (c .before .before .invert .ensures) (c .enum-told5 .given .1))
 
 returns-4 : tie.Need-returns-4
 returns-4 c = let second = c .before .before .before .before in
     let first = second .before .before .before in
     number-inverted _ _ _ (first .before .before .modulus .ensures) (first .enum-told .given .1) _ (second .before .before .number-below .ensures)
-        (second .enum-told3 .given .1) _ (inverted-found _ _ (c .before .before .before .invert .ensures) (c .before .y .given .1))
+    (second .enum-told3 .given .1) _ (inverted-found _ _ (c .before .before .before .invert .ensures) (c .before .y .given .1))
 
 pub invert-spec : {M : Type 1} → statement M
 invert-spec =

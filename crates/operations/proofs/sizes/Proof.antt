@@ -33,7 +33,7 @@ returns-2 c =
     let counted = c .before .before .before in
     let first = counted .before in
     curve-refuses _ _ _ _ _ _ _ _ _ (first .before .before .family-shape .ensures) (first .enum-told .given .1) _ (counted .curve-count .ensures) _
-        (c .before .before .curve-length .ensures) _ (c .enum-told4 .given .1)
+    (c .before .before .curve-length .ensures) _ (c .enum-told4 .given .1)
 
 text-output-length-requires : tie.Need-text-output-length-requires
 text-output-length-requires c κs = search needs
@@ -50,8 +50,8 @@ returns-3 c =
     let counted = second .before .before .before in
     let first = counted .before in
     output-refuses _ _ _ _ _ _ _ _ _ (first .before .before .family-shape .ensures) (first .enum-told .given .1) _ (counted .curve-count .ensures) _
-        (second .before .before .curve-length .ensures) (second .enum-told3 .given .1) _ (c .before .before .text-output-length .ensures) _
-        (c .enum-told6 .given .1)
+    (second .before .before .curve-length .ensures) (second .enum-told3 .given .1) _ (c .before .before .text-output-length .ensures) _
+    (c .enum-told6 .given .1)
 
 work-length-requires : tie.Need-work-length-requires
 work-length-requires c κs = search needs
@@ -63,8 +63,8 @@ returns-4 c =
     let counted = second .before .before .before in
     let first = counted .before in
     work-settles _ _ _ _ _ _ _ _ _ (first .before .before .family-shape .ensures) (first .enum-told .given .1) _ (counted .curve-count .ensures) _
-        (second .before .before .curve-length .ensures) (second .enum-told3 .given .1) _ (third .before .before .text-output-length .ensures)
-        (third .enum-told5 .given .1) (c .work-length .result) (c .work-length .ensures)
+    (second .before .before .curve-length .ensures) (second .enum-told3 .given .1) _ (third .before .before .text-output-length .ensures)
+    (third .enum-told5 .given .1) (c .work-length .result) (c .work-length .ensures)
 
 pub sizes-spec : {M : Type 1} → statement M
 sizes-spec =
