@@ -22,7 +22,8 @@ use Rattle.reader.specs.Storing.{Stored, kept-front}
 use Rattle.form.specs.Form.{JobAt}
 use Rattle.job.specs.Replies.{withLength, Ready, replyText, Replied}
 
-pub short-text : (t : List ℕ) (r : Answer) → answered r ≡ verdict (test 1 (ltb mostBytes (length t)) ∷ []) [] → r ≡ Answer.Finished → None (textLengthTest t ∷ [])
+pub short-text : (t : List ℕ) (r : Answer) → answered r ≡ verdict (test 1 (ltb mostBytes (length t)) ∷ []) [] → r ≡ Answer.Finished
+    → None (textLengthTest t ∷ [])
 unfolding textLengthTest
 short-text t r says q = verdict-finished (textLengthTest t ∷ []) [] .0 (sym says ∙ ap answered q)
 

@@ -23,13 +23,17 @@ same-length : tie.Need-same-length
 same-length c = search needs
 
 returns : tie.Need-returns
-returns c = no-a (c .before .before .before .before .before .before .before .before .before .before .before .args .text .now) (c .before .before .before .before .before .before .before .before .before .before .before .args .at) (subst (Listed _ _ _ _) (c .enum-told .given .1) (c .before .before .before .before .numbers-line .ensures))
+returns c =
+    let start = c .before .before .before .before .before .before .before .before .before .before .before in
+    no-a (start .args .text .now) (start .args .at) (subst (Listed _ _ _ _) (c .enum-told .given .1) (c .before .before .before .before .numbers-line .ensures))
 
 slice-aggregate-numbers-line-2 : tie.Need-slice-aggregate-numbers-line-2
 slice-aggregate-numbers-line-2 c = search needs
 
 numbers-line-requires-2 : tie.Need-numbers-line-requires-2
-numbers-line-requires-2 c κs = (subst (Listed _ _ _ _) (c .before .before .before .a-count .given .1) (c .before .before .before .before .before .before .before .numbers-line .ensures)) .inside
+numbers-line-requires-2 c κs =
+    let first = c .before .before .before in
+    (subst (Listed _ _ _ _) (first .a-count .given .1) (first .before .before .before .before .numbers-line .ensures)) .inside
 
 enum-known-b-count : tie.Need-enum-known-b-count
 enum-known-b-count c = search needs
@@ -44,14 +48,20 @@ same-length-3 : tie.Need-same-length-3
 same-length-3 c = search needs
 
 returns-2 : tie.Need-returns-2
-returns-2 c = no-b (c .before .before .before .before .before .before .before .before .before .before .before .before .before .before .before .before .before .before .before .args .text .now) (c .before .before .before .before .before .before .before .before .before .before .before .before .before .before .before .before .before .before .before .args .at) _ _ _ _ (subst (Listed _ _ _ _) (c .before .before .before .before .before .before .before .before .a-count .given .1) (c .before .before .before .before .before .before .before .before .before .before .before .before .numbers-line .ensures))
+returns-2 c =
+    let first = c .before .before .before .before .before .before .before .before in
+    let start = first .before .before .before .before .before .before .before .before .before .before .before in
+    no-b (start .args .text .now) (start .args .at) _ _ _ _
+    (subst (Listed _ _ _ _) (first .a-count .given .1) (first .before .before .before .before .numbers-line .ensures))
     (subst (Listed _ _ _ _) (c .enum-told2 .given .1) (c .before .before .before .before .numbers-line2 .ensures))
 
 slice-aggregate-numbers-line-3 : tie.Need-slice-aggregate-numbers-line-3
 slice-aggregate-numbers-line-3 c = search needs
 
 numbers-line-requires-3 : tie.Need-numbers-line-requires-3
-numbers-line-requires-3 c κs = (subst (Listed _ _ _ _) (c .before .before .before .b-count .given .1) (c .before .before .before .before .before .before .before .numbers-line2 .ensures)) .inside
+numbers-line-requires-3 c κs =
+    let second = c .before .before .before in
+    (subst (Listed _ _ _ _) (second .b-count .given .1) (second .before .before .before .before .numbers-line2 .ensures)) .inside
 
 enum-known-c-count : tie.Need-enum-known-c-count
 enum-known-c-count c = search needs
@@ -69,8 +79,13 @@ same-length-6 : tie.Need-same-length-6
 same-length-6 c = search needs
 
 returns-3 : tie.Need-returns-3
-returns-3 c = no-c (c .before .before .before .before .before .before .before .before .before .before .before .before .before .before .before .before .before .before .before .before .before .before .before .before .before .before .before .args .text .now) (c .before .before .before .before .before .before .before .before .before .before .before .before .before .before .before .before .before .before .before .before .before .before .before .before .before .before .before .args .at) _ _ _ _ (subst (Listed _ _ _ _) (c .before .before .before .before .before .before .before .before .before .before .before .before .before .before .before .before .a-count .given .1) (c .before .before .before .before .before .before .before .before .before .before .before .before .before .before .before .before .before .before .before .before .numbers-line .ensures))
-    _ _ _ _ (subst (Listed _ _ _ _) (c .before .before .before .before .before .before .before .before .b-count .given .1) (c .before .before .before .before .before .before .before .before .before .before .before .before .numbers-line2 .ensures))
+returns-3 c =
+    let second = c .before .before .before .before .before .before .before .before in
+    let first = second .before .before .before .before .before .before .before .before in
+    let start = first .before .before .before .before .before .before .before .before .before .before .before in
+    no-c (start .args .text .now) (start .args .at) _ _ _ _
+    (subst (Listed _ _ _ _) (first .a-count .given .1) (first .before .before .before .before .numbers-line .ensures))
+    _ _ _ _ (subst (Listed _ _ _ _) (second .b-count .given .1) (second .before .before .before .before .numbers-line2 .ensures))
     (subst (Listed _ _ _ _) (c .enum-told3 .given .1) (c .before .before .before .before .numbers-line3 .ensures))
 
 same-length-7 : tie.Need-same-length-7
@@ -83,9 +98,15 @@ same-length-9 : tie.Need-same-length-9
 same-length-9 c = search needs
 
 returns-4 : tie.Need-returns-4
-returns-4 c = rows-at (c .before .before .before .before .before .before .before .before .before .before .before .before .before .before .before .before .before .before .before .before .before .before .before .before .before .before .before .before .args .text .now) (c .before .before .before .before .before .before .before .before .before .before .before .before .before .before .before .before .before .before .before .before .before .before .before .before .before .before .before .before .args .at) _ _ _ _ (subst (Listed _ _ _ _) (c .before .before .before .before .before .before .before .before .before .before .before .before .before .before .before .before .before .a-count .given .1) (c .before .before .before .before .before .before .before .before .before .before .before .before .before .before .before .before .before .before .before .before .before .numbers-line .ensures))
-    _ _ _ _ (subst (Listed _ _ _ _) (c .before .before .before .before .before .before .before .before .before .b-count .given .1) (c .before .before .before .before .before .before .before .before .before .before .before .before .before .numbers-line2 .ensures))
-    _ _ _ _ (subst (Listed _ _ _ _) (c .before .c-count .given .1) (c .before .before .before .before .before .numbers-line3 .ensures))
+returns-4 c =
+    let third = c .before in
+    let second = third .before .before .before .before .before .before .before .before in
+    let first = second .before .before .before .before .before .before .before .before in
+    let start = first .before .before .before .before .before .before .before .before .before .before .before in
+    rows-at (start .args .text .now) (start .args .at) _ _ _ _
+    (subst (Listed _ _ _ _) (first .a-count .given .1) (first .before .before .before .before .numbers-line .ensures))
+    _ _ _ _ (subst (Listed _ _ _ _) (second .b-count .given .1) (second .before .before .before .before .numbers-line2 .ensures))
+    _ _ _ _ (subst (Listed _ _ _ _) (third .c-count .given .1) (third .before .before .before .before .numbers-line3 .ensures))
 
 pub family-lines-spec : {M : Type 1} → statement M
 family-lines-spec =

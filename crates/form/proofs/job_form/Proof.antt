@@ -19,10 +19,14 @@ enum-told : tie.Need-enum-told
 enum-told c = search needs
 
 returns : tie.Need-returns
-returns c = no-modulus (c .before .before .before .before .before .before .before .before .args .text .now) (subst (Numbered _ _) (c .enum-told .given .1) (c .before .before .modulus-line .ensures))
+returns c =
+    let start = c .before .before .before .before .before .before .before .before in
+    no-modulus (start .args .text .now) (subst (Numbered _ _) (c .enum-told .given .1) (c .before .before .modulus-line .ensures))
 
 family-lines-requires : tie.Need-family-lines-requires
-family-lines-requires c κs = (subst (Numbered _ _) (c .before .before .before .before .modulus .given .1) (c .before .before .before .before .before .before .modulus-line .ensures)) .inside
+family-lines-requires c κs =
+    let modulus = c .before .before .before .before in
+    (subst (Numbered _ _) (modulus .modulus .given .1) (modulus .before .before .modulus-line .ensures)) .inside
 
 enum-known-a-count : tie.Need-enum-known-a-count
 enum-known-a-count c = search needs
@@ -40,11 +44,16 @@ same-length-3 : tie.Need-same-length-3
 same-length-3 c = search needs
 
 returns-2 : tie.Need-returns-2
-returns-2 c = no-rows (c .before .before .before .before .before .before .before .before .before .before .before .before .before .before .before .before .before .before .before .before .before .args .text .now) _ _ (subst (Numbered _ _) (c .before .before .before .before .before .before .before .before .before .before .before .before .before .modulus .given .1) (c .before .before .before .before .before .before .before .before .before .before .before .before .before .before .before .modulus-line .ensures))
+returns-2 c =
+    let modulus = c .before .before .before .before .before .before .before .before .before .before .before .before .before in
+    let start = modulus .before .before .before .before .before .before .before .before in
+    no-rows (start .args .text .now) _ _ (subst (Numbered _ _) (modulus .modulus .given .1) (modulus .before .before .modulus-line .ensures))
     (subst (RowsRead _ _ _ _ _ _ _ _) (c .enum-told2 .given .1) (c .before .before .before .before .before .before .before .before .family-lines .ensures))
 
 operation-line-requires : tie.Need-operation-line-requires
-operation-line-requires c κs = (subst (RowsRead _ _ _ _ _ _ _ _) (c .before .a-count .given .1) (c .before .before .before .before .before .before .before .before .before .family-lines .ensures)) .inside
+operation-line-requires c κs =
+    let rows = c .before in
+    (subst (RowsRead _ _ _ _ _ _ _ _) (rows .a-count .given .1) (rows .before .before .before .before .before .before .before .before .family-lines .ensures)) .inside
 
 enum-known-operation : tie.Need-enum-known-operation
 enum-known-operation c = search needs
@@ -62,15 +71,22 @@ same-length-6 : tie.Need-same-length-6
 same-length-6 c = search needs
 
 returns-3 : tie.Need-returns-3
-returns-3 c = no-operation (c .before .before .before .before .before .before .before .before .before .before .before .before .before .before .before .before .before .before .before .before .before .before .before .before .before .args .text .now) _ _ (subst (Numbered _ _) (c .before .before .before .before .before .before .before .before .before .before .before .before .before .before .before .before .before .modulus .given .1) (c .before .before .before .before .before .before .before .before .before .before .before .before .before .before .before .before .before .before .before .modulus-line .ensures))
-    _ _ _ _ _ _ _ _ _ _ (subst (RowsRead _ _ _ _ _ _ _ _) (c .before .before .before .before .a-count .given .1) (c .before .before .before .before .before .before .before .before .before .before .before .before .family-lines .ensures))
+returns-3 c =
+    let rows = c .before .before .before .before in
+    let modulus = rows .before .before .before .before .before .before .before .before .before .before .before .before .before in
+    let start = modulus .before .before .before .before .before .before .before .before in
+    no-operation (start .args .text .now) _ _ (subst (Numbered _ _) (modulus .modulus .given .1) (modulus .before .before .modulus-line .ensures))
+    _ _ _ _ _ _ _ _ _ _
+    (subst (RowsRead _ _ _ _ _ _ _ _) (rows .a-count .given .1) (rows .before .before .before .before .before .before .before .before .family-lines .ensures))
     (subst (Chosen _ _) (c .enum-told3 .given .1) (c .before .before .operation-line .ensures))
 
 slice-aggregate-numbers-line : tie.Need-slice-aggregate-numbers-line
 slice-aggregate-numbers-line c = search needs
 
 numbers-line-requires : tie.Need-numbers-line-requires
-numbers-line-requires c κs = (subst (Chosen _ _) (c .before .before .before .operation .given .1) (c .before .before .before .before .before .operation-line .ensures)) .inside
+numbers-line-requires c κs =
+    let operation = c .before .before .before in
+    (subst (Chosen _ _) (operation .operation .given .1) (operation .before .before .operation-line .ensures)) .inside
 
 enum-known-entries : tie.Need-enum-known-entries
 enum-known-entries c = search needs
@@ -91,9 +107,15 @@ same-length-10 : tie.Need-same-length-10
 same-length-10 c = search needs
 
 returns-4 : tie.Need-returns-4
-returns-4 c = no-curve (c .before .before .before .before .before .before .before .before .before .before .before .before .before .before .before .before .before .before .before .before .before .before .before .before .before .before .before .before .before .before .before .before .before .args .text .now) _ _ (subst (Numbered _ _) (c .before .before .before .before .before .before .before .before .before .before .before .before .before .before .before .before .before .before .before .before .before .before .before .before .before .modulus .given .1) (c .before .before .before .before .before .before .before .before .before .before .before .before .before .before .before .before .before .before .before .before .before .before .before .before .before .before .before .modulus-line .ensures))
-    _ _ _ _ _ _ _ _ _ _ (subst (RowsRead _ _ _ _ _ _ _ _) (c .before .before .before .before .before .before .before .before .before .before .before .before .a-count .given .1) (c .before .before .before .before .before .before .before .before .before .before .before .before .before .before .before .before .before .before .before .before .family-lines .ensures))
-    _ _ (subst (Chosen _ _) (c .before .before .before .before .before .before .before .before .operation .given .1) (c .before .before .before .before .before .before .before .before .before .before .operation-line .ensures))
+returns-4 c =
+    let operation = c .before .before .before .before .before .before .before .before in
+    let rows = operation .before .before .before .before in
+    let modulus = rows .before .before .before .before .before .before .before .before .before .before .before .before .before in
+    let start = modulus .before .before .before .before .before .before .before .before in
+    no-curve (start .args .text .now) _ _ (subst (Numbered _ _) (modulus .modulus .given .1) (modulus .before .before .modulus-line .ensures))
+    _ _ _ _ _ _ _ _ _ _
+    (subst (RowsRead _ _ _ _ _ _ _ _) (rows .a-count .given .1) (rows .before .before .before .before .before .before .before .before .family-lines .ensures))
+    _ _ (subst (Chosen _ _) (operation .operation .given .1) (operation .before .before .operation-line .ensures))
     (subst (Listed _ _ _ _) (c .enum-told4 .given .1) (c .before .before .before .before .numbers-line .ensures))
 
 same-length-11 : tie.Need-same-length-11
@@ -109,10 +131,17 @@ same-length-14 : tie.Need-same-length-14
 same-length-14 c = search needs
 
 returns-5 : tie.Need-returns-5
-returns-5 c = no-end (c .before .before .before .before .before .before .before .before .before .before .before .before .before .before .before .before .before .before .before .before .before .before .before .before .before .before .before .before .before .before .before .before .before .before .before .args .text .now) _ _ (subst (Numbered _ _) (c .before .before .before .before .before .before .before .before .before .before .before .before .before .before .before .before .before .before .before .before .before .before .before .before .before .before .before .modulus .given .1) (c .before .before .before .before .before .before .before .before .before .before .before .before .before .before .before .before .before .before .before .before .before .before .before .before .before .before .before .before .before .modulus-line .ensures))
-    _ _ _ _ _ _ _ _ _ _ (subst (RowsRead _ _ _ _ _ _ _ _) (c .before .before .before .before .before .before .before .before .before .before .before .before .before .before .a-count .given .1) (c .before .before .before .before .before .before .before .before .before .before .before .before .before .before .before .before .before .before .before .before .before .before .family-lines .ensures))
-    _ _ (subst (Chosen _ _) (c .before .before .before .before .before .before .before .before .before .before .operation .given .1) (c .before .before .before .before .before .before .before .before .before .before .before .before .operation-line .ensures))
-    _ _ _ _ (subst (Listed _ _ _ _) (c .before .before .entries .given .1) (c .before .before .before .before .before .before .numbers-line .ensures)) (c .if1 .taken)
+returns-5 c =
+    let curve = c .before .before in
+    let operation = curve .before .before .before .before .before .before .before .before in
+    let rows = operation .before .before .before .before in
+    let modulus = rows .before .before .before .before .before .before .before .before .before .before .before .before .before in
+    let start = modulus .before .before .before .before .before .before .before .before in
+    no-end (start .args .text .now) _ _ (subst (Numbered _ _) (modulus .modulus .given .1) (modulus .before .before .modulus-line .ensures))
+    _ _ _ _ _ _ _ _ _ _
+    (subst (RowsRead _ _ _ _ _ _ _ _) (rows .a-count .given .1) (rows .before .before .before .before .before .before .before .before .family-lines .ensures))
+    _ _ (subst (Chosen _ _) (operation .operation .given .1) (operation .before .before .operation-line .ensures))
+    _ _ _ _ (subst (Listed _ _ _ _) (curve .entries .given .1) (curve .before .before .before .before .numbers-line .ensures)) (c .if1 .taken)
 
 same-length-15 : tie.Need-same-length-15
 same-length-15 c = search needs
@@ -127,10 +156,17 @@ same-length-18 : tie.Need-same-length-18
 same-length-18 c = search needs
 
 returns-6 : tie.Need-returns-6
-returns-6 c = job-at (c .before .before .before .before .before .before .before .before .before .before .before .before .before .before .before .before .before .before .before .before .before .before .before .before .before .before .before .before .before .before .before .before .before .before .before .args .text .now) _ _ (subst (Numbered _ _) (c .before .before .before .before .before .before .before .before .before .before .before .before .before .before .before .before .before .before .before .before .before .before .before .before .before .before .before .modulus .given .1) (c .before .before .before .before .before .before .before .before .before .before .before .before .before .before .before .before .before .before .before .before .before .before .before .before .before .before .before .before .before .modulus-line .ensures))
-    _ _ _ _ _ _ _ _ _ _ (subst (RowsRead _ _ _ _ _ _ _ _) (c .before .before .before .before .before .before .before .before .before .before .before .before .before .before .a-count .given .1) (c .before .before .before .before .before .before .before .before .before .before .before .before .before .before .before .before .before .before .before .before .before .before .family-lines .ensures))
-    _ _ (subst (Chosen _ _) (c .before .before .before .before .before .before .before .before .before .before .operation .given .1) (c .before .before .before .before .before .before .before .before .before .before .before .before .operation-line .ensures))
-    _ _ _ _ (subst (Listed _ _ _ _) (c .before .before .entries .given .1) (c .before .before .before .before .before .before .numbers-line .ensures)) (c .if1 .left)
+returns-6 c =
+    let curve = c .before .before in
+    let operation = curve .before .before .before .before .before .before .before .before in
+    let rows = operation .before .before .before .before in
+    let modulus = rows .before .before .before .before .before .before .before .before .before .before .before .before .before in
+    let start = modulus .before .before .before .before .before .before .before .before in
+    job-at (start .args .text .now) _ _ (subst (Numbered _ _) (modulus .modulus .given .1) (modulus .before .before .modulus-line .ensures))
+    _ _ _ _ _ _ _ _ _ _
+    (subst (RowsRead _ _ _ _ _ _ _ _) (rows .a-count .given .1) (rows .before .before .before .before .before .before .before .before .family-lines .ensures))
+    _ _ (subst (Chosen _ _) (operation .operation .given .1) (operation .before .before .operation-line .ensures))
+    _ _ _ _ (subst (Listed _ _ _ _) (curve .entries .given .1) (curve .before .before .before .before .numbers-line .ensures)) (c .if1 .left)
 
 pub job-form-spec : {M : Type 1} → statement M
 job-form-spec =

@@ -25,22 +25,42 @@ enum-told : tie.Need-enum-told
 enum-told c = search needs
 
 returns-2 : tie.Need-returns-2
-returns-2 c = modulus-wrong _ _ (c .before .before .before .before .has-key .ensures) (not-false _ (c .before .before .before .if1 .left)) _ (c .before .before .read-number .ensures) (c .enum-told .given .1)
+returns-2 c =
+    let key = c .before .before .before in
+    modulus-wrong _ _ (key .before .has-key .ensures) (not-false _ (key .if1 .left)) _ (c .before .before .read-number .ensures) (c .enum-told .given .1)
 
 slice-aggregate-has-key-2 : tie.Need-slice-aggregate-has-key-2
 slice-aggregate-has-key-2 c = search needs
 
 has-key-requires-2 : tie.Need-has-key-requires-2
-has-key-requires-2 c κs = modulus-inside _ _ (c .before .before .before .before .before .before .has-key .ensures) (not-false _ (c .before .before .before .before .before .if1 .left)) _ (c .before .before .before .before .read-number .ensures) _ _ (c .before .before .modulus .given .1)
+has-key-requires-2 c κs =
+    let number = c .before .before in
+    let key = number .before .before .before in
+    modulus-inside _ _ (key .before .has-key .ensures) (not-false _ (key .if1 .left)) _ (number .before .before .read-number .ensures) _ _ (number .modulus .given .1)
 
 returns-3 : tie.Need-returns-3
-returns-3 c = modulus-open _ _ (c .before .before .before .before .before .before .before .before .has-key .ensures) (not-false _ (c .before .before .before .before .before .before .before .if1 .left)) _ (c .before .before .before .before .before .before .read-number .ensures) _ _ (c .before .before .before .before .modulus .given .1) _ (c .before .has-key2 .ensures) (not-true _ (c .if2 .taken))
+returns-3 c =
+    let number = c .before .before .before .before in
+    let key = number .before .before .before in
+    modulus-open _ _ (key .before .has-key .ensures) (not-false _ (key .if1 .left)) _ (number .before .before .read-number .ensures) _ _ (number .modulus .given .1)
+    _ (c .before .has-key2 .ensures) (not-true _ (c .if2 .taken))
 
 add-t13 : tie.Need-add-t13
-add-t13 c = omega (arith, modulus-end _ _ (c .before .before .before .before .before .before .before .before .has-key .ensures) (not-false _ (c .before .before .before .before .before .before .before .if1 .left)) _ (c .before .before .before .before .before .before .read-number .ensures) _ _ (c .before .before .before .before .modulus .given .1) _ (c .before .has-key2 .ensures) (not-false _ (c .if2 .left)))
+add-t13 c =
+    let number = c .before .before .before .before in
+    let key = number .before .before .before in
+    omega (
+      arith,
+      modulus-end _ _ (key .before .has-key .ensures) (not-false _ (key .if1 .left)) _ (number .before .before .read-number .ensures) _ _ (number .modulus .given .1)
+          _ (c .before .has-key2 .ensures) (not-false _ (c .if2 .left)),
+    )
 
 returns-4 : tie.Need-returns-4
-returns-4 c = modulus-found _ _ (c .before .before .before .before .before .before .before .before .has-key .ensures) (not-false _ (c .before .before .before .before .before .before .before .if1 .left)) _ (c .before .before .before .before .before .before .read-number .ensures) _ _ (c .before .before .before .before .modulus .given .1) _ (c .before .has-key2 .ensures) (not-false _ (c .if2 .left))
+returns-4 c =
+    let number = c .before .before .before .before in
+    let key = number .before .before .before in
+    modulus-found _ _ (key .before .has-key .ensures) (not-false _ (key .if1 .left)) _ (number .before .before .read-number .ensures) _ _ (number .modulus .given .1)
+    _ (c .before .has-key2 .ensures) (not-false _ (c .if2 .left))
 
 pub modulus-line-spec : {M : Type 1} → statement M
 modulus-line-spec =

@@ -19,8 +19,10 @@ add-t12 c = search needs
 
 returns : tie.Need-returns
 unfolding namedLine line name
-returns c = let start = c .before .before .before .before in
-    operation-found (start .args .text .now) (start .args .at) Operation.Expand (key-found _ _ (namedLine Operation.Expand) _ (c .before .has-key .ensures) (start .pre) (c .if1 .taken))
+returns c =
+    let start = c .before .before .before .before in
+    operation-found (start .args .text .now) (start .args .at) Operation.Expand
+    (key-found _ _ (namedLine Operation.Expand) _ (c .before .has-key .ensures) (start .pre) (c .if1 .taken))
 
 slice-aggregate-has-key-2 : tie.Need-slice-aggregate-has-key-2
 slice-aggregate-has-key-2 c = search needs
@@ -33,8 +35,10 @@ add-t17 c = search needs
 
 returns-2 : tie.Need-returns-2
 unfolding namedLine line name
-returns-2 c = let start = c .before .before .before .before .before .before .before in
-    operation-found (start .args .text .now) (start .args .at) Operation.Adjoint (key-found _ _ (namedLine Operation.Adjoint) _ (c .before .has-key2 .ensures) (start .pre) (c .if2 .taken))
+returns-2 c =
+    let start = c .before .before .before .before .before .before .before in
+    operation-found (start .args .text .now) (start .args .at) Operation.Adjoint
+    (key-found _ _ (namedLine Operation.Adjoint) _ (c .before .has-key2 .ensures) (start .pre) (c .if2 .taken))
 
 slice-aggregate-has-key-3 : tie.Need-slice-aggregate-has-key-3
 slice-aggregate-has-key-3 c = search needs
@@ -47,8 +51,10 @@ add-t22 c = search needs
 
 returns-3 : tie.Need-returns-3
 unfolding namedLine line name
-returns-3 c = let start = c .before .before .before .before .before .before .before .before .before .before in
-    operation-found (start .args .text .now) (start .args .at) Operation.Decompose (key-found _ _ (namedLine Operation.Decompose) _ (c .before .has-key3 .ensures) (start .pre) (c .if3 .taken))
+returns-3 c =
+    let start = c .before .before .before .before .before .before .before .before .before .before in
+    operation-found (start .args .text .now) (start .args .at) Operation.Decompose
+    (key-found _ _ (namedLine Operation.Decompose) _ (c .before .has-key3 .ensures) (start .pre) (c .if3 .taken))
 
 slice-aggregate-has-key-4 : tie.Need-slice-aggregate-has-key-4
 slice-aggregate-has-key-4 c = search needs
@@ -61,8 +67,10 @@ add-t27 c = search needs
 
 returns-4 : tie.Need-returns-4
 unfolding namedLine line name
-returns-4 c = let start = c .before .before .before .before .before .before .before .before .before .before .before .before .before in
-    operation-found (start .args .text .now) (start .args .at) Operation.Moments (key-found _ _ (namedLine Operation.Moments) _ (c .before .has-key4 .ensures) (start .pre) (c .if4 .taken))
+returns-4 c =
+    let start = c .before .before .before .before .before .before .before .before .before .before .before .before .before in
+    operation-found (start .args .text .now) (start .args .at) Operation.Moments
+    (key-found _ _ (namedLine Operation.Moments) _ (c .before .has-key4 .ensures) (start .pre) (c .if4 .taken))
 
 slice-aggregate-has-key-5 : tie.Need-slice-aggregate-has-key-5
 slice-aggregate-has-key-5 c = search needs
@@ -75,17 +83,26 @@ add-t32 c = search needs
 
 returns-5 : tie.Need-returns-5
 unfolding namedLine line name
-returns-5 c = let start = c .before .before .before .before .before .before .before .before .before .before .before .before .before .before .before .before in
-    operation-found (start .args .text .now) (start .args .at) Operation.Norms (key-found _ _ (namedLine Operation.Norms) _ (c .before .has-key5 .ensures) (start .pre) (c .if5 .taken))
+returns-5 c =
+    let start = c .before .before .before .before .before .before .before .before .before .before .before .before .before .before .before .before in
+    operation-found (start .args .text .now) (start .args .at) Operation.Norms
+    (key-found _ _ (namedLine Operation.Norms) _ (c .before .has-key5 .ensures) (start .pre) (c .if5 .taken))
 
 returns-6 : tie.Need-returns-6
 unfolding namedLine line name
-returns-6 c = let text = c .before .before .before .before .before .before .before .before .before .before .before .before .before .before .before .before .args .text .now in
-    let at = c .before .before .before .before .before .before .before .before .before .before .before .before .before .before .before .before .args .at in
-    operation-missed text at (each-operation _ (key-missed text at (namedLine Operation.Expand) _ (c .before .before .before .before .before .before .before .before .before .before .before .before .before .has-key .ensures) (c .before .before .before .before .before .before .before .before .before .before .before .before .if1 .left))
-    (key-missed text at (namedLine Operation.Adjoint) _ (c .before .before .before .before .before .before .before .before .before .before .has-key2 .ensures) (c .before .before .before .before .before .before .before .before .before .if2 .left))
-    (key-missed text at (namedLine Operation.Decompose) _ (c .before .before .before .before .before .before .before .has-key3 .ensures) (c .before .before .before .before .before .before .if3 .left))
-    (key-missed text at (namedLine Operation.Moments) _ (c .before .before .before .before .has-key4 .ensures) (c .before .before .before .if4 .left))
+returns-6 c =
+    let fourth = c .before .before .before in
+    let third = fourth .before .before .before in
+    let second = third .before .before .before in
+    let first = second .before .before .before in
+    let start = first .before .before .before .before in
+    let text = start .args .text .now in
+    let at = start .args .at in
+    operation-missed text at (each-operation _
+    (key-missed text at (namedLine Operation.Expand) _ (first .before .has-key .ensures) (first .if1 .left))
+    (key-missed text at (namedLine Operation.Adjoint) _ (second .before .has-key2 .ensures) (second .if2 .left))
+    (key-missed text at (namedLine Operation.Decompose) _ (third .before .has-key3 .ensures) (third .if3 .left))
+    (key-missed text at (namedLine Operation.Moments) _ (fourth .before .has-key4 .ensures) (fourth .if4 .left))
     (key-missed text at (namedLine Operation.Norms) _ (c .before .has-key5 .ensures) (c .if5 .left)))
 
 pub operation-line-spec : {M : Type 1} → statement M

@@ -6,13 +6,18 @@ use Rattle.job.proofs.answer.Statement.{statement}
 use Rattle.job.proofs.answer.Tie as tie
 
 result-count-requires : tie.Need-result-count-requires
-result-count-requires c κs = few-rows _ _ _ _ _ _ _ _ _ _ (c .before .before .before .before .before .before .pre)
+result-count-requires c κs =
+    let start = c .before .before .before .before .before .before in
+    few-rows _ _ _ _ _ _ _ _ _ _ (start .pre)
 
 slice-aggregate-convert-parts : tie.Need-slice-aggregate-convert-parts
 slice-aggregate-convert-parts c = search needs
 
 convert-parts-requires : tie.Need-convert-parts-requires
-convert-parts-requires c κs = parts _ _ _ _ _ _ _ _ _ _ (c .before .before .before .before .before .before .before .before .before .pre) _ (c .before .before .result-count .ensures) _ (omega arith)
+convert-parts-requires c κs =
+    let counted = c .before .before in
+    let start = counted .before .before .before .before .before .before .before in
+    parts _ _ _ _ _ _ _ _ _ _ (start .pre) _ (counted .result-count .ensures) _ (omega arith)
 
 enum-told : tie.Need-enum-told
 enum-told c = search needs
@@ -27,8 +32,12 @@ same-length : tie.Need-same-length
 same-length c = search needs
 
 returns : tie.Need-returns
-returns c = values-refused _ _ _ _ _ _ _ _ _ _ (c .before .before .before .before .before .before .before .before .before .before .before .before .before .before .before .before .pre) _ (c .before .before .before .before .before .before .before .before .before .result-count .ensures)
-    _ _ _ _ (c .before .before .before .before .before .before .convert-parts .ensures) _ (c .before .enum-told2 .given .1) _ (c .with-length .ensures)
+returns c =
+    let converted = c .before .before .before .before .before .before in
+    let counted = converted .before .before .before in
+    let start = counted .before .before .before .before .before .before .before in
+    values-refused _ _ _ _ _ _ _ _ _ _ (start .pre) _ (counted .result-count .ensures)
+    _ _ _ _ (converted .convert-parts .ensures) _ (c .before .enum-told2 .given .1) _ (c .with-length .ensures)
 
 sub-write-answer : tie.Need-sub-write-answer
 sub-write-answer c = search needs
@@ -37,11 +46,18 @@ part-write-answer-start : tie.Need-part-write-answer-start
 part-write-answer-start c = search needs
 
 part-write-answer-end : tie.Need-part-write-answer-end
-part-write-answer-end c = count-fits _ _ _ _ _ _ _ _ _ _ (c .before .before .before .before .before .before .before .before .before .before .before .before .before .before .before .before .before .pre) _ (c .before .before .before .before .before .before .before .before .before .before .result-count .ensures)
-    _ _ _ _ (c .before .before .before .before .before .before .before .convert-parts .ensures) (c .before .before .enum-told .given .1)
+part-write-answer-end c =
+    let converted = c .before .before .before .before .before .before .before in
+    let counted = converted .before .before .before in
+    let start = counted .before .before .before .before .before .before .before in
+    count-fits _ _ _ _ _ _ _ _ _ _ (start .pre) _ (counted .result-count .ensures)
+    _ _ _ _ (converted .convert-parts .ensures) (c .before .before .enum-told .given .1)
 
 write-answer-requires : tie.Need-write-answer-requires
-write-answer-requires c κs = room _ _ _ _ _ _ _ _ _ _ (c .before .before .before .before .before .before .before .before .before .before .before .before .before .before .before .before .before .before .pre) _ (c .before .before .before .before .before .before .before .before .before .before .before .result-count .ensures) _
+write-answer-requires c κs =
+    let counted = c .before .before .before .before .before .before .before .before .before .before .before in
+    let start = counted .before .before .before .before .before .before .before in
+    room _ _ _ _ _ _ _ _ _ _ (start .pre) _ (counted .result-count .ensures) _
 
 cast-length : tie.Need-cast-length
 cast-length c = search needs
@@ -53,8 +69,13 @@ same-length-3 : tie.Need-same-length-3
 same-length-3 c = search needs
 
 returns-2 : tie.Need-returns-2
-returns-2 c = replied _ _ _ _ _ _ _ _ _ _ (c .before .before .before .before .before .before .before .before .before .before .before .before .before .before .before .before .before .before .before .before .before .pre) _ (c .before .before .before .before .before .before .before .before .before .before .before .before .before .before .result-count .ensures)
-    _ _ _ _ (c .before .before .before .before .before .before .before .before .before .before .before .convert-parts .ensures) (c .before .before .before .before .before .before .enum-told .given .1) _ _ (c .before .before .write-answer .ensures)
+returns-2 c =
+    let passed = c .before .before .before .before .before .before in
+    let converted = passed .before .before .before .before .before in
+    let counted = converted .before .before .before in
+    let start = counted .before .before .before .before .before .before .before in
+    replied _ _ _ _ _ _ _ _ _ _ (start .pre) _ (counted .result-count .ensures)
+    _ _ _ _ (converted .convert-parts .ensures) (passed .enum-told .given .1) _ _ (c .before .before .write-answer .ensures)
 
 pub answer-spec : {M : Type 1} → statement M
 answer-spec =

@@ -19,7 +19,8 @@ with-length-requires : tie.Need-with-length-requires
 with-length-requires c κs = search needs
 
 returns : tie.Need-returns
-returns c = too-long _ _ _ _ (c .before .before .before .text-length .ensures) _ (c .before .enum-told2 .given .1) _ (c .with-length .ensures)
+returns c =
+    too-long _ _ _ _ (c .before .before .before .text-length .ensures) _ (c .before .enum-told2 .given .1) _ (c .with-length .ensures)
 
 zeros-requires : tie.Need-zeros-requires
 zeros-requires c κs = search needs
@@ -55,7 +56,9 @@ enum-told-3 : tie.Need-enum-told-3
 enum-told-3 c = search needs
 
 returns-2 : tie.Need-returns-2
-returns-2 c = no-form _ _ _ (short-text _ _ (c .before .before .before .before .before .before .before .before .before .before .before .before .before .before .before .before .before .text-length .ensures) (c .before .before .before .before .before .before .before .before .before .before .before .before .before .before .before .enum-told .given .1))
+returns-2 c =
+    let fits = c .before .before .before .before .before .before .before .before .before .before .before .before .before .before .before in
+    no-form _ _ _ (short-text _ _ (fits .before .before .text-length .ensures) (fits .enum-told .given .1))
     (subst (Formed _ _ _ _ _ _ _ _ _) (c .enum-told3 .given .1) (c .before .before .before .before .before .before .job-form .ensures))
 
 sizes-requires : tie.Need-sizes-requires
@@ -71,9 +74,13 @@ with-length-requires-2 : tie.Need-with-length-requires-2
 with-length-requires-2 c κs = search needs
 
 returns-3 : tie.Need-returns-3
-returns-3 c = sizes-refused _ _ _ _ _ _ _ _ _ _ _ _ _ _ _ _ _ (short-text _ _ (c .before .before .before .before .before .before .before .before .before .before .before .before .before .before .before .before .before .before .before .before .before .before .text-length .ensures) (c .before .before .before .before .before .before .before .before .before .before .before .before .before .before .before .before .before .before .before .before .enum-told .given .1))
-    (subst (Formed _ _ _ _ _ _ _ _ _) (c .before .before .before .before .before .modulus .given .1) (c .before .before .before .before .before .before .before .before .before .before .before .job-form .ensures))
-    (c .before .before .before .before .before .before .before .before .before .before .before .before .before .before .before .before .before .before .before .zeros .ensures) (c .before .before .before .before .before .before .before .before .before .before .before .before .before .before .before .before .before .before .zeros2 .ensures) (c .before .before .before .before .before .before .before .before .before .before .before .before .before .before .before .before .before .zeros3 .ensures) (c .before .before .before .before .before .before .before .before .before .before .before .before .before .before .before .before .zeros4 .ensures)
+returns-3 c =
+    let read = c .before .before .before .before .before in
+    let lists = read .before .before .before .before .before .before .before .before .before .before .before in
+    let fits = lists .before .before .before .before in
+    sizes-refused _ _ _ _ _ _ _ _ _ _ _ _ _ _ _ _ _ (short-text _ _ (fits .before .before .text-length .ensures) (fits .enum-told .given .1))
+    (subst (Formed _ _ _ _ _ _ _ _ _) (read .modulus .given .1) (read .before .before .before .before .before .before .job-form .ensures))
+    (lists .before .before .before .zeros .ensures) (lists .before .before .zeros2 .ensures) (lists .before .zeros3 .ensures) (lists .zeros4 .ensures)
     _ (c .before .before .before .sizes .ensures) _ (c .before .enum-told5 .given .1) _ (c .with-length2 .ensures)
 
 slice-aggregate-answer : tie.Need-slice-aggregate-answer
@@ -89,10 +96,15 @@ slice-aggregate-answer-4 : tie.Need-slice-aggregate-answer-4
 slice-aggregate-answer-4 c = search needs
 
 answer-requires : tie.Need-answer-requires
-answer-requires c κs = ready _ _ _ _ _ _ _ _ _ _ _ _ _ _ _ _ _ (short-text _ _ (c .before .before .before .before .before .before .before .before .before .before .before .before .before .before .before .before .before .before .before .before .before .before .before .before .before .before .before .text-length .ensures) (c .before .before .before .before .before .before .before .before .before .before .before .before .before .before .before .before .before .before .before .before .before .before .before .before .before .enum-told .given .1))
-    (subst (Formed _ _ _ _ _ _ _ _ _) (c .before .before .before .before .before .before .before .before .before .before .modulus .given .1) (c .before .before .before .before .before .before .before .before .before .before .before .before .before .before .before .before .job-form .ensures))
-    (c .before .before .before .before .before .before .before .before .before .before .before .before .before .before .before .before .before .before .before .before .before .before .before .before .zeros .ensures) (c .before .before .before .before .before .before .before .before .before .before .before .before .before .before .before .before .before .before .before .before .before .before .before .zeros2 .ensures) (c .before .before .before .before .before .before .before .before .before .before .before .before .before .before .before .before .before .before .before .before .before .before .zeros3 .ensures) (c .before .before .before .before .before .before .before .before .before .before .before .before .before .before .before .before .before .before .before .before .before .zeros4 .ensures)
-    _ (c .before .before .before .before .before .before .before .before .sizes .ensures) (c .before .before .before .before .before .before .enum-told4 .given .1)
+answer-requires c κs =
+    let sized = c .before .before .before .before .before .before in
+    let read = sized .before .before .before .before in
+    let lists = read .before .before .before .before .before .before .before .before .before .before .before in
+    let fits = lists .before .before .before .before in
+    ready _ _ _ _ _ _ _ _ _ _ _ _ _ _ _ _ _ (short-text _ _ (fits .before .before .text-length .ensures) (fits .enum-told .given .1))
+    (subst (Formed _ _ _ _ _ _ _ _ _) (read .modulus .given .1) (read .before .before .before .before .before .before .job-form .ensures))
+    (lists .before .before .before .zeros .ensures) (lists .before .before .zeros2 .ensures) (lists .before .zeros3 .ensures) (lists .zeros4 .ensures)
+    _ (sized .before .before .sizes .ensures) (sized .enum-told4 .given .1)
 
 same-length : tie.Need-same-length
 same-length c = search needs
@@ -101,10 +113,15 @@ same-length-2 : tie.Need-same-length-2
 same-length-2 c = search needs
 
 returns-4 : tie.Need-returns-4
-returns-4 c = text-answered _ _ _ _ _ _ _ _ _ _ _ _ _ _ _ _ _ (short-text _ _ (c .before .before .before .before .before .before .before .before .before .before .before .before .before .before .before .before .before .before .before .before .before .before .before .before .before .before .before .before .before .before .before .before .text-length .ensures) (c .before .before .before .before .before .before .before .before .before .before .before .before .before .before .before .before .before .before .before .before .before .before .before .before .before .before .before .before .before .before .enum-told .given .1))
-    (subst (Formed _ _ _ _ _ _ _ _ _) (c .before .before .before .before .before .before .before .before .before .before .before .before .before .before .before .modulus .given .1) (c .before .before .before .before .before .before .before .before .before .before .before .before .before .before .before .before .before .before .before .before .before .job-form .ensures))
-    (c .before .before .before .before .before .before .before .before .before .before .before .before .before .before .before .before .before .before .before .before .before .before .before .before .before .before .before .before .before .zeros .ensures) (c .before .before .before .before .before .before .before .before .before .before .before .before .before .before .before .before .before .before .before .before .before .before .before .before .before .before .before .before .zeros2 .ensures) (c .before .before .before .before .before .before .before .before .before .before .before .before .before .before .before .before .before .before .before .before .before .before .before .before .before .before .before .zeros3 .ensures) (c .before .before .before .before .before .before .before .before .before .before .before .before .before .before .before .before .before .before .before .before .before .before .before .before .before .before .zeros4 .ensures)
-    _ (c .before .before .before .before .before .before .before .before .before .before .before .before .before .sizes .ensures) (c .before .before .before .before .before .before .before .before .before .before .before .enum-told4 .given .1) _ _ _ (c .before .before .before .before .answer .ensures)
+returns-4 c =
+    let sized = c .before .before .before .before .before .before .before .before .before .before .before in
+    let read = sized .before .before .before .before in
+    let lists = read .before .before .before .before .before .before .before .before .before .before .before in
+    let fits = lists .before .before .before .before in
+    text-answered _ _ _ _ _ _ _ _ _ _ _ _ _ _ _ _ _ (short-text _ _ (fits .before .before .text-length .ensures) (fits .enum-told .given .1))
+    (subst (Formed _ _ _ _ _ _ _ _ _) (read .modulus .given .1) (read .before .before .before .before .before .before .job-form .ensures))
+    (lists .before .before .before .zeros .ensures) (lists .before .before .zeros2 .ensures) (lists .before .zeros3 .ensures) (lists .zeros4 .ensures)
+    _ (sized .before .before .sizes .ensures) (sized .enum-told4 .given .1) _ _ _ (c .before .before .before .before .answer .ensures)
 
 pub convert-text-spec : {M : Type 1} → statement M
 convert-text-spec =

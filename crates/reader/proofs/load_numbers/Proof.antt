@@ -5,7 +5,8 @@ use native.Mathlib.Omega.{arith}
 use lib.ListN.{length}
 use borrow.Author.Needs.{needs}
 use Rattle.reader.specs.Places.{number-found, number-missed}
-use Rattle.reader.specs.Loading.{Loading, list-past, list-empty, loading-starts, loading-none, loading-past, loading-open, loading-next, loading-ends, loading-other}
+use Rattle.reader.specs.Loading.{Loading, list-past, list-empty, loading-starts}
+use Rattle.reader.specs.Loading.{loading-none, loading-past, loading-open, loading-next, loading-ends, loading-other}
 use Rattle.reader.proofs.load_numbers.Statement.{statement}
 use Rattle.reader.proofs.load_numbers.Tie as tie
 
@@ -43,13 +44,20 @@ same-length : tie.Need-same-length Inv-loop μ-loop
 same-length c = c .before .before .before .before .loop .inv .size
 
 returns-3 : tie.Need-returns-3 Inv-loop μ-loop
-returns-3 c = loading-none _ _ _ _ _ _ (c .before .before .before .before .loop .inv) (number-missed (c .before .before .before .before .before .before .before .before .before .before .args .text .now) (c .before .before .before .before .loop .i) _ (c .before .before .read-number .ensures) (c .enum-told .given .1))
+returns-3 c =
+    let loop = c .before .before .before .before in
+    let start = loop .before .before .before .before .before .before in
+    loading-none _ _ _ _ _ _ (loop .loop .inv)
+    (number-missed (start .args .text .now) (loop .loop .i) _ (c .before .before .read-number .ensures) (c .enum-told .given .1))
 
 same-length-2 : tie.Need-same-length-2 Inv-loop μ-loop
 same-length-2 c = c .before .before .before .before .before .before .loop .inv .size
 
 returns-4 : tie.Need-returns-4 Inv-loop μ-loop
-returns-4 c = loading-open _ _ _ _ _ _ (c .before .before .before .before .before .before .loop .inv) _ _ (number-found _ _ _ (c .before .before .before .before .read-number .ensures) _ _ (c .before .before .x .given .1)) (c .if3 .taken)
+returns-4 c =
+    let number = c .before .before in
+    let loop = number .before .before .before .before in
+    loading-open _ _ _ _ _ _ (loop .loop .inv) _ _ (number-found _ _ _ (number .before .before .read-number .ensures) _ _ (number .x .given .1)) (c .if3 .taken)
 
 store-requires : tie.Need-store-requires Inv-loop μ-loop
 store-requires c κs = tt
@@ -64,10 +72,20 @@ add-i : tie.Need-add-i Inv-loop μ-loop
 add-i c = omega arith
 
 loop-less : tie.Need-loop-less Inv-loop μ-loop
-loop-less c = omega (arith, number-found (c .before .before .before .before .before .before .before .before .before .before .before .before .before .before .before .before .before .before .args .text .now) (c .before .before .before .before .before .before .before .before .before .before .before .before .loop .i) _ (c .before .before .before .before .before .before .before .before .before .before .read-number .ensures) _ _ (c .before .before .before .before .before .before .before .before .x .given .1) .on)
+loop-less c =
+    let number = c .before .before .before .before .before .before .before .before in
+    let loop = number .before .before .before .before in
+    let start = loop .before .before .before .before .before .before in
+    omega (arith, number-found (start .args .text .now) (loop .loop .i) _ (number .before .before .read-number .ensures) _ _ (number .x .given .1) .on)
 
 loop-again : tie.Need-loop-again Inv-loop μ-loop
-loop-again c = loading-next _ _ _ _ _ _ (c .before .before .before .before .before .before .before .before .before .before .before .before .loop .inv) _ _ (number-found _ _ _ (c .before .before .before .before .before .before .before .before .before .before .read-number .ensures) _ _ (c .before .before .before .before .before .before .before .before .x .given .1)) (c .before .before .before .before .before .before .if3 .left) _ (c .before .before .before .before .store .ensures) (c .match2 .keys1)
+loop-again c =
+    let stored = c .before .before .before .before in
+    let more = stored .before .before in
+    let number = more .before .before in
+    let loop = number .before .before .before .before in
+    loading-next _ _ _ _ _ _ (loop .loop .inv) _ _ (number-found _ _ _ (number .before .before .read-number .ensures) _ _ (number .x .given .1))
+    (more .if3 .left) _ (stored .store .ensures) (c .match2 .keys1)
 
 add-t22 : tie.Need-add-t22 Inv-loop μ-loop
 add-t22 c = omega arith
@@ -76,13 +94,24 @@ same-length-3 : tie.Need-same-length-3 Inv-loop μ-loop
 same-length-3 c = search needs
 
 returns-5 : tie.Need-returns-5 Inv-loop μ-loop
-returns-5 c = loading-ends _ _ _ _ _ _ (c .before .before .before .before .before .before .before .before .before .before .before .before .loop .inv) _ _ (number-found _ _ _ (c .before .before .before .before .before .before .before .before .before .before .read-number .ensures) _ _ (c .before .before .before .before .before .before .before .before .x .given .1)) (c .before .before .before .before .before .before .if3 .left) _ (c .before .before .before .before .store .ensures) (c .match2 .keys2)
+returns-5 c =
+    let stored = c .before .before .before .before in
+    let more = stored .before .before in
+    let number = more .before .before in
+    let loop = number .before .before .before .before in
+    loading-ends _ _ _ _ _ _ (loop .loop .inv) _ _ (number-found _ _ _ (number .before .before .read-number .ensures) _ _ (number .x .given .1))
+    (more .if3 .left) _ (stored .store .ensures) (c .match2 .keys2)
 
 same-length-4 : tie.Need-same-length-4 Inv-loop μ-loop
 same-length-4 c = search needs
 
 returns-6 : tie.Need-returns-6 Inv-loop μ-loop
-returns-6 c = loading-other _ _ _ _ _ _ (c .before .before .before .before .before .before .before .before .before .before .before .before .loop .inv) _ _ (number-found _ _ _ (c .before .before .before .before .before .before .before .before .before .before .read-number .ensures) _ _ (c .before .before .before .before .before .before .before .before .x .given .1)) (c .before .before .before .before .before .before .if3 .left) (c .match2 .rest .0 .1) (c .match2 .rest .1)
+returns-6 c =
+    let more = c .before .before .before .before .before .before in
+    let number = more .before .before in
+    let loop = number .before .before .before .before in
+    loading-other _ _ _ _ _ _ (loop .loop .inv) _ _ (number-found _ _ _ (number .before .before .read-number .ensures) _ _ (number .x .given .1))
+    (more .if3 .left) (c .match2 .rest .0 .1) (c .match2 .rest .1)
 
 same-length-5 : tie.Need-same-length-5 Inv-loop μ-loop
 same-length-5 c = c .before .loop .inv .size

@@ -26,11 +26,12 @@ same-length : tie.Need-same-length
 same-length c = search needs
 
 returns-2 : tie.Need-returns-2
-returns-2 c = let start = c .before .before .before .before .before .before .before .before .before in
+returns-2 c = let key-there = c .before .before .before .before in
+    let start = key-there .before .before .before .before .before in
     let text = start .args .text .now in
     let key = start .args .key .now in
     line-listed text (start .args .at) key _ _ (c .before .before .load-numbers .result)
-    (key-found text (start .args .at) key _ (c .before .before .before .before .before .has-key .ensures) (start .pre) (not-false _ (c .before .before .before .before .if1 .left)))
+    (key-found text (start .args .at) key _ (key-there .before .has-key .ensures) (start .pre) (not-false _ (key-there .if1 .left)))
     (c .before .before .load-numbers .ensures)
 
 pub numbers-line-spec : {M : Type 1} → statement M
