@@ -22,7 +22,8 @@
  * Nothing is allocated and nothing is kept, so calls from several threads do not disturb one another.
  *
  * The stack that a call takes at most, in bytes: measured by tests/stack/run on a painted stack and rounded up, not proved. It counts
- * the arguments, and memcpy and memset of the C library once they are bound.
+ * the arguments, and memcpy and memset of the C library; a dynamic linker that binds one of these at its first call takes some kilobytes
+ * of its own.
  *     zahupnik_invert              64
  *     zahupnik_plain_expand      1536
  *     zahupnik_plain_adjoint     1536
