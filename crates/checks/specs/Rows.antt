@@ -1,24 +1,21 @@
 -- The verdict of the tests on the rows, at each place where a check answers.
--- Proved: what the passes over a, b and c found is the verdict of tests 9, 10 and 11; where the product of all a and c has an inverse, 10 and
--- 11 pass. Assumes nothing.
-use mathlib.Core.Path.{_≡_, sym, _∙_, ap, subst}
+-- Proved: what the passes over a, b and c found is the verdict of tests 9, 10 and 11; where a product of all a and c has an inverse, 10 and 11
+-- pass. Assumes nothing.
+use mathlib.Core.Path.{_≡_, sym, _∙_, subst}
 use mathlib.Core.Bool.{Bool, true, false, _||_}
 use mathlib.Core.List.{List, [], _∷_}
-use Prim.Native.Nat.{ℕ, _*_, _%_, _<_}
-use native.Mathlib.Nat.{mod-mod}
-use lib.ListN.{length, getD}
+use Prim.Native.Nat.{ℕ, _<_}
 use Rattle.definitions.specs.Answers.{answered}
 use Rattle.definitions.specs.Family.{Family, family}
 use Rattle.definitions.specs.Number.{HasInverse}
 use Rattle.definitions.specs.Refusals.{Verdict, finished, refused, verdict, some, notBelow, noInverse, entriesTest, aInverseTest, cInverseTest}
 use Rattle.definitions.specs.declared.Answer.{Answer}
-use Rattle.theory.specs.Inverse.{has-inverse-remainder, product-has-inverse}
-use Rattle.theory.specs.RunningProduct.{runningProduct}
-use Rattle.theory.specs.Verdicts.{verdict-here, verdict-next, some-true, or-false}
+use Rattle.theory.specs.Verdicts.{verdict-here, verdict-next, some-true, some-noInverse-false, or-false}
+use Rattle.reciprocals.specs.Joint.{Joint}
 use Rattle.checks.specs.Calls.{check-refuses, check-passes}
 use Rattle.checks.specs.Either.{or-left, or-right}
 use Rattle.checks.specs.Groups.{inverseRowTests, rowTests}
-use Rattle.checks.specs.Passes.{First, BelowAnswer, FactorAnswer, all-by-product}
+use Rattle.checks.specs.Passes.{First, BelowAnswer, FactorAnswer}
 use Rattle.checks.specs.Shape.{test-refuses, test-passes}
 use Rattle.checks.specs.declared.Entries.{Entries}
 use Rattle.checks.specs.declared.Factors.{Factors}
@@ -93,13 +90,11 @@ module _ (m : ℕ) (a b c : List ℕ) where
   unfolding cInverseTest
   inverses-pass p e = test-passes (cInverseTest f) e ∙ sym (past-a p)
 
-  -- the product of the products of both lists has an inverse
-  pub product-settles : 0 < m → (x y z : ℕ) → x ≡ runningProduct m (λ i. getD a i 0) (length a) → y ≡ runningProduct m (λ i. getD c i 0)
-      (length c)
-      → z ≡ x * y % m → HasInverse m z → finished [] ≡ inverses
-  product-settles pos x y z ex ey e h =
-      let both = product-has-inverse m x y .0 (has-inverse-remainder m z (x * y) (ap (λ t. t % m) e ∙ mod-mod (x * y) m) h) in
-      inverses-pass (all-by-product m a pos (subst (HasInverse m) ex (both .0))) (all-by-product m c pos (subst (HasInverse m) ey (both .1)))
+  -- a product of all has an inverse
+  pub joint-passes : (r : ℕ) → 0 < m → Joint m a c r → HasInverse m r → finished [] ≡ inverses
+  joint-passes r pos h inverse =
+      let all = h .settles inverse in
+      inverses-pass (some-noInverse-false m a 0 pos .1 (all .0)) (some-noInverse-false m c 0 pos .1 (all .1))
 
   -- ---- 9 to 11, the first a check of its own
   module _ (first : Answer) (firstIs : answered first ≡ entries) where

@@ -13,7 +13,6 @@ ghost use Rattle.checks.specs.Groups.{countsTest, rowsTest, lengthTest, 
 use definitions::Answer;
 use residue::Inversion;
 use residue::invert;
-use residue::product;
 use residue::running_product;
 
 // Whether every entry of a list is below the modulus: if not, the place of the first that is not.
@@ -199,13 +198,13 @@ fn row_entries(m: u32, a: &[u32], b: &[u32], c: &[u32]) -> Answer
     Answer::Finished
 }
 
-// 10 and 11: the inverses of the a, then of the c. One inverse settles both, that of the product of all; only if it has none is it
-// looked for whom to blame, among the a first.
+// 10 and 11: the inverses of the a, then of the c. One inverse settles both, that of a product of all; only if it has none is it looked for
+// whom to blame, among the a first.
 fn row_inverses(m: u32, a: &[u32], b: &[u32], c: &[u32]) -> Answer
     requires { ⌜ 0 < m ⌝ }
     ensures { λ r. ⌜ answered r ≡ verdict (inverseRowTests (family m (now (a .entry)) (now (b .entry)) (now (c .entry)))) [] ⌝ }
 {
-    let whole = invert(m, product(m, running_product(m, a), running_product(m, c)));
+    let whole = invert(m, reciprocals::joint_product(m, a, c));
     let Inversion::Absent(_) = whole else {
         return Answer::Finished;
     };

@@ -1,14 +1,17 @@
-// The inverses of all entries of a list modulo m, from one inverse where the product of all has one.
+// The inverses of all entries of a list modulo m, from one inverse where the product of all has one; and one product by which to tell whether
+// all entries of two lists have inverses.
 ghost use mathlib.Core.Path.{_≡_};
-ghost use Prim.Native.Nat.{_<_, _≤_};
+ghost use Prim.Native.Nat.{_+_, _<_, _≤_};
 ghost use lib.ListN.{length, getD};
 ghost use Rattle.definitions.specs.Number as Number;
 ghost use Rattle.theory.specs.Lists.{filled};
 ghost use Rattle.theory.specs.RunningProduct.{runningProduct};
+ghost use Rattle.reciprocals.specs.Joint.{Joint};
 ghost use Rattle.reciprocals.specs.Sharing.{Sharable};
 use residue::Inversion;
 use residue::invert;
 use residue::product_by;
+use residue::running_product;
 
 // The inverse of x modulo m, and 0 where there is none.
 fn inverse_or_zero(m: u32, x: u32) -> u32
@@ -78,4 +81,49 @@ pub fn inverses(m: u32, list: &[u32], n: usize, output: &mut [u32])
         return;
     };
     share_inverse(m, list, n, inverse, output);
+}
+
+// How many pairs of entries both of two lists have.
+fn pair_count(a: usize, c: usize) -> usize
+    ensures { λ r. ⌜ (r + r ≤ a) × (r + r ≤ c) ⌝ }
+{
+    if a < c { a / 2 } else { c / 2 }
+}
+
+// A product of all entries of both lists, modulo m. Four products run side by side, each of every second entry of a list, since a product
+// waits for the one before it.
+pub fn joint_product(m: u32, a: &[u32], c: &[u32]) -> u32
+    requires { ⌜ 0 < m ⌝ }
+    ensures { λ r. ⌜ Joint m (now (a .entry)) (now (c .entry)) r ⌝ }
+{
+    let reciprocal = reduction::reciprocal(m);
+    let pairs = pair_count(a.len(), c.len());
+    let mut p: u32 = 1;
+    let mut q: u32 = 1;
+    let mut s: u32 = 1;
+    let mut t: u32 = 1;
+    let mut k: usize = 0;
+    while k < pairs {
+        let i = 2 * k;
+        let j = 2 * k + 1;
+        p = product_by(m, reciprocal, p, a[i]);
+        q = product_by(m, reciprocal, q, a[j]);
+        s = product_by(m, reciprocal, s, c[i]);
+        t = product_by(m, reciprocal, t, c[j]);
+        k += 1;
+    }
+    let rest = 2 * pairs;
+    let first = product_by(
+        m,
+        reciprocal,
+        product_by(m, reciprocal, p, q),
+        running_product(m, &a[rest..]),
+    );
+    let second = product_by(
+        m,
+        reciprocal,
+        product_by(m, reciprocal, s, t),
+        running_product(m, &c[rest..]),
+    );
+    product_by(m, reciprocal, first, second)
 }

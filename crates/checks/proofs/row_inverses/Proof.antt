@@ -1,18 +1,12 @@
 -- `row_inverses` answers the verdict of tests 10 and 11: one inverse settles both, or two passes find whom to blame. Assumes nothing.
 use Rattle.residue.specs.Inversion.{inverted-found, found-has}
-use Rattle.checks.specs.Rows.{all-invertible, one-without, a-without, c-without, inverses-pass, product-settles}
+use Rattle.checks.specs.Rows.{all-invertible, one-without, a-without, c-without, inverses-pass, joint-passes}
 use borrow.Author.Needs.{needs}
 use Rattle.checks.proofs.row_inverses.Statement.{statement}
 use Rattle.checks.proofs.row_inverses.Tie as tie
 
-running-product-requires : tie.Need-running-product-requires
-running-product-requires c κs = search needs
-
-running-product-requires-2 : tie.Need-running-product-requires-2
-running-product-requires-2 c κs = search needs
-
-product-requires : tie.Need-product-requires
-product-requires c κs = search needs
+joint-product-requires : tie.Need-joint-product-requires
+joint-product-requires c κs = search needs
 
 invert-requires : tie.Need-invert-requires
 invert-requires c κs = search needs
@@ -24,10 +18,10 @@ enum-told-2 : tie.Need-enum-told-2
 enum-told-2 c = search needs
 
 returns : tie.Need-returns
-returns c = let inverted = c .before .before in
-    let products = inverted .before in
-    product-settles _ _ _ _ (products .before .before .before .before .before .before .pre) _ _ _ (products .before .before .running-product .ensures)
-    (products .before .running-product2 .ensures) (products .product .ensures)
+returns c =
+    let inverted = c .before .before in
+    let joint = inverted .before in
+    joint-passes _ _ _ _ _ (joint .before .before .before .before .pre) (joint .joint-product .ensures)
     (found-has _ _ _ (inverted-found _ _ (inverted .invert .ensures) (c .enum-told2 .given .1)))
 
 invertible-requires : tie.Need-invertible-requires
@@ -65,9 +59,7 @@ pub row-inverses-spec : {M : Type 1} → statement M
 row-inverses-spec =
     tie.close
     (tie.spec
-    running-product-requires
-    running-product-requires-2
-    product-requires
+    joint-product-requires
     invert-requires
     enum-told
     enum-told-2
