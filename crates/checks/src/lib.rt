@@ -1,12 +1,13 @@
 // The tests that the calls make before they convert. Each check answers an enum, which its caller takes apart by 'let .. else'
 // before the next check. A pass over a list answers with the first bad entry and the reason.
 ghost use mathlib.Core.Path.{_≡_};
+ghost use mathlib.Core.Bool.{true, false};
 ghost use mathlib.Core.List.{[], _∷_};
 ghost use Prim.Native.Nat.{_<_};
 ghost use lib.Dec.{ltb};
 ghost use Rattle.definitions.specs.Answers.{answered};
 ghost use Rattle.definitions.specs.Family.{family};
-ghost use Rattle.definitions.specs.Refusals.{test, verdict, modulusTest, outputTest, workTest, entriesTest, numberTest};
+ghost use Rattle.definitions.specs.Refusals.{test, verdict, some, notBelow, modulusTest, outputTest, workTest, entriesTest, numberTest};
 ghost use Rattle.definitions.specs.TextCall.{mostBytes, textOutputTest};
 ghost use Rattle.checks.specs.Passes.{BelowAnswer, FactorAnswer};
 ghost use Rattle.checks.specs.Groups.{countsTest, rowsTest, lengthTest, shapeTests, lengthTests, inverseRowTests, rowTests};
@@ -33,9 +34,27 @@ pub enum Factors {
     Without(usize, Reason),
 }
 
+// Whether all entries are below m. It goes to the end of the list whatever it finds, so that the compiler can take several at a time.
+fn all_below(m: u32, list: &[u32]) -> bool
+    ensures { λ r. ⌜ (r ≡ true → some (notBelow m) (now (list .entry)) ≡ false) ⌝ }
+{
+    let mut all = true;
+    let mut i: usize = 0;
+    while i < list.len() {
+        if m <= list[i] {
+            all = false;
+        }
+        i += 1;
+    }
+    all
+}
+
 pub fn entries_below(m: u32, list: &[u32]) -> Entries
     ensures { λ r. ⌜ BelowAnswer m (now (list .entry)) r ⌝ }
 {
+    if all_below(m, list) {
+        return Entries::Residues;
+    }
     let mut i: usize = 0;
     while i < list.len() {
         if m <= list[i] {

@@ -1,8 +1,9 @@
--- `entries_below` finds the first entry that is not below m. The loop's invariant: none of those passed is such an entry.
+-- `entries_below` finds the first entry that is not below m, if there is one. The loop's invariant: none of those passed is such an entry.
 -- Assumes nothing.
 use Prim.Native.Nat.{_-_}
 use native.Mathlib.Omega.{arith}
 use lib.ListN.{length}
+use borrow.Author.Needs.{needs}
 use borrow.Author.Tests.{le-leb, lt-leb}
 use Rattle.definitions.specs.Refusals.{notBelow}
 use Rattle.checks.specs.Passes.{Passed, passed-starts, passed-next, passed-first, passed-ends}
@@ -15,18 +16,24 @@ Inv-loop m list i₀ i = Passed (notBelow m) list i
 abbrev μ-loop : tie.MeasureT-loop
 μ-loop m list i₀ i = length list - i
 
+all-below-requires : tie.Need-all-below-requires Inv-loop μ-loop
+all-below-requires c κs = search needs
+
+returns : tie.Need-returns Inv-loop μ-loop
+returns c = c .before .all-below .ensures (c .if1 .taken)
+
 loop-holds : tie.Need-loop-holds Inv-loop μ-loop
 loop-holds c = passed-starts _ _
 
-mul-if1 : tie.Need-mul-if1 Inv-loop μ-loop
-mul-if1 c = omega arith
+mul-if2 : tie.Need-mul-if2 Inv-loop μ-loop
+mul-if2 c = omega arith
 
-shared-slice-read-if1 : tie.Need-shared-slice-read-if1 Inv-loop μ-loop
-shared-slice-read-if1 c = omega arith
+shared-slice-read-if2 : tie.Need-shared-slice-read-if2 Inv-loop μ-loop
+shared-slice-read-if2 c = omega arith
 
-returns : tie.Need-returns Inv-loop μ-loop
+returns-2 : tie.Need-returns-2 Inv-loop μ-loop
 unfolding notBelow
-returns c = passed-first _ _ _ (c .before .before .before .loop .inv) (c .before .before .loop-test .taken) (le-leb _ _ (c .if1 .taken))
+returns-2 c = passed-first _ _ _ (c .before .before .before .loop .inv) (c .before .before .loop-test .taken) (le-leb _ _ (c .if2 .taken))
 
 add-i : tie.Need-add-i Inv-loop μ-loop
 add-i c = omega arith
@@ -36,10 +43,10 @@ loop-less c = omega arith
 
 loop-again : tie.Need-loop-again Inv-loop μ-loop
 unfolding notBelow
-loop-again c = passed-next _ _ _ (c .before .before .before .loop .inv) (c .before .before .loop-test .taken) (lt-leb _ _ (c .if1 .left))
+loop-again c = passed-next _ _ _ (c .before .before .before .loop .inv) (c .before .before .loop-test .taken) (lt-leb _ _ (c .if2 .left))
 
-returns-2 : tie.Need-returns-2 Inv-loop μ-loop
-returns-2 c = passed-ends _ _ _ (c .before .loop .inv) (c .loop-test .left)
+returns-3 : tie.Need-returns-3 Inv-loop μ-loop
+returns-3 c = passed-ends _ _ _ (c .before .loop .inv) (c .loop-test .left)
 
 pub entries-below-spec : {M : Type 1} → statement M
 entries-below-spec =
@@ -47,11 +54,13 @@ entries-below-spec =
     (tie.spec
     Inv-loop
     μ-loop
-    loop-holds
-    mul-if1
-    shared-slice-read-if1
+    all-below-requires
     returns
+    loop-holds
+    mul-if2
+    shared-slice-read-if2
+    returns-2
     add-i
     loop-less
     loop-again
-    returns-2)
+    returns-3)
