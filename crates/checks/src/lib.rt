@@ -57,7 +57,8 @@ pub fn entries_below(m: u32, list: &[u32]) -> Entries
     }
     let mut i: usize = 0;
     while i < list.len() {
-        if m <= list[i] {
+        let x = list[i];
+        if m <= x {
             return Entries::NotBelow(i);
         }
         i += 1;

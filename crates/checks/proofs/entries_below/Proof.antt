@@ -25,11 +25,11 @@ returns c = c .before .all-below .ensures (c .if1 .taken)
 loop-holds : tie.Need-loop-holds Inv-loop μ-loop
 loop-holds c = passed-starts _ _
 
-mul-if2 : tie.Need-mul-if2 Inv-loop μ-loop
-mul-if2 c = omega arith
+mul-x : tie.Need-mul-x Inv-loop μ-loop
+mul-x c = omega arith
 
-shared-slice-read-if2 : tie.Need-shared-slice-read-if2 Inv-loop μ-loop
-shared-slice-read-if2 c = omega arith
+shared-slice-read-x : tie.Need-shared-slice-read-x Inv-loop μ-loop
+shared-slice-read-x c = omega arith
 
 returns-2 : tie.Need-returns-2 Inv-loop μ-loop
 unfolding notBelow
@@ -57,8 +57,8 @@ entries-below-spec =
     all-below-requires
     returns
     loop-holds
-    mul-if2
-    shared-slice-read-if2
+    mul-x
+    shared-slice-read-x
     returns-2
     add-i
     loop-less
