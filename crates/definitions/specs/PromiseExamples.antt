@@ -1,17 +1,18 @@
 -- What the promises of the calls say of the paper's R and of its job, by computation: the one outcome that each allows.
 -- plain-outcome, tree-outcome and text-outcome: the answer, the list or the text with what the output held after it, and of a working list
--- 16,384 zeros and then what it held. plain-refusal, tree-refusal and text-refusal: the number, and every list as it was.
+-- 16,384 zeros and then what it held. plain-refusal, tree-refusal and text-refusal: the number, and every list as it was. Each is allowed,
+-- and the claims that end in -only say that there is no other.
 -- Assumes nothing.
-use mathlib.Core.Path.{refl}
+use mathlib.Core.Path.{_≡_, refl, _∙_, ap}
 use mathlib.Core.List.{List, [], _∷_, _++_}
 use Prim.Native.Nat.{ℕ}
-use lib.ListN.{length, replicate}
+use lib.ListN.{length, drop, replicate}
 use Rattle.definitions.specs.Conversion.{expand}
-use Rattle.definitions.specs.Refusals.{plainTests, treeTests}
-use Rattle.definitions.specs.Answers.{cleared, Converted, ConvertedIn}
+use Rattle.definitions.specs.Refusals.{finished, refused, plainTests, treeTests}
+use Rattle.definitions.specs.Answers.{answered, valued, after, cleared, Converted, ConvertedIn}
 use Rattle.definitions.specs.Figures.{handed, R}
 use Rattle.definitions.specs.Text.{bytes}
-use Rattle.definitions.specs.TextCall.{TextConverted}
+use Rattle.definitions.specs.TextCall.{reply, TextConverted}
 use Rattle.definitions.specs.TextExamples.{verdictOn, paperText}
 use Rattle.definitions.specs.declared.Answer.{Answer}
 use Rattle.definitions.specs.declared.Valued.{Valued}
@@ -41,6 +42,16 @@ pub plain-refusal : Converted (plainTests R past 3) (expand R past) (Answer.Refu
 unfolding handed
 plain-refusal = record { answer = refl; written = refl }
 
+pub plain-outcome-only : (r : Answer) (output′ : List ℕ) → Converted (plainTests R curve 3) (expand R curve) r output output′
+    → (answered r ≡ finished []) × (output′ ≡ 1 ∷ 3 ∷ 2 ∷ [])
+unfolding handed
+plain-outcome-only r output′ p = (p .answer, p .written ∙ ap (λ v. after v (expand R curve) output) (p .answer))
+
+pub plain-refusal-only : (r : Answer) (output′ : List ℕ) → Converted (plainTests R past 3) (expand R past) r output output′
+    → (answered r ≡ refused 12) × (output′ ≡ output)
+unfolding handed
+plain-refusal-only r output′ p = (p .answer, p .written ∙ ap (λ v. after v (expand R past) output) (p .answer))
+
 pub tree-outcome : ConvertedIn (treeTests R curve 3 (length work)) (expand R curve) Answer.Finished output (1 ∷ 3 ∷ 2 ∷ []) work wiped
 unfolding handed treeTests cleared
 tree-outcome = record { answer = refl; written = refl; wiped = refl }
@@ -48,6 +59,26 @@ tree-outcome = record { answer = refl; written = refl; wiped = refl }
 pub tree-refusal : ConvertedIn (treeTests R past 3 (length work)) (expand R past) (Answer.Refused 12) output output work work
 unfolding handed treeTests
 tree-refusal = record { answer = refl; written = refl; wiped = refl }
+
+pub tree-outcome-only : (r : Answer) (output′ work′ : List ℕ)
+    → ConvertedIn (treeTests R curve 3 (length work)) (expand R curve) r output output′ work work′
+    → (answered r ≡ finished []) × (output′ ≡ 1 ∷ 3 ∷ 2 ∷ []) × (work′ ≡ wiped)
+unfolding handed treeTests cleared
+tree-outcome-only r output′ work′ p = (
+  p .answer,
+  p .written ∙ ap (λ v. after v (expand R curve) output) (p .answer),
+  p .wiped ∙ ap (λ v. after v (cleared work) work) (p .answer),
+)
+
+pub tree-refusal-only : (r : Answer) (output′ work′ : List ℕ)
+    → ConvertedIn (treeTests R past 3 (length work)) (expand R past) r output output′ work work′
+    → (answered r ≡ refused 12) × (output′ ≡ output) × (work′ ≡ work)
+unfolding handed treeTests
+tree-refusal-only r output′ work′ p = (
+  p .answer,
+  p .written ∙ ap (λ v. after v (expand R past) output) (p .answer),
+  p .wiped ∙ ap (λ v. after v (cleared work) work) (p .answer),
+)
 
 -- an output that is one byte longer than it must be
 abbrev pub page : List ℕ
@@ -60,3 +91,21 @@ text-outcome = record { answer = refl; written = refl; wiped = refl }
 pub text-refusal : TextConverted [] (Valued.Refused 2) page page work work
 unfolding verdictOn
 text-refusal = record { answer = refl; written = refl; wiped = refl }
+
+pub text-refusal-only : (r : Valued) (output′ work′ : List ℕ) → TextConverted [] r page output′ work work′
+    → (valued r ≡ refused 2) × (output′ ≡ page) × (work′ ≡ work)
+unfolding verdictOn
+text-refusal-only r output′ work′ p = (
+  p .answer,
+  p .written ∙ ap (λ v. after v (reply [] ++ drop (length (reply [])) page) page) (p .answer),
+  p .wiped ∙ ap (λ v. after v (cleared work) work) (p .answer),
+)
+
+pub text-outcome-only : (r : Valued) (output′ work′ : List ℕ) → TextConverted (bytes paperText) r page output′ work work′
+    → (valued r ≡ finished (20 ∷ [])) × (output′ ≡ bytes "op=expand\nout=1 3 2\n" ++ replicate 4077 120) × (work′ ≡ wiped)
+unfolding verdictOn cleared
+text-outcome-only r output′ work′ p = (
+  p .answer,
+  p .written ∙ ap (λ v. after v (reply (bytes paperText) ++ drop (length (reply (bytes paperText))) page) page) (p .answer),
+  p .wiped ∙ ap (λ v. after v (cleared work) work) (p .answer),
+)
