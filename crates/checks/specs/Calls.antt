@@ -7,7 +7,7 @@ use Prim.Native.Nat.{ℕ}
 use Rattle.definitions.specs.Answers.{answered, after}
 use Rattle.definitions.specs.Refusals.{Test, verdict}
 use Rattle.definitions.specs.declared.Answer.{Answer}
-use Rattle.theory.specs.Verdicts.{None, verdict-finished, verdict-stops, verdict-goes-on}
+use Rattle.acceptance.specs.Verdicts.{None, verdict-finished, verdict-stops, verdict-goes-on}
 
 module _ (r : Answer) (ts : List Test) (e : answered r ≡ verdict ts []) where
   pub check-refuses : (k : ℕ) (us : List Test) → r ≡ Answer.Refused k → answered r ≡ verdict (ts ++ us) []

@@ -15,9 +15,9 @@ use native.Mathlib.Omega.{arith}
 use lib.ListN.{length, getD}
 use Rattle.definitions.specs.Number.{HasInverse}
 use Rattle.definitions.specs.Refusals.{some, notBelow, noInverse}
-use Rattle.theory.specs.Euclid.{GreatestFactor}
-use Rattle.theory.specs.RunningProduct.{runningProduct, running-each}
-use Rattle.theory.specs.Verdicts.{some-false, some-noInverse-false}
+use Rattle.numbers.specs.Euclid.{GreatestFactor}
+use Rattle.numbers.specs.RunningProduct.{runningProduct, running-each}
+use Rattle.acceptance.specs.Verdicts.{some-false, some-noInverse-false}
 use Rattle.checks.specs.declared.Entries.{Entries}
 use Rattle.checks.specs.declared.Factors.{Factors}
 use Rattle.checks.specs.declared.Reason.{Reason}

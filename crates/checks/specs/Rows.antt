@@ -10,8 +10,8 @@ use Rattle.definitions.specs.Family.{Family, family}
 use Rattle.definitions.specs.Number.{HasInverse}
 use Rattle.definitions.specs.Refusals.{Verdict, finished, refused, verdict, some, notBelow, noInverse, entriesTest, aInverseTest, cInverseTest}
 use Rattle.definitions.specs.declared.Answer.{Answer}
-use Rattle.theory.specs.Verdicts.{verdict-here, verdict-next, some-true, some-noInverse-false, or-false}
-use Rattle.reciprocals.specs.Joint.{Joint}
+use Rattle.acceptance.specs.Verdicts.{verdict-here, verdict-next, some-true, some-noInverse-false, or-false}
+use Rattle.inverses.specs.Joint.{Joint}
 use Rattle.checks.specs.Calls.{check-refuses, check-passes}
 use Rattle.checks.specs.Either.{or-left, or-right}
 use Rattle.checks.specs.Groups.{inverseRowTests, rowTests}

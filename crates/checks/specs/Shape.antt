@@ -12,7 +12,7 @@ use Rattle.definitions.specs.declared.Answer.{Answer}
 use Rattle.definitions.specs.Family.{greatestModulus, mostRows}
 use Rattle.definitions.specs.Refusals.{Test, finished, refused, verdict, differ, notBelow, workLength, modulusTest, outputTest, workTest, numberTest}
 use Rattle.definitions.specs.TextCall.{textOutputTest, textOutputLength}
-use Rattle.theory.specs.Verdicts.{None, verdict-here, verdict-next, differ-false, or-false}
+use Rattle.acceptance.specs.Verdicts.{None, verdict-here, verdict-next, differ-false, or-false}
 use Rattle.checks.specs.Calls.{check-refuses, check-passes}
 use Rattle.checks.specs.Either.{or-left, or-right}
 use Rattle.checks.specs.Groups.{countsTest, rowsTest, lengthTest, shapeTests, lengthTests}

@@ -224,7 +224,7 @@ fn row_inverses(m: u32, a: &[u32], b: &[u32], c: &[u32]) -> Answer
     requires { ⌜ 0 < m ⌝ }
     ensures { λ r. ⌜ answered r ≡ verdict (inverseRowTests (family m (now (a .entry)) (now (b .entry)) (now (c .entry)))) [] ⌝ }
 {
-    let whole = invert(m, reciprocals::joint_product(m, a, c));
+    let whole = invert(m, inverses::joint_product(m, a, c));
     let Inversion::Absent(_) = whole else {
         return Answer::Finished;
     };

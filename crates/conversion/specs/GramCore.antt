@@ -14,12 +14,12 @@ use Rattle.definitions.specs.Number.{HasInverse, inverse}
 use Rattle.definitions.specs.Orthogonality.{moments}
 use Rattle.definitions.specs.Refusals.{verdict, momentsTests}
 use Rattle.definitions.specs.declared.Answer.{Answer}
-use Rattle.theory.specs.Acceptance as Acceptance
-use Rattle.theory.specs.Lists.{getD-default, filled}
+use Rattle.acceptance.specs.Acceptance as Acceptance
+use Rattle.numbers.specs.Lists.{getD-default, filled}
 use Rattle.plain.specs.Input.{closedRows, Holds, InversesOf}
 use Rattle.subproduct.specs.Leaf.{rowOf}
 use Rattle.tree.specs.Core.{Output}
-use Rattle.gram.specs.Input.{ClosedInput, LeadingInput, NormInput, MomentsInput, DecomposeInput}
+use Rattle.moment_way.specs.Input.{ClosedInput, LeadingInput, NormInput, MomentsInput, DecomposeInput}
 use Rattle.conversion.specs.Inverted as Inverted
 use Rattle.conversion.specs.InversesCore.{inverses-of}
 use Rattle.conversion.specs.PlainCall.{tests-passed}

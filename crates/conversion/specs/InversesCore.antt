@@ -10,8 +10,8 @@ use lib.ListN.{length, getD, drop, replicate, drop-of-length-le}
 use Rattle.definitions.specs.Family.{Family, Accepted, family, rowAt}
 use Rattle.definitions.specs.Number.{HasInverse, inverse}
 use Rattle.definitions.specs.Orthogonality.{norms}
-use Rattle.theory.specs.Acceptance as Acceptance
-use Rattle.theory.specs.Lists.{getD-default, filled}
+use Rattle.acceptance.specs.Acceptance as Acceptance
+use Rattle.numbers.specs.Lists.{getD-default, filled}
 use Rattle.plain.specs.Input.{closedRows, Holds, ConvertInput, NormsInput, InversesOf, Closes}
 use Rattle.conversion.specs.Inverted as Inverted
 use Rattle.conversion.specs.PlainCore.{core-input}

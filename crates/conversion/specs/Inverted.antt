@@ -6,8 +6,8 @@ use Prim.Native.Nat.{ℕ, _<_, _≤_}
 use native.Mathlib.Omega.{arith}
 use lib.ListN.{length, getD, replicate, length-replicate}
 use Rattle.definitions.specs.Number.{HasInverse, inverse}
-use Rattle.theory.specs.Inverse.{inverse-right, inverse-below}
-use Rattle.theory.specs.Lists.{filled, filled-below, filled-length}
+use Rattle.numbers.specs.Inverse.{inverse-right, inverse-below}
+use Rattle.numbers.specs.Lists.{filled, filled-below, filled-length}
 use Rattle.plain.specs.Input.{Holds, InversesOf}
 
 module _ (m : ℕ) (xs : List ℕ) (few : length xs ≤ 127) (zeros : List ℕ) (zerosAre : zeros ≡ replicate 128 0) where

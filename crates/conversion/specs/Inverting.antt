@@ -10,7 +10,7 @@ use Rattle.definitions.specs.Family.{Modulus}
 use Rattle.definitions.specs.Number.{inverse}
 use Rattle.definitions.specs.Refusals.{Test, Verdict, finished, refused, verdict, modulusTest, numberTest, numberInverseTest, inverseTests}
 use Rattle.definitions.specs.declared.Answer.{Answer}
-use Rattle.theory.specs.Verdicts.{refused-not-finished, verdict-here, verdict-next, verdict-stops, verdict-goes-on, modulus-passes}
+use Rattle.acceptance.specs.Verdicts.{refused-not-finished, verdict-here, verdict-next, verdict-stops, verdict-goes-on, modulus-passes}
 use Rattle.checks.specs.Calls.{check-none}
 use Rattle.residue.specs.Inversion.{IsInverse, SharesFactor, found-passes, absent-fails}
 

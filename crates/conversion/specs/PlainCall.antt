@@ -7,7 +7,7 @@ use Rattle.definitions.specs.Answers.{answered, Converted}
 use Rattle.definitions.specs.Family.{family}
 use Rattle.definitions.specs.Refusals.{Test, finished, verdict, plainTests, normsTests}
 use Rattle.definitions.specs.declared.Answer.{Answer}
-use Rattle.theory.specs.Acceptance.{PlainInput, NormsInput, plain-finished, norms-finished}
+use Rattle.acceptance.specs.Acceptance.{PlainInput, NormsInput, plain-finished, norms-finished}
 use Rattle.checks.specs.Calls.{list-stays}
 
 pub refusal-kept : (tests : List Test) (result output : List ℕ) (r : Answer) (k : ℕ) → answered r ≡ verdict tests [] → r ≡ Answer.Refused k → Converted tests result r output output

@@ -8,7 +8,7 @@ use native.Mathlib.Omega.{arith}
 use lib.ListN.{length, take, drop, drop-of-length-le}
 use lib.Seq.{take-all}
 use Rattle.definitions.specs.Family.{Family, family}
-use Rattle.theory.specs.Acceptance.{PlainInput}
+use Rattle.acceptance.specs.Acceptance.{PlainInput}
 use Rattle.plain.specs.Input.{firstRows, ConvertInput}
 use Rattle.conversion.specs.Rows.{sizes-hold, a-holds, b-holds, c-holds, rows-whole}
 

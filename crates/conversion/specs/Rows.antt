@@ -7,7 +7,7 @@ use native.Mathlib.Omega.{arith}
 use lib.ListN.{length, getD, take}
 use lib.Seq.{take-all}
 use Rattle.definitions.specs.Family.{Family, Accepted, family, rowAt}
-use Rattle.theory.specs.Lists.{getD-default}
+use Rattle.numbers.specs.Lists.{getD-default}
 use Rattle.plain.specs.Input.{Holds, Sizes}
 
 module _ (m : ℕ) (a b c : List ℕ) (accepted : Accepted (family m a b c)) where

@@ -12,10 +12,10 @@ use Rattle.definitions.specs.Conversion.{expand, adjoint}
 use Rattle.definitions.specs.Family.{Family, Accepted, family}
 use Rattle.definitions.specs.Refusals.{Test, verdict, treeTests}
 use Rattle.definitions.specs.declared.Answer.{Answer}
-use Rattle.theory.specs.Acceptance.{TreeInput, tree-finished}
-use Rattle.theory.specs.Tree.{treeExpand, treeAdjoint}
-use Rattle.theory.specs.TreeExpand.{tree-expand-accepted}
-use Rattle.theory.specs.TreeAdjoint.{tree-adjoint-accepted}
+use Rattle.acceptance.specs.Acceptance.{TreeInput, tree-finished}
+use Rattle.tree_model.specs.Tree.{treeExpand, treeAdjoint}
+use Rattle.tree_model.specs.TreeExpand.{tree-expand-accepted}
+use Rattle.tree_model.specs.TreeAdjoint.{tree-adjoint-accepted}
 use Rattle.subproduct.specs.Leaf.{familyOf}
 use Rattle.tree.specs.Core.{Input, Output}
 use Rattle.checks.specs.Calls.{list-stays}

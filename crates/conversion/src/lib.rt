@@ -88,8 +88,8 @@ pub fn plain_decompose(
     let Answer::Finished = tested else {
         return tested;
     };
-    let mut inverses = polynomial::zeros();
-    reciprocals::inverses(m, a, a.len(), &mut inverses);
+    let mut inverses = lists::zeros();
+    inverses::of_list(m, a, a.len(), &mut inverses);
     plain::decompose(m, &inverses, b, c, coefficients, a.len() + 1, output);
     Answer::Finished
 }
@@ -103,8 +103,8 @@ pub fn norms(m: u32, a: &[u32], b: &[u32], c: &[u32], output: &mut [u32]) -> Ans
     let Answer::Finished = tested else {
         return tested;
     };
-    let mut inverses = polynomial::zeros();
-    reciprocals::inverses(m, a, a.len(), &mut inverses);
+    let mut inverses = lists::zeros();
+    inverses::of_list(m, a, a.len(), &mut inverses);
     plain::norms(m, &inverses, c, 1, 1, a.len() + 1, output);
     Answer::Finished
 }
@@ -168,11 +168,11 @@ pub fn tree_decompose(
     let Answer::Finished = tested else {
         return tested;
     };
-    let mut inverses = polynomial::zeros();
-    reciprocals::inverses(m, a, a.len(), &mut inverses);
-    let mut reciprocals = polynomial::zeros();
-    reciprocals::inverses(m, c, c.len(), &mut reciprocals);
-    gram::decompose(
+    let mut inverses = lists::zeros();
+    inverses::of_list(m, a, a.len(), &mut inverses);
+    let mut reciprocals = lists::zeros();
+    inverses::of_list(m, c, c.len(), &mut reciprocals);
+    moment_way::decompose(
         m,
         a,
         b,
@@ -209,8 +209,8 @@ pub fn moments(
     let Answer::Finished = tested else {
         return tested;
     };
-    let mut inverses = polynomial::zeros();
-    reciprocals::inverses(m, a, a.len(), &mut inverses);
-    gram::moments(m, a, b, c, &inverses, 1, 1, 1, 1, a.len() + 1, output, work);
+    let mut inverses = lists::zeros();
+    inverses::of_list(m, a, a.len(), &mut inverses);
+    moment_way::moments(m, a, b, c, &inverses, 1, 1, 1, 1, a.len() + 1, output, work);
     Answer::Finished
 }

@@ -14,8 +14,8 @@ use lib.ListN.{length, getD, List·getD-eq-default}
 use Rattle.definitions.specs.Number.{sum}
 use Rattle.reduction.specs.Reciprocal.{word}
 use Rattle.reduction.specs.Wrapping.{Reducible, WrapsAfter}
-use Rattle.theory.specs.Products.{Below, productAt, transposedAt}
-use Rattle.theory.specs.Sums.{sum-zero, sum-both}
+use Rattle.numbers.specs.Products.{Below, productAt, transposedAt}
+use Rattle.numbers.specs.Sums.{sum-zero, sum-both}
 use Rattle.convolution.specs.Totals.{Lesser, SmallNumbers, Totalling, pair-fits, totalling-starts, totalling-next, totalling-ends}
 
 abbrev productTerm : List ℕ → List ℕ → ℕ → ℕ → ℕ

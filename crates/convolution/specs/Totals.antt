@@ -13,7 +13,7 @@ use native.Mathlib.Omega.{arith}
 use Rattle.definitions.specs.Number.{sum}
 use Rattle.reduction.specs.Reciprocal.{word}
 use Rattle.reduction.specs.Wrapping.{WrapsAfter, wraps-next}
-use Rattle.theory.specs.Sums.{sum-zero, sum-cut}
+use Rattle.numbers.specs.Sums.{sum-zero, sum-cut}
 
 pub record Lesser (x y r : ℕ) : Type 0 where
   pub first : r ≤ x

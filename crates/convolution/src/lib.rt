@@ -2,9 +2,10 @@
 // sum is kept as its low 64 bits and a count of its wraps: nothing is taken off in the loop, and one remainder ends it.
 ghost use mathlib.Core.Path.{_≡_};
 ghost use Prim.Native.Nat.{_+_, _*_, _-_, _%_};
-ghost use Rattle.theory.specs.Products.{productAt, transposedAt};
+ghost use Rattle.numbers.specs.Products.{productAt, transposedAt};
 ghost use Rattle.convolution.specs.Totals.{Lesser, SmallNumbers};
 ghost use Rattle.convolution.specs.Coefficients.{ProductsInput, TransposedInput, TransposedSumInput};
+use lists::excess;
 use reduction::remainder_of_sum;
 use reduction::wraps_after;
 
@@ -12,13 +13,6 @@ fn lesser(x: usize, y: usize) -> usize
     ensures { λ r. ⌜ Lesser x y r ⌝ }
 {
     if x < y { x } else { y }
-}
-
-// x - y, and 0 if y is greater.
-pub fn excess(x: usize, y: usize) -> usize
-    ensures { λ r. ⌜ r ≡ x - y ⌝ }
-{
-    if x < y { 0 } else { x - y }
 }
 
 // x y + u v.

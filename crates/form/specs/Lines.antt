@@ -13,8 +13,8 @@ use lib.ListN.{length, drop}
 use Rattle.definitions.specs.Text.{newline, line, modulusKey, operationKey, name}
 use Rattle.definitions.specs.Reading.{Front, got, bad, readKey, readNumber, readName, ended, readLine}
 use Rattle.definitions.specs.declared.Operation.{Operation}
-use Rattle.theory.specs.DecimalReading.{got-not-bad}
-use Rattle.theory.specs.LinesReading.{read-key, key-read, read-operation-line, operation-line-read}
+use Rattle.texts.specs.DecimalReading.{got-not-bad}
+use Rattle.texts.specs.LinesReading.{read-key, key-read, read-operation-line, operation-line-read}
 use Rattle.reader.specs.Places.{placed, opens, NumberAt, number-found, number-missed}
 use Rattle.reader.specs.Keys.{KeyAt, key-found, key-missed, line-none, line-content}
 use Rattle.reader.specs.declared.Number.{Number}

@@ -19,7 +19,7 @@ use Rattle.definitions.specs.TextCall.{converted}
 use Rattle.definitions.specs.declared.Answer.{Answer}
 use Rattle.definitions.specs.declared.Operation.{Operation}
 use Rattle.definitions.specs.declared.Valued.{Valued}
-use Rattle.theory.specs.Verdicts.{None, verdict-finished, withValues, verdict-values}
+use Rattle.acceptance.specs.Verdicts.{None, verdict-finished, withValues, verdict-values}
 use Rattle.operations.specs.Lists.{Parts, sized-by-tests, result-length}
 use Rattle.operations.specs.Tests.{resultCount, valueTests, sizesOf, Fits, sizes-fit, result-few}
 use Rattle.writer.specs.Answer.{Room, AnswerWritten}

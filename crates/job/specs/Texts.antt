@@ -16,7 +16,7 @@ use Rattle.definitions.specs.TextCall.{mostBytes, textLengthTest, formTests, te
 use Rattle.definitions.specs.declared.Answer.{Answer}
 use Rattle.definitions.specs.declared.Operation.{Operation}
 use Rattle.definitions.specs.declared.Valued.{Valued}
-use Rattle.theory.specs.Verdicts.{None, verdict-here, verdict-next, verdict-finished, verdict-stops, verdict-goes-on}
+use Rattle.acceptance.specs.Verdicts.{None, verdict-here, verdict-next, verdict-finished, verdict-stops, verdict-goes-on}
 use Rattle.operations.specs.Tests.{sizeTests, valueTests, sizesOf, job-tests, Fits, sizes-fit, curve-few}
 use Rattle.reader.specs.Storing.{Stored, kept-front}
 use Rattle.form.specs.Form.{JobAt}

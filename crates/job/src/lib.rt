@@ -72,10 +72,10 @@ pub fn convert_text(text: &[u8], output: &mut [u8], work: &mut [u32]) -> Valued
     let Answer::Finished = fits else {
         return with_length(fits, 0);
     };
-    let mut xs = polynomial::zeros();
-    let mut ys = polynomial::zeros();
-    let mut zs = polynomial::zeros();
-    let mut us = polynomial::zeros();
+    let mut xs = lists::zeros();
+    let mut ys = lists::zeros();
+    let mut zs = lists::zeros();
+    let mut us = lists::zeros();
     let Form::Job {
         modulus,
         operation,

@@ -13,8 +13,8 @@ use Rattle.definitions.specs.Answers.{answered, after, cleared, Converted, Conv
 use Rattle.definitions.specs.Family.{Family, Curve, family}
 use Rattle.definitions.specs.Refusals.{verdict, plainTests, treeTests, workLength}
 use Rattle.definitions.specs.declared.Answer.{Answer}
-use Rattle.theory.specs.Acceptance.{PlainInput, TreeInput, plain-passes, tree-passes}
-use Rattle.theory.specs.Verdicts.{None, verdict-finished, work-passes}
+use Rattle.acceptance.specs.Acceptance.{PlainInput, TreeInput, plain-passes, tree-passes}
+use Rattle.acceptance.specs.Verdicts.{None, verdict-finished, work-passes}
 use Rattle.laws.specs.Laws.{TwoCallsInput, wayTests, workLeft, Made}
 use Rattle.laws.specs.declared.Way.{Way}
 

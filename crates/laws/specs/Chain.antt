@@ -6,7 +6,7 @@ use Prim.Native.Nat.{ℕ}
 use Rattle.definitions.specs.Answers.{answered, after}
 use Rattle.definitions.specs.Refusals.{Test, verdict}
 use Rattle.definitions.specs.declared.Answer.{Answer}
-use Rattle.theory.specs.Verdicts.{None, verdict-finished, verdict-stops, verdict-goes-on}
+use Rattle.acceptance.specs.Verdicts.{None, verdict-finished, verdict-stops, verdict-goes-on}
 
 module _ (tests later : List Test) (s : Answer) (e : answered s ≡ verdict tests []) where
   pub chain-refused : (k : ℕ) → s ≡ Answer.Refused k → answered s ≡ verdict (tests ++ later) []

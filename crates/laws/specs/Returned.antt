@@ -12,10 +12,10 @@ use Rattle.definitions.specs.Conversion.{expand, decompose}
 use Rattle.definitions.specs.Family.{Family, Accepted, Curve, family}
 use Rattle.definitions.specs.Refusals.{Test, finished, verdict}
 use Rattle.definitions.specs.declared.Answer.{Answer}
-use Rattle.theory.specs.Acceptance.{accepted-convertible}
+use Rattle.acceptance.specs.Acceptance.{accepted-convertible}
 use Rattle.theory.specs.Bridge.{expand-curve}
 use Rattle.theory.specs.RoundTrip.{Decomposable, convertible-decomposable, decompose-curve, expand-decompose, decompose-expand}
-use Rattle.theory.specs.Verdicts.{None, verdict-finished, none-append}
+use Rattle.acceptance.specs.Verdicts.{None, verdict-finished, none-append}
 use Rattle.laws.specs.ByWay.{two-calls-pass, work-length}
 use Rattle.laws.specs.Chain.{chain-refused, chain-next, list-new}
 use Rattle.laws.specs.Laws.{TwoCallsInput, RoundTripHolds, wayTests, workLeft, Made, thereTests, backTests, Returned}

@@ -13,11 +13,11 @@ use Rattle.definitions.specs.Family.{Family, Accepted, family}
 use Rattle.definitions.specs.Orthogonality.{moments, norms, momentTotal, normTotal, ProductLaw}
 use Rattle.definitions.specs.Refusals.{Test, finished, verdict, momentsTests, normsTests}
 use Rattle.definitions.specs.declared.Answer.{Answer}
-use Rattle.theory.specs.Acceptance.{PlainInput, accepted-convertible, moments-passes, norms-passes}
+use Rattle.acceptance.specs.Acceptance.{PlainInput, accepted-convertible, moments-passes, norms-passes}
 use Rattle.theory.specs.Bridge.{expand-curve}
 use Rattle.theory.specs.Moments.{moments-length, norms-curve}
 use Rattle.theory.specs.ProductLaw.{product-law}
-use Rattle.theory.specs.Verdicts.{None, verdict-finished, none-append, withValues, verdict-values}
+use Rattle.acceptance.specs.Verdicts.{None, verdict-finished, none-append, withValues, verdict-values}
 use Rattle.totals.specs.Totals.{MomentTotalInput, NormTotalInput}
 use Rattle.laws.specs.ByWay.{way-input, two-calls-pass, cleared-after}
 use Rattle.laws.specs.Chain.{list-new}

@@ -8,7 +8,7 @@ use Rattle.definitions.specs.Answers.{answered, after, cleared, Converted, Conv
 use Rattle.definitions.specs.Family.{Family, family}
 use Rattle.definitions.specs.Refusals.{Test, finished, verdict, plainTests, treeTests}
 use Rattle.definitions.specs.declared.Answer.{Answer}
-use Rattle.theory.specs.Verdicts.{None, verdict-finished, none-append}
+use Rattle.acceptance.specs.Verdicts.{None, verdict-finished, none-append}
 use Rattle.laws.specs.ByWay.{two-calls-pass}
 use Rattle.laws.specs.Chain.{chain-refused, chain-next, list-new}
 use Rattle.laws.specs.Laws.{TwoCallsInput, WaysAgree, Agreed}

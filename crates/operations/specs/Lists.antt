@@ -19,10 +19,10 @@ use Rattle.definitions.specs.Refusals.{Test, verdict, some, workLength, workTes
 use Rattle.definitions.specs.TextCall.{converted}
 use Rattle.definitions.specs.declared.Answer.{Answer}
 use Rattle.definitions.specs.declared.Operation.{Operation}
-use Rattle.theory.specs.Lists.{table-length}
+use Rattle.numbers.specs.Lists.{table-length}
 use Rattle.theory.specs.Moments.{moments-length}
 use Rattle.theory.specs.RoundTrip.{decomposeBelow-length}
-use Rattle.theory.specs.Verdicts.{None, verdict-here, verdict-next, verdict-goes-on, none-append, differ-false, output-passes, work-passes}
+use Rattle.acceptance.specs.Verdicts.{None, verdict-here, verdict-next, verdict-goes-on, none-append, differ-false, output-passes, work-passes}
 use Rattle.checks.specs.Groups.{lengthTest, shapeOf, lengthTests, rowTests, tree-groups, moments-groups, norms-groups}
 use Rattle.operations.specs.Tests.{curveCount, resultCount, sizeTests, valueTests, sizesOf, lentTests}
 

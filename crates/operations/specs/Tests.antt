@@ -17,7 +17,7 @@ use Rattle.definitions.specs.Refusals.{Test, Verdict, verdict, workLength, leng
 use Rattle.definitions.specs.TextCall.{textOutputLength, emptyCurveTest, curveTest, textOutputTest, jobTests}
 use Rattle.definitions.specs.declared.Answer.{Answer}
 use Rattle.definitions.specs.declared.Operation.{Operation}
-use Rattle.theory.specs.Verdicts.{None, none-append, differ-false, work-passes}
+use Rattle.acceptance.specs.Verdicts.{None, none-append, differ-false, work-passes}
 use Rattle.checks.specs.Calls.{check-none, check-refuses, check-passes}
 use Rattle.checks.specs.Groups.{countsTest, rowsTest, lengthTest, shapeTests, inverseRowTests, rowTests}
 use Rattle.checks.specs.Shape.{shape-counts}

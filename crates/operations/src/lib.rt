@@ -94,7 +94,7 @@ fn convert_lists(
             let Answer::Finished = tested else {
                 return tested;
             };
-            tree::clear(work);
+            lists::clear(work);
             Answer::Finished
         }
     }

@@ -17,11 +17,11 @@ use lib.Seq.{getD-take}
 use Rattle.definitions.specs.Conversion.{adjoint}
 use Rattle.definitions.specs.Family.{Family, size, rowAt}
 use Rattle.definitions.specs.Number.{table}
-use Rattle.theory.specs.Lists.{Filling, table-entry, filled, filled-below, filled-from, filled-length, filling-start, filling-next, filling-stop}
-use Rattle.theory.specs.PlainAdjoint.{plainAdjoint-adjoint}
-use Rattle.theory.specs.PlainModels.{zeros, zeros-entry, adjointEntry, adjointStep, adjointState, plainAdjoint}
-use Rattle.theory.specs.PlainSteps.{Agree, adjointEntry-agree}
-use Rattle.polynomial.specs.Row.{Below, RowInput}
+use Rattle.numbers.specs.Lists.{Filling, table-entry, filled, filled-below, filled-from, filled-length, filling-start, filling-next, filling-stop}
+use Rattle.plain_model.specs.PlainAdjoint.{plainAdjoint-adjoint}
+use Rattle.plain_model.specs.PlainModels.{zeros, zeros-entry, adjointEntry, adjointStep, adjointState, plainAdjoint}
+use Rattle.plain_model.specs.PlainSteps.{Agree, adjointEntry-agree}
+use Rattle.row_steps.specs.Row.{Below, RowInput}
 use Rattle.plain.specs.FirstRows.{Shaped, RowsBelow, firstRows-shaped, firstRows-below}
 use Rattle.plain.specs.Input.{firstRows, ConvertInput}
 

@@ -19,14 +19,15 @@ use lib.Seq.{length-take-le, getD-take}
 use Rattle.definitions.specs.Conversion.{decompose}
 use Rattle.definitions.specs.Family.{Family, size, rows, rowAt}
 use Rattle.definitions.specs.Number.{negative}
-use Rattle.theory.specs.Lists.{table-entry, filled, filled-below, filled-from, filled-length}
-use Rattle.theory.specs.PlainBasis.{Basis, basisEntry, basisEntry-raises}
-use Rattle.theory.specs.PlainDecompose.{Inverts, decomposeState-ends, plainDecompose-decompose}
-use Rattle.theory.specs.PlainModels.{zeros, zeros-entry, raise, decomposeState, decomposeState-curve, plainDecompose}
-use Rattle.polynomial.specs.HornerRow.{HornerInput}
-use Rattle.polynomial.specs.Row.{Below}
+use Rattle.numbers.specs.Lists.{table-entry, filled, filled-below, filled-from, filled-length}
+use Rattle.plain_model.specs.PlainBasis.{Basis, basisEntry, basisEntry-decomposes}
+use Rattle.plain_model.specs.PlainDecompose.{Inverts, decomposeState-ends, plainDecompose-decompose}
+use Rattle.plain_model.specs.PlainModels.{zeros, zeros-entry, decomposeStep, decomposeState, decomposeState-curve, plainDecompose}
+use Rattle.row_steps.specs.DecomposeRow.{DecomposeRowInput}
+use Rattle.row_steps.specs.Row.{Below}
 use Rattle.plain.specs.Matching.{Match, curve-below, filled-matches, table-matches}
-use Rattle.plain.specs.FirstRows.{Shaped, entry-inside, firstRows-shaped}
+use Rattle.lists.specs.Entries.{entry-inside}
+use Rattle.plain.specs.FirstRows.{Shaped, firstRows-shaped}
 use Rattle.plain.specs.Input.{firstRows, ConvertInput, InversesOf}
 
 unfoldable pub oppositeProduct : ℕ → List ℕ → List ℕ → ℕ → ℕ
@@ -50,10 +51,10 @@ filled-at g h count list e same past i = ap (λ s. getD s i 0) e ∙ by-cases (d
 -- a step of the array is a step of the model
 step-matches : (f : Family) (pos : 0 < f .m) (d u rise stay fall : List ℕ) → Basis f d rise stay fall → (y i : ℕ) (current : List ℕ) → suc i ≤ size f → y ≡ getD u (rows f - i) 0
     → Match current (decomposeState f d u i) → Match (filled (basisEntry (f .m) y rise stay fall current) (i + 1) current) (decomposeState f d u (suc i))
-unfolding decomposeState raise
+unfolding decomposeState decomposeStep
 step-matches f pos d u rise stay fall basis y i current l e h =
     filled-matches (i + 1) current (λ t g. h t ∙ decomposeState-ends f pos d u i t (omega arith) (omega arith)) _ _ (size f) (omega arith)
-    (λ t g. basisEntry-raises f pos d rise stay fall basis y current (decomposeState f d u i) h (decomposeState-curve f pos d u i) t ∙ rw e)
+    (λ t g. basisEntry-decomposes f pos d rise stay fall basis y current (decomposeState f d u i) h (decomposeState-curve f pos d u i) t ∙ rw e)
     (λ t g k. sym (table-entry (size f) _ t 0 k) ∙ decomposeState-ends f pos d u (suc i) t l (omega arith))
 
 pub record Decomposing (m n : ℕ) (v b c p : List ℕ) (current : List ℕ) (i : ℕ) : Type 0 where
@@ -101,7 +102,7 @@ module _ {m n : ℕ} {v b c p output : List ℕ} (input : ConvertInput m v b c p
     }
 
     module _ {current : List ℕ} {i : ℕ} (l : i < n) (h : Decomposing m n v b c p current i) where
-      pub decompose-step-input : HornerInput m (getD p (n - 1 - i) 0) rise stay fall current (i + 1)
+      pub decompose-step-input : DecomposeRowInput m (getD p (n - 1 - i) 0) rise stay fall current (i + 1)
       unfolding firstRows
       decompose-step-input =
           let two : 2 ≤ m = input .sizes .modulus .least in

@@ -12,11 +12,11 @@ use lib.ListN.{length, getD, take, drop}
 use lib.Seq.{getD-take}
 use Rattle.definitions.specs.Conversion.{expand}
 use Rattle.definitions.specs.Family.{Family, rows, size, rowAt}
-use Rattle.theory.specs.Lists.{table-entry, filled, filled-length}
-use Rattle.theory.specs.PlainExpand.{expandState-ends, plainExpand-expand}
-use Rattle.theory.specs.PlainModels.{zeros, zeros-entry, expandEntry, expandStep, expandState, expandState-curves, plainExpand}
-use Rattle.theory.specs.PlainSteps.{expandEntry-agree}
-use Rattle.polynomial.specs.Row.{RowInput}
+use Rattle.numbers.specs.Lists.{table-entry, filled, filled-length}
+use Rattle.plain_model.specs.PlainExpand.{expandState-ends, plainExpand-expand}
+use Rattle.plain_model.specs.PlainModels.{zeros, zeros-entry, expandEntry, expandStep, expandState, expandState-curves, plainExpand}
+use Rattle.plain_model.specs.PlainSteps.{expandEntry-agree}
+use Rattle.row_steps.specs.Row.{RowInput}
 use Rattle.plain.specs.Matching.{Match, ZeroFrom, curve-below, filled-matches, filled-copies, table-matches}
 use Rattle.plain.specs.FirstRows.{Shaped, RowsBelow, firstRows-shaped, firstRows-below}
 use Rattle.plain.specs.Input.{firstRows, ConvertInput}

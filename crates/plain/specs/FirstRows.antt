@@ -12,7 +12,8 @@ use native.Mathlib.Omega.{arith}
 use lib.ListN.{length, getD, take, List·getD-eq-default}
 use lib.Seq.{length-take-le, getD-take}
 use Rattle.definitions.specs.Family.{Family, Modulus, Curve, size, rowAt}
-use Rattle.theory.specs.Lists.{getD-default}
+use Rattle.numbers.specs.Lists.{getD-default}
+use Rattle.lists.specs.Entries.{entry-inside, entry-past}
 use Rattle.plain.specs.Input.{firstRows, Holds, Sizes}
 
 pub record Shaped (f : Family) (u : List ℕ) (n : ℕ) : Type 0 where
@@ -45,14 +46,6 @@ firstRows-shaped m n a b c u s h curve =
             rw (getD-take n u i 0 g) (curve .below i g);
       };
     }
-
--- an entry of a row: of the list, or from count on of the closing row
-module _ (count : ℕ) (list : List ℕ) (long : count ≤ length list) (i close : ℕ) where
-  pub entry-inside : i < count → getD list i 0 ≡ getD (take count list) i close
-  entry-inside h = getD-default list i 0 close (omega arith) ∙ sym (getD-take count list i close h)
-
-  pub entry-past : count ≤ i → close ≡ getD (take count list) i close
-  entry-past h = sym (List·getD-eq-default (take count list) close (rw (length-take-le count list long) h))
 
 entry-below : (m count : ℕ) (list : List ℕ) → 1 < m → Holds m count list → (k : ℕ) → getD (take count list) k 1 < m
 entry-below m count list one h k = by-cases (decLt k count)

@@ -13,8 +13,8 @@ use native.Mathlib.Omega.{arith}
 use lib.ListN.{length, getD, List·getD-eq-default}
 use Rattle.definitions.specs.Family.{Family, Curve, size}
 use Rattle.definitions.specs.Number.{table}
-use Rattle.theory.specs.Lists.{table-entry, table-past, table-unique, filled, filled-below, filled-from}
-use Rattle.polynomial.specs.Row.{Below}
+use Rattle.numbers.specs.Lists.{table-entry, table-past, table-unique, filled, filled-below, filled-from}
+use Rattle.row_steps.specs.Row.{Below}
 
 abbrev pub Match : List ℕ → List ℕ → Type 0
 Match xs ys = (t : ℕ) → getD xs t 0 ≡ getD ys t 0

@@ -17,9 +17,9 @@ use lib.Seq.{length-take-le}
 use Rattle.definitions.specs.Family.{Row, rowAt}
 use Rattle.definitions.specs.Number.{table, negative, inverse}
 use Rattle.definitions.specs.Orthogonality.{signedProduct, norm, norms}
-use Rattle.theory.specs.Inverse.{inverse-unique}
-use Rattle.theory.specs.Lists.{Filling, table-equal, filled, filling-start, filling-next, filling-stop}
-use Rattle.plain.specs.FirstRows.{entry-inside, entry-past}
+use Rattle.numbers.specs.Inverse.{inverse-unique}
+use Rattle.numbers.specs.Lists.{Filling, table-equal, filled, filling-start, filling-next, filling-stop}
+use Rattle.lists.specs.Entries.{entry-inside, entry-past}
 use Rattle.plain.specs.Input.{closedRows, Holds, NormsInput, InversesOf, Closes}
 
 unfoldable pub signedTo : ℕ → List ℕ → ℕ → ℕ → ℕ

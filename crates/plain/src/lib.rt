@@ -8,24 +8,17 @@ ghost use lib.ListN.{length, getD, take, drop};
 ghost use Rattle.definitions.specs.Conversion.{expand, adjoint, decompose};
 ghost use Rattle.definitions.specs.Family.{Row};
 ghost use Rattle.definitions.specs.Orthogonality.{norms};
-ghost use Rattle.theory.specs.Lists.{filled};
+ghost use Rattle.numbers.specs.Lists.{filled};
 ghost use Rattle.plain.specs.Decomposing.{oppositeProduct};
 ghost use Rattle.plain.specs.Input.{firstRows, closedRows, ConvertInput, InversesOf, NormsInput, Closes};
-use polynomial::copy;
-use polynomial::horner_row;
-use polynomial::lower_row;
-use polynomial::raise_row;
-use polynomial::zeros;
+use lists::copy;
+use lists::row_entry;
+use lists::zeros;
 use residue::negative;
 use residue::product_by;
-
-// The entry at i of the first rows entries, and that of the closing row from there on.
-pub fn row_entry(list: &[u32], rows: usize, i: usize, close: u32) -> u32
-    requires { ⌜ rows ≤ length (now list) ⌝ }
-    ensures { λ r. ⌜ r ≡ getD (take rows (now (list .entry))) i close ⌝ }
-{
-    if i < rows { list[i] } else { close }
-}
+use row_steps::adjoint_row;
+use row_steps::decompose_row;
+use row_steps::expand_row;
 
 // The coefficients in powers of x, downwards (Clenshaw): after i steps current is B_{n-i}, of i coefficients, and older
 // B_{n-i+1}, where B_k = u_k + (a_{k+1} x + b_{k+1}) B_{k+1} + c_{k+2} B_{k+2}. The closing row multiplies zeros.
@@ -43,7 +36,7 @@ pub fn expand(m: u32, a: &[u32], b: &[u32], c: &[u32], curve: &[u32], n: usize, 
         let p = row_entry(a, rows, k, 1);
         let q = row_entry(b, rows, k, 1);
         let r = row_entry(c, rows, k + 1, 1);
-        lower_row(m, x, p, q, r, &mut current, &mut older, i + 1);
+        expand_row(m, x, p, q, r, &mut current, &mut older, i + 1);
         i += 1;
     }
     copy(&current, n, output);
@@ -65,7 +58,7 @@ pub fn adjoint(m: u32, a: &[u32], b: &[u32], c: &[u32], curve: &[u32], n: usize,
         let p = row_entry(a, rows, j, 1);
         let q = row_entry(b, rows, j, 1);
         let r = row_entry(c, rows, j, 1);
-        raise_row(m, p, q, r, &mut current, &mut older, rows - j);
+        adjoint_row(m, p, q, r, &mut current, &mut older, rows - j);
         j += 1;
     }
 }
@@ -108,7 +101,7 @@ pub fn decompose(
     opposite_products(m, c, inverses, rows, &mut fall);
     let mut i: usize = 0;
     while i < n {
-        horner_row(
+        decompose_row(
             m,
             coefficients[rows - i],
             &rise,

@@ -20,12 +20,12 @@ use Rattle.definitions.specs.Refusals.{Test, Verdict, finished, refused, verdic
 use Rattle.definitions.specs.Text.{Job, decimal, meant, refusalKey, refusalText, answerText}
 use Rattle.definitions.specs.TextCall.{mostBytes, textOutputLength, textLengthTest, emptyCurveTest, curveTest, textOutputTest, jobTests, formTests, textTests, converted, result, replyTo, reply}
 use Rattle.definitions.specs.declared.Operation.{Operation}
-use Rattle.theory.specs.AnswerTexts.{all-writable, length-answer, length-line}
+use Rattle.texts.specs.AnswerTexts.{all-writable, length-answer, length-line}
 use Rattle.theory.specs.Bridge.{expand-curve, adjoint-curve}
-use Rattle.theory.specs.Decimal.{length-decimal}
+use Rattle.texts.specs.Decimal.{length-decimal}
 use Rattle.theory.specs.Moments.{moments-below, moments-length, norms-curve}
 use Rattle.theory.specs.RoundTrip.{decompose-curve}
-use Rattle.theory.specs.Verdicts.{None, withValues, refused-not-finished, verdict-here, verdict-next, verdict-finished, verdict-values, modulus-passes, row-count-passes}
+use Rattle.acceptance.specs.Verdicts.{None, withValues, refused-not-finished, verdict-here, verdict-next, verdict-finished, verdict-values, modulus-passes, row-count-passes}
 
 abbrev pub lentTests : List ℕ → List Test
 lentTests t = textTests t textOutputLength workLength

@@ -15,7 +15,7 @@ use Rattle.definitions.specs.Refusals.{finished, verdict, workLength}
 use Rattle.definitions.specs.Text.{refusalText}
 use Rattle.definitions.specs.TextCall.{textOutputLength, textTests, reply, TextConverted}
 use Rattle.definitions.specs.declared.Valued.{Valued}
-use Rattle.theory.specs.Verdicts.{withValues}
+use Rattle.acceptance.specs.Verdicts.{withValues}
 use Rattle.writer.specs.Refusal.{RefusalWritten}
 use Rattle.printing.specs.Limits.{lentTests, revalued, printed-fits}
 

@@ -17,8 +17,8 @@ use native.Mathlib.Nat.{add-zero, mod-eq-of-lt, mul-le-mul-left, mul-one, zero-a
 use native.Mathlib.Omega.{arith}
 use lib.ListN.{length, getD, take, drop, set}
 use Rattle.definitions.specs.Family.{greatestModulus}
-use Rattle.theory.specs.Regions.{part, written, Apart, ResiduesIn, KeptOutside, part-length, part-entry, part-past, part-slice, part-below, kept-part, kept-residues, Writing, writing-kept, writing-next, writing-ends}
-use Rattle.theory.specs.Products.{Below, productAt, plusProducts, transposedAt, transposed, transposedSum}
+use Rattle.numbers.specs.Regions.{part, written, Apart, ResiduesIn, KeptOutside, part-length, part-entry, part-past, part-slice, part-below, kept-part, kept-residues, Writing, writing-kept, writing-next, writing-ends}
+use Rattle.numbers.specs.Products.{Below, productAt, plusProducts, transposedAt, transposed, transposedSum}
 use Rattle.reduction.specs.Reciprocal.{Reciprocal}
 use Rattle.reduction.specs.Wrapping.{Reducible}
 use Rattle.convolution.specs.Coefficients.{ProductsInput, TransposedInput, TransposedSumInput, product-past, product-entries}

@@ -2,13 +2,13 @@
 ghost use mathlib.Core.Path.{_≡_};
 ghost use Prim.Native.Nat.{_+_, _%_, _≤_};
 ghost use lib.ListN.{length, getD};
-ghost use Rattle.theory.specs.Regions.{part, written};
-ghost use Rattle.theory.specs.Products.{productAt, plusProducts, transposed, transposedSum};
+ghost use Rattle.numbers.specs.Regions.{part, written};
+ghost use Rattle.numbers.specs.Products.{productAt, plusProducts, transposed, transposedSum};
 ghost use Rattle.products.specs.Places.{CoefficientInput, SourceInput, Used, ProductPlaces, TermInput, TransposedPlaces, transposedEntry, ListInput};
-use convolution::excess;
 use convolution::products_at;
 use convolution::transposed_at;
 use convolution::transposed_sum_at;
+use lists::excess;
 
 // Entry i of the n numbers of w from place at on, and 0 past them.
 fn entry(w: &[u32], at: usize, n: usize, i: usize) -> u32

@@ -12,7 +12,7 @@ use lib.Seq.{drop-cons}
 use borrow.Author.Tests.{le-leb, lt-leb, ne-eqb}
 use Rattle.definitions.specs.Text.{greatestNumber}
 use Rattle.definitions.specs.Reading.{bad, isDigit, readDigits, readNumber}
-use Rattle.theory.specs.DecimalReading.{digit-true}
+use Rattle.texts.specs.DecimalReading.{digit-true}
 use Rattle.reader.specs.Places.{placed, place-drop}
 use Rattle.reader.specs.declared.Number.{Number}
 

@@ -13,7 +13,7 @@ use lib.ListN.{length, drop, getD, length-append, length-drop, drop-of-length-le
 use lib.Seq.{drop-append-seam, drop-cons, drop-drop}
 use borrow.Author.Tests.{eq-eqb, ne-eqb}
 use Rattle.definitions.specs.Reading.{Front, got, bad, readKey, readNumbers, ended, readLine}
-use Rattle.theory.specs.LinesReading.{key-read}
+use Rattle.texts.specs.LinesReading.{key-read}
 use Rattle.reader.specs.Places.{opens}
 use Rattle.reader.specs.Storing.{Listed}
 use Rattle.reader.specs.declared.Numbers.{Numbers}

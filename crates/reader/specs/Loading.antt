@@ -13,7 +13,7 @@ use lib.Seq.{drop-cons}
 use borrow.Author.Tests.{ne-eqb}
 use Rattle.definitions.specs.Text.{newline, space}
 use Rattle.definitions.specs.Reading.{Front, got, bad, readKey, isDigit, readNumber, put, readOn, readSome, readNumbers, ended}
-use Rattle.theory.specs.NumbersReading.{readSome-step}
+use Rattle.texts.specs.NumbersReading.{readSome-step}
 use Rattle.reader.specs.Places.{NumberAt}
 use Rattle.reader.specs.Digits.{number-past, number-other}
 use Rattle.reader.specs.Storing.{kept, ListAt, kept-none, kept-next}

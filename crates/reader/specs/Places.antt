@@ -14,8 +14,8 @@ use lib.ListN.{length, drop, length-append, length-drop}
 use lib.Seq.{drop-append-seam, drop-drop}
 use Rattle.definitions.specs.Text.{decimal}
 use Rattle.definitions.specs.Reading.{Front, got, bad, readNumber}
-use Rattle.theory.specs.Decimal.{decimal-not-empty}
-use Rattle.theory.specs.DecimalReading.{decimal-read}
+use Rattle.texts.specs.Decimal.{decimal-not-empty}
+use Rattle.texts.specs.DecimalReading.{decimal-read}
 use Rattle.reader.specs.declared.Number.{Number}
 
 abbrev pub placed : ℕ → Front ℕ → Number

@@ -10,9 +10,9 @@ use Prim.Native.Nat.{ℕ, _*_, _%_, _<_}
 use native.Mathlib.Omega.{arith}
 use Rattle.definitions.specs.Number.{HasInverse, inverse}
 use Rattle.definitions.specs.Refusals.{noInverse}
-use Rattle.theory.specs.Euclid.{GreatestFactor, greatest-factor-unique}
-use Rattle.theory.specs.Inverse.{inverse-right, inverse-below}
-use Rattle.theory.specs.Verdicts.{noInverse-false, noInverse-true}
+use Rattle.numbers.specs.Euclid.{GreatestFactor, greatest-factor-unique}
+use Rattle.numbers.specs.Inverse.{inverse-right, inverse-below}
+use Rattle.acceptance.specs.Verdicts.{noInverse-false, noInverse-true}
 use Rattle.residue.specs.declared.Inversion.{Inversion}
 
 pub record IsInverse (m x y : ℕ) : Type 0 where

@@ -13,9 +13,9 @@ use Rattle.algebra.specs.Residues.{Zmod, res, res-of-mod, mod-of-res, res-mul}
 use Rattle.algebra.specs.Ring.{CommRing}
 use Rattle.algebra.specs.Solver.{linear, scaled, both, reify}
 use Rattle.definitions.specs.Number.{HasInverse}
-use Rattle.theory.specs.Euclid.{GreatestFactor, has-inverse-greatest}
-use Rattle.theory.specs.Inverse.{inverse-unique}
-use Rattle.theory.specs.Residue.{bridge}
+use Rattle.numbers.specs.Euclid.{GreatestFactor, has-inverse-greatest}
+use Rattle.numbers.specs.Inverse.{inverse-unique}
+use Rattle.numbers.specs.Residue.{bridge}
 use Rattle.residue.specs.Inversion.{IsInverse, SharesFactor}
 
 abbrev Common : ℕ → ℕ → ℕ → ℕ → Type 0

@@ -4,7 +4,7 @@ ghost use mathlib.Core.Path.{_≡_};
 ghost use Prim.Native.Nat.{_+_, _*_, _%_, _<_};
 ghost use lib.ListN.{length, getD};
 ghost use Rattle.definitions.specs.Number.{negative};
-ghost use Rattle.theory.specs.RunningProduct.{runningProduct};
+ghost use Rattle.numbers.specs.RunningProduct.{runningProduct};
 ghost use Rattle.reduction.specs.Reciprocal.{Reciprocal};
 ghost use Rattle.residue.specs.Inversion.{Inverted};
 

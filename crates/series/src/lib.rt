@@ -6,8 +6,8 @@ ghost use Prim.Native.Nat.{suc, _≤_};
 ghost use lib.ListN.{length, getD, drop};
 ghost use Rattle.definitions.specs.Orthogonality.{nextQuotient, quotient};
 ghost use Rattle.series.specs.Division.{reversed, CoefficientInput, QuotientInput};
-use convolution::excess;
 use convolution::transposed_at;
+use lists::excess;
 use residue::negative;
 use residue::product_by;
 

@@ -12,19 +12,19 @@ use native.Mathlib.Numerals.{add-one}
 use native.Mathlib.Omega.{arith}
 use lib.ListN.{length, getD, take, set}
 use Rattle.definitions.specs.Family.{Family, family, greatestModulus}
-use Rattle.theory.specs.Level.{span, span-suc, span-two}
-use Rattle.theory.specs.Regions.{part, written, Apart, ResiduesIn, KeptOutside, part-residues, part-written, written-one, written-more, written-kept, kept-wider, kept-then, kept-part, kept-residues}
-use Rattle.theory.specs.Products.{Below}
-use Rattle.theory.specs.Tree.{Pair, raise, up}
-use Rattle.theory.specs.TreeLengths.{PairLength, raise-length}
-use Rattle.theory.specs.TreeBelow.{PairBelow, raise-below, up-below}
+use Rattle.tree_model.specs.Level.{span, span-suc, span-two}
+use Rattle.numbers.specs.Regions.{part, written, Apart, ResiduesIn, KeptOutside, part-residues, part-written, written-one, written-more, written-kept, kept-wider, kept-then, kept-part, kept-residues}
+use Rattle.numbers.specs.Products.{Below}
+use Rattle.tree_model.specs.Tree.{Pair, expandPair, up}
+use Rattle.tree_model.specs.TreeLengths.{PairLength, expandPair-length}
+use Rattle.tree_model.specs.TreeBelow.{PairBelow, expandPair-below, up-below}
 use Rattle.subproduct.specs.Layout.{Level, Halves, treeSize, treeList, nodePlace, pairList, matrixAt, pairAt, level-halves, level-one, treeSize-suc, treeSize-node, pairList-length, pair-reads, tree-left, tree-right, tree-matrix, matrixAt-kept, pairList-below}
-use Rattle.subproduct.specs.Join.{RaisePlaces}
+use Rattle.subproduct.specs.Join.{ExpandPlaces}
 
 unfoldable pub climbed : ℕ → List ℕ → ℕ → List ℕ → ℕ → ℕ → Pair
 climbed m w tree u zero t = record { v0 = getD u t 0 ∷ 0 ∷ []; v1 = getD u (suc t) 0 ∷ 0 ∷ [] }
 climbed m w tree u (suc l) t =
-    raise m (span (suc l)) (climbed m w tree u l t) (climbed m w (tree + treeSize l) u l (t + span l)) (matrixAt w (tree + nodePlace l) (suc (span l)))
+    expandPair m (span (suc l)) (climbed m w tree u l t) (climbed m w (tree + treeSize l) u l (t + span l)) (matrixAt w (tree + nodePlace l) (suc (span l)))
 
 pub record ClimbInput (m : ℕ) (curve : List ℕ) (n : ℕ) (w : List ℕ) (tree at level pairs t : ℕ) : Type 0 where
   pub most : m ≤ greatestModulus
@@ -78,13 +78,13 @@ pub climbed-length : (m : ℕ) (w : List ℕ) (tree : ℕ) (u : List ℕ) (l t :
 unfolding climbed span
 climbed-length m w tree u zero t = record { l0 = refl; l1 = refl }
 climbed-length m w tree u (suc l) t =
-    raise-length m (span (suc l)) (climbed m w tree u l t) (climbed m w (tree + treeSize l) u l (t + span l)) (matrixAt w (tree + nodePlace l) (suc (span l)))
+    expandPair-length m (span (suc l)) (climbed m w tree u l t) (climbed m w (tree + treeSize l) u l (t + span l)) (matrixAt w (tree + nodePlace l) (suc (span l)))
 
 pub climbed-below : (m : ℕ) (w : List ℕ) (tree : ℕ) (u : List ℕ) (l t : ℕ) → Below m u → PairBelow m (climbed m w tree u l t)
 unfolding climbed up
 climbed-below m w tree u zero t h = up-below (family m [] [] []) u h zero t
 climbed-below m w tree u (suc l) t h =
-    raise-below m (span (suc l)) (omega (arith, h 0)) (climbed m w tree u l t) (climbed m w (tree + treeSize l) u l (t + span l)) (matrixAt w (tree + nodePlace l) (suc (span l)))
+    expandPair-below m (span (suc l)) (omega (arith, h 0)) (climbed m w tree u l t) (climbed m w (tree + treeSize l) u l (t + span l)) (matrixAt w (tree + nodePlace l) (suc (span l)))
 
 -- ---- one pair of rows
 pub four-written : (w : List ℕ) (at x y z v : ℕ) → at + 4 ≤ length w → set (set (set (set w at x) (at + 1) y) (at + 2) z) (at + 3) v ≡ written w at (x ∷ y ∷ z ∷ v ∷ [])
@@ -198,8 +198,8 @@ module _ (m : ℕ) (curve : List ℕ) (n : ℕ) (w : List ℕ) (tree at level pa
           matrix-apart : Apart (at + 4 * pairs) (at + 12 * pairs) (tree + size - 4 * (pairs + 1)) (4 * (pairs + 1))
           matrix-apart = let z = climb-sizes in inl (omega arith)
 
-          pub climb-raise : RaisePlaces m w₂ at (pairs + pairs) (at + 4 * pairs) pairs (at + 4 * pairs + 2 * pairs) pairs (tree + size - 4 * (pairs + 1)) (pairs + 1)
-          climb-raise =
+          pub climb-pair : ExpandPlaces m w₂ at (pairs + pairs) (at + 4 * pairs) pairs (at + 4 * pairs + 2 * pairs) pairs (tree + size - 4 * (pairs + 1)) (pairs + 1)
+          climb-pair =
               let z = climb-sizes in
               let long : length w₂ ≡ length w = both-kept .long in
               record {
@@ -231,15 +231,15 @@ module _ (m : ℕ) (curve : List ℕ) (n : ℕ) (w : List ℕ) (tree at level pa
                 };
               }
 
-          raised-is : raise m (pairs + pairs) (pairAt w₂ (at + 4 * pairs) pairs) (pairAt w₂ (at + 4 * pairs + 2 * pairs) pairs) (matrixAt w₂ (tree + size - 4 * (pairs + 1)) (pairs + 1))
+          pair-is : expandPair m (pairs + pairs) (pairAt w₂ (at + 4 * pairs) pairs) (pairAt w₂ (at + 4 * pairs + 2 * pairs) pairs) (matrixAt w₂ (tree + size - 4 * (pairs + 1)) (pairs + 1))
               ≡ climbed m w tree (take n curve) level t
           unfolding climbed
-          raised-is =
+          pair-is =
               let z = climb-sizes in
               let node-is : tree + size - 4 * (pairs + 1) ≡ tree + nodePlace (level - 1) = omega (arith, sized, climb-halves .rows, treeSize-node (level - 1)) in
               let wide : pairs + pairs ≡ span (suc (level - 1)) = omega (arith, climb-halves .rows, span-suc (level - 1)) in
               let lists : pairs + 1 ≡ suc (span (level - 1)) = omega (arith, climb-halves .rows) in
-              let e : raise m (pairs + pairs) (pairAt w₂ (at + 4 * pairs) pairs) (pairAt w₂ (at + 4 * pairs + 2 * pairs) pairs) (matrixAt w₂ (tree + size - 4 * (pairs + 1)) (pairs + 1))
+              let e : expandPair m (pairs + pairs) (pairAt w₂ (at + 4 * pairs) pairs) (pairAt w₂ (at + 4 * pairs + 2 * pairs) pairs) (matrixAt w₂ (tree + size - 4 * (pairs + 1)) (pairs + 1))
               ≡ climbed m w tree (take n curve) (suc (level - 1)) t = rw (
                 pair-reads w₂ (at + 4 * pairs) pairs _ left-length left-holds,
                 pair-reads w₂ (at + 4 * pairs + 2 * pairs) pairs _ right-length right-holds,
@@ -253,11 +253,11 @@ module _ (m : ℕ) (curve : List ℕ) (n : ℕ) (w : List ℕ) (tree at level pa
               e ∙ ap (λ k. climbed m w tree (take n curve) k t) (sym (climb-halves .is))
 
           pub climb-output : (w₃ : List ℕ)
-              → w₃ ≡ written w₂ at (pairList (raise m (pairs + pairs) (pairAt w₂ (at + 4 * pairs) pairs) (pairAt w₂ (at + 4 * pairs + 2 * pairs) pairs) (matrixAt w₂ (tree + size - 4 * (pairs + 1)) (pairs + 1))))
+              → w₃ ≡ written w₂ at (pairList (expandPair m (pairs + pairs) (pairAt w₂ (at + 4 * pairs) pairs) (pairAt w₂ (at + 4 * pairs + 2 * pairs) pairs) (matrixAt w₂ (tree + size - 4 * (pairs + 1)) (pairs + 1))))
               → ClimbOutput m (take n curve) w tree at level t w₃
           climb-output w₃ e₃ =
               let z = climb-sizes in
-              let e : w₃ ≡ written w₂ at (pairList (climbed m w tree (take n curve) level t)) = e₃ ∙ ap (λ v. written w₂ at (pairList v)) raised-is in
+              let e : w₃ ≡ written w₂ at (pairList (climbed m w tree (take n curve) level t)) = e₃ ∙ ap (λ v. written w₂ at (pairList v)) pair-is in
               let long : length (pairList (climbed m w tree (take n curve) level t)) ≡ span level + span level = pairList-length (span level) _ (climbed-length m w tree (take n curve) level t) in
               let covers : pairs + pairs ≡ span level = h .depth .covers in
               let room : at + length (pairList (climbed m w tree (take n curve) level t)) ≤ length w₂ = omega (arith, both-kept .long) in

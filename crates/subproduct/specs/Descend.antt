@@ -13,19 +13,19 @@ use native.Mathlib.Nat.{add-zero}
 use native.Mathlib.Omega.{arith}
 use lib.ListN.{length, getD, set, length-append}
 use Rattle.definitions.specs.Family.{Family, greatestModulus}
-use Rattle.theory.specs.Level.{span}
-use Rattle.theory.specs.Regions.{part, written, Apart, ResiduesIn, KeptOutside, part-entry, part-take, part-both, part-residues, part-written, written-one, written-more, written-kept, kept-wider, kept-then, kept-part, kept-residues}
-use Rattle.theory.specs.Tree.{Pair, node, firstTerms, lower, down}
-use Rattle.theory.specs.TreeLengths.{lower-length}
-use Rattle.theory.specs.TreeBelow.{lower-below}
+use Rattle.tree_model.specs.Level.{span}
+use Rattle.numbers.specs.Regions.{part, written, Apart, ResiduesIn, KeptOutside, part-entry, part-take, part-both, part-residues, part-written, written-one, written-more, written-kept, kept-wider, kept-then, kept-part, kept-residues}
+use Rattle.tree_model.specs.Tree.{Pair, node, firstTerms, adjointPair, down}
+use Rattle.tree_model.specs.TreeLengths.{adjointPair-length}
+use Rattle.tree_model.specs.TreeBelow.{adjointPair-below}
 use Rattle.products.specs.Places.{Aside, aside-within, aside-kept}
 use Rattle.subproduct.specs.Layout.{listsAt, listsAt-kept, Level, Halves, treeSize, treeList, nodePlace, pairList, matrixAt, pairAt, level-halves, level-one, treeSize-suc, treeSize-node, pairList-length, pair-reads, tree-left, tree-right, tree-matrix, matrixAt-kept, pairList-below}
-use Rattle.subproduct.specs.Lower.{LowerPlaces}
+use Rattle.subproduct.specs.AdjointPair.{AdjointPlaces}
 
 unfoldable pub descended : ℕ → List ℕ → ℕ → ℕ → Pair → List ℕ
 descended m w tree zero v = getD (v .v0) 0 0 ∷ getD (v .v1) 0 0 ∷ []
 descended m w tree (suc l) v =
-    descended m w tree l (firstTerms (span l) v) ++ descended m w (tree + treeSize l) l (lower m (span l) (matrixAt w (tree + nodePlace l) (suc (span l))) v)
+    descended m w tree l (firstTerms (span l) v) ++ descended m w (tree + treeSize l) l (adjointPair m (span l) (matrixAt w (tree + nodePlace l) (suc (span l))) v)
 
 pub record DescendInput (m : ℕ) (w : List ℕ) (tree first second at level pairs : ℕ) : Type 0 where
   pub least : 0 < m
@@ -56,7 +56,7 @@ descended-down f w tree (suc l) t v holds =
     rw (
       tree-matrix f w tree l t (tree-left f w tree l t holds),
       descended-down f w tree l t (firstTerms (span l) v) (tree-left f w tree l t holds),
-      descended-down f w (tree + treeSize l) l (t + span l) (lower (f .m) (span l) (node f l t) v) (tree-right f w tree l t holds),
+      descended-down f w (tree + treeSize l) l (t + span l) (adjointPair (f .m) (span l) (node f l t) v) (tree-right f w tree l t holds),
     )
 
 module _ (m lo hi : ℕ) (w w′ : List ℕ) (kept : KeptOutside lo hi w w′) where
@@ -67,7 +67,7 @@ module _ (m lo hi : ℕ) (w w′ : List ℕ) (kept : KeptOutside lo hi w w′) w
       rw (
         matrixAt-kept lo hi w w′ kept (tree + nodePlace l) (suc (span l)) (inner (tree + nodePlace l) (4 * suc (span l)) (omega arith) (omega (arith, treeSize-suc l, treeSize-node l)) apart),
         descended-kept tree l (firstTerms (span l) v) (inner tree (treeSize l) (omega arith) (omega (arith, treeSize-suc l)) apart),
-        descended-kept (tree + treeSize l) l (lower m (span l) (matrixAt w (tree + nodePlace l) (suc (span l))) v) (inner (tree + treeSize l) (treeSize l) (omega arith) (omega (arith, treeSize-suc l)) apart),
+        descended-kept (tree + treeSize l) l (adjointPair m (span l) (matrixAt w (tree + nodePlace l) (suc (span l))) v) (inner (tree + treeSize l) (treeSize l) (omega arith) (omega (arith, treeSize-suc l)) apart),
       )
     where
       inner : (p k : ℕ) → tree ≤ p → p + k ≤ tree + treeSize (suc l) → Apart lo hi tree (treeSize (suc l)) → Apart lo hi p k
@@ -79,7 +79,7 @@ unfolding descended span
 descended-length m w tree zero v = refl
 descended-length m w tree (suc l) v =
     length-append (descended m w tree l (firstTerms (span l) v)) _
-    ∙ ap₂ _+_ (descended-length m w tree l (firstTerms (span l) v)) (descended-length m w (tree + treeSize l) l (lower m (span l) (matrixAt w (tree + nodePlace l) (suc (span l))) v))
+    ∙ ap₂ _+_ (descended-length m w tree l (firstTerms (span l) v)) (descended-length m w (tree + treeSize l) l (adjointPair m (span l) (matrixAt w (tree + nodePlace l) (suc (span l))) v))
 
 listsAt-first : (w : List ℕ) (p q n k : ℕ) → k ≤ n → firstTerms k (listsAt w p q n) ≡ listsAt w p q k
 unfolding firstTerms listsAt
@@ -167,8 +167,8 @@ module _ (m : ℕ) (w : List ℕ) (tree first second at level pairs : ℕ) (h : 
         node-apart : Apart at (at + 6 * pairs) (tree + size - 4 * (pairs + 1)) (4 * (pairs + 1))
         node-apart = let z = descend-sizes in inl (omega arith)
 
-        pub descend-lower : LowerPlaces m w₁ (at + 4 * pairs) pairs (tree + size - 4 * (pairs + 1)) (pairs + 1) first second (pairs + pairs)
-        descend-lower =
+        pub descend-pair : AdjointPlaces m w₁ (at + 4 * pairs) pairs (tree + size - 4 * (pairs + 1)) (pairs + 1) first second (pairs + pairs)
+        descend-pair =
             let z = descend-sizes in
             let long : length w₁ ≡ length w = left-kept .long in
             record {
@@ -189,30 +189,30 @@ module _ (m : ℕ) (w : List ℕ) (tree first second at level pairs : ℕ) (h : 
                   (aside-kept m at (at + 6 * pairs) w w₁ second (pairs + pairs) left-kept secondApart) (omega arith) (omega arith) (omega arith) (omega arith);
             }
 
-        module _ (w₂ : List ℕ) (e₂ : w₂ ≡ written w₁ (at + 4 * pairs) (pairList (lower m pairs (matrixAt w₁ (tree + size - 4 * (pairs + 1)) (pairs + 1)) (listsAt w₁ first second (pairs + pairs))))) where
-          lowered-is : lower m pairs (matrixAt w₁ (tree + size - 4 * (pairs + 1)) (pairs + 1)) (listsAt w₁ first second (pairs + pairs))
-              ≡ lower m pairs (matrixAt w (tree + size - 4 * (pairs + 1)) (pairs + 1)) (listsAt w first second (pairs + pairs))
-          lowered-is = ap₂ (lower m pairs) (matrixAt-kept at (at + 6 * pairs) w w₁ left-kept (tree + size - 4 * (pairs + 1)) (pairs + 1) node-apart)
+        module _ (w₂ : List ℕ) (e₂ : w₂ ≡ written w₁ (at + 4 * pairs) (pairList (adjointPair m pairs (matrixAt w₁ (tree + size - 4 * (pairs + 1)) (pairs + 1)) (listsAt w₁ first second (pairs + pairs))))) where
+          pair-is : adjointPair m pairs (matrixAt w₁ (tree + size - 4 * (pairs + 1)) (pairs + 1)) (listsAt w₁ first second (pairs + pairs))
+              ≡ adjointPair m pairs (matrixAt w (tree + size - 4 * (pairs + 1)) (pairs + 1)) (listsAt w first second (pairs + pairs))
+          pair-is = ap₂ (adjointPair m pairs) (matrixAt-kept at (at + 6 * pairs) w w₁ left-kept (tree + size - 4 * (pairs + 1)) (pairs + 1) node-apart)
               (listsAt-kept at (at + 6 * pairs) w w₁ left-kept first second (pairs + pairs) (firstApart .apart) (secondApart .apart))
 
-          long-lowered : length (pairList (lower m pairs (matrixAt w (tree + size - 4 * (pairs + 1)) (pairs + 1)) (listsAt w first second (pairs + pairs)))) ≡ pairs + pairs
-          long-lowered = pairList-length pairs _ (lower-length m pairs (matrixAt w (tree + size - 4 * (pairs + 1)) (pairs + 1)) (listsAt w first second (pairs + pairs)))
+          long-pair : length (pairList (adjointPair m pairs (matrixAt w (tree + size - 4 * (pairs + 1)) (pairs + 1)) (listsAt w first second (pairs + pairs)))) ≡ pairs + pairs
+          long-pair = pairList-length pairs _ (adjointPair-length m pairs (matrixAt w (tree + size - 4 * (pairs + 1)) (pairs + 1)) (listsAt w first second (pairs + pairs)))
 
-          pair-written : w₂ ≡ written w₁ (at + 4 * pairs) (pairList (lower m pairs (matrixAt w (tree + size - 4 * (pairs + 1)) (pairs + 1)) (listsAt w first second (pairs + pairs))))
-          pair-written = e₂ ∙ ap (λ v. written w₁ (at + 4 * pairs) (pairList v)) lowered-is
+          pair-written : w₂ ≡ written w₁ (at + 4 * pairs) (pairList (adjointPair m pairs (matrixAt w (tree + size - 4 * (pairs + 1)) (pairs + 1)) (listsAt w first second (pairs + pairs))))
+          pair-written = e₂ ∙ ap (λ v. written w₁ (at + 4 * pairs) (pairList v)) pair-is
 
-          pair-room : at + 4 * pairs + length (pairList (lower m pairs (matrixAt w (tree + size - 4 * (pairs + 1)) (pairs + 1)) (listsAt w first second (pairs + pairs)))) ≤ length w₁
-          pair-room = let z = descend-sizes in omega (arith, long-lowered, left-kept .long)
+          pair-room : at + 4 * pairs + length (pairList (adjointPair m pairs (matrixAt w (tree + size - 4 * (pairs + 1)) (pairs + 1)) (listsAt w first second (pairs + pairs)))) ≤ length w₁
+          pair-room = let z = descend-sizes in omega (arith, long-pair, left-kept .long)
 
           pair-kept : KeptOutside (at + 4 * pairs) (at + 6 * pairs) w₁ w₂
-          pair-kept = rw pair-written (kept-wider (at + 4 * pairs) (at + 4 * pairs + length (pairList (lower m pairs (matrixAt w (tree + size - 4 * (pairs + 1)) (pairs + 1)) (listsAt w first second (pairs + pairs))))) (at + 4 * pairs) (at + 6 * pairs) w₁ _
-              (omega arith) (omega (arith, long-lowered)) (written-kept w₁ (at + 4 * pairs) _ pair-room))
+          pair-kept = rw pair-written (kept-wider (at + 4 * pairs) (at + 4 * pairs + length (pairList (adjointPair m pairs (matrixAt w (tree + size - 4 * (pairs + 1)) (pairs + 1)) (listsAt w first second (pairs + pairs))))) (at + 4 * pairs) (at + 6 * pairs) w₁ _
+              (omega arith) (omega (arith, long-pair)) (written-kept w₁ (at + 4 * pairs) _ pair-room))
 
-          pair-holds : part w₂ (at + 4 * pairs) (pairs + pairs) ≡ pairList (lower m pairs (matrixAt w (tree + size - 4 * (pairs + 1)) (pairs + 1)) (listsAt w first second (pairs + pairs)))
-          pair-holds = ap₂ (λ v k. part v (at + 4 * pairs) k) pair-written (sym long-lowered) ∙ part-written w₁ (at + 4 * pairs) _ pair-room
+          pair-holds : part w₂ (at + 4 * pairs) (pairs + pairs) ≡ pairList (adjointPair m pairs (matrixAt w (tree + size - 4 * (pairs + 1)) (pairs + 1)) (listsAt w first second (pairs + pairs)))
+          pair-holds = ap₂ (λ v k. part v (at + 4 * pairs) k) pair-written (sym long-pair) ∙ part-written w₁ (at + 4 * pairs) _ pair-room
 
           pair-below : ResiduesIn m w₂ (at + 4 * pairs) (at + 4 * pairs + (pairs + pairs))
-          pair-below = part-residues m w₂ (at + 4 * pairs) (pairs + pairs) _ pair-holds (pairList-below m _ (lower-below m pairs (h .least) (matrixAt w (tree + size - 4 * (pairs + 1)) (pairs + 1)) (listsAt w first second (pairs + pairs))))
+          pair-below = part-residues m w₂ (at + 4 * pairs) (pairs + pairs) _ pair-holds (pairList-below m _ (adjointPair-below m pairs (h .least) (matrixAt w (tree + size - 4 * (pairs + 1)) (pairs + 1)) (listsAt w first second (pairs + pairs))))
 
           two-kept : KeptOutside at (at + 6 * pairs) w w₂
           two-kept = kept-then at (at + 6 * pairs) w w₁ w₂ left-kept (kept-wider (at + 4 * pairs) (at + 6 * pairs) at (at + 6 * pairs) w₁ w₂ (omega arith) (omega arith) pair-kept)
@@ -243,16 +243,16 @@ module _ (m : ℕ) (w : List ℕ) (tree first second at level pairs : ℕ) (h : 
                 ∙ kept-part (at + 4 * pairs) (at + 6 * pairs) w₁ w₂ pair-kept at pairs (inl (omega arith))
                 ∙ (rw (descend-halves .rows) at (left .holds))
 
-            right-holds : part w₃ (at + pairs) pairs ≡ descended m w (tree + size) (level - 1) (lower m pairs (matrixAt w (tree + size - 4 * (pairs + 1)) (pairs + 1)) (listsAt w first second (pairs + pairs)))
+            right-holds : part w₃ (at + pairs) pairs ≡ descended m w (tree + size) (level - 1) (adjointPair m pairs (matrixAt w (tree + size - 4 * (pairs + 1)) (pairs + 1)) (listsAt w first second (pairs + pairs)))
             unfolding listsAt pairAt
             right-holds =
                 let z = descend-sizes in
                 (rw (descend-halves .rows) at (right .holds))
                 ∙ descended-kept m at (at + 6 * pairs) w w₂ two-kept (tree + size) (level - 1) (listsAt w₂ (at + 4 * pairs) (at + 4 * pairs + pairs) pairs) (inl (omega (arith, sized)))
-                ∙ ap (descended m w (tree + size) (level - 1)) (pair-reads w₂ (at + 4 * pairs) pairs _ (lower-length m pairs (matrixAt w (tree + size - 4 * (pairs + 1)) (pairs + 1)) (listsAt w first second (pairs + pairs))) pair-holds)
+                ∙ ap (descended m w (tree + size) (level - 1)) (pair-reads w₂ (at + 4 * pairs) pairs _ (adjointPair-length m pairs (matrixAt w (tree + size - 4 * (pairs + 1)) (pairs + 1)) (listsAt w first second (pairs + pairs))) pair-holds)
 
             entries-are : descended m w tree (level - 1) (listsAt w first second pairs)
-                ++ descended m w (tree + size) (level - 1) (lower m pairs (matrixAt w (tree + size - 4 * (pairs + 1)) (pairs + 1)) (listsAt w first second (pairs + pairs)))
+                ++ descended m w (tree + size) (level - 1) (adjointPair m pairs (matrixAt w (tree + size - 4 * (pairs + 1)) (pairs + 1)) (listsAt w first second (pairs + pairs)))
                 ≡ descended m w tree level (listsAt w first second (span level))
             unfolding descended
             entries-are =
@@ -260,7 +260,7 @@ module _ (m : ℕ) (w : List ℕ) (tree first second at level pairs : ℕ) (h : 
                 let node-is : tree + size - 4 * (pairs + 1) ≡ tree + nodePlace (level - 1) = omega (arith, sized, descend-halves .rows, treeSize-node (level - 1)) in
                 let one : pairs + 1 ≡ suc pairs = omega arith in
                 let e : descended m w tree (level - 1) (listsAt w first second pairs)
-                ++ descended m w (tree + size) (level - 1) (lower m pairs (matrixAt w (tree + size - 4 * (pairs + 1)) (pairs + 1)) (listsAt w first second (pairs + pairs)))
+                ++ descended m w (tree + size) (level - 1) (adjointPair m pairs (matrixAt w (tree + size - 4 * (pairs + 1)) (pairs + 1)) (listsAt w first second (pairs + pairs)))
                 ≡ descended m w tree (suc (level - 1)) (listsAt w first second (pairs + pairs))
                 = rw (node-is, one, sized, descend-halves .rows, listsAt-first w first second (pairs + pairs) pairs (omega arith)) in
                 e ∙ ap₂ (λ k x. descended m w tree k (listsAt w first second x)) (sym (descend-halves .is)) (sym covers)
@@ -269,9 +269,9 @@ module _ (m : ℕ) (w : List ℕ) (tree first second at level pairs : ℕ) (h : 
             descend-output =
                 let z = descend-sizes in
                 let xs : List ℕ = descended m w tree (level - 1) (listsAt w first second pairs) in
-                let ys : List ℕ = descended m w (tree + size) (level - 1) (lower m pairs (matrixAt w (tree + size - 4 * (pairs + 1)) (pairs + 1)) (listsAt w first second (pairs + pairs))) in
+                let ys : List ℕ = descended m w (tree + size) (level - 1) (adjointPair m pairs (matrixAt w (tree + size - 4 * (pairs + 1)) (pairs + 1)) (listsAt w first second (pairs + pairs))) in
                 let lx : length xs ≡ pairs = descended-length m w tree (level - 1) (listsAt w first second pairs) ∙ descend-halves .rows in
-                let ly : length ys ≡ pairs = descended-length m w (tree + size) (level - 1) (lower m pairs (matrixAt w (tree + size - 4 * (pairs + 1)) (pairs + 1)) (listsAt w first second (pairs + pairs))) ∙ descend-halves .rows in
+                let ly : length ys ≡ pairs = descended-length m w (tree + size) (level - 1) (adjointPair m pairs (matrixAt w (tree + size - 4 * (pairs + 1)) (pairs + 1)) (listsAt w first second (pairs + pairs))) ∙ descend-halves .rows in
                 let both : length (xs ++ ys) ≡ span level = length-append xs ys ∙ omega (arith, covers) in
                 record {
                   kept = kept-then at (at + 3 * span level) w w₂ w₃

@@ -17,12 +17,12 @@ use native.Mathlib.Nat.{add-zero, le-refl, mul-suc, add-mul}
 use native.Mathlib.Omega.{arith}
 use lib.ListN.{length, length-append}
 use Rattle.definitions.specs.Family.{Family, rowAt}
-use Rattle.theory.specs.Level.{span, span-zero, span-suc, span-two, span-power}
-use Rattle.theory.specs.Regions.{part, Apart, KeptOutside, part-left, part-right, kept-part}
-use Rattle.theory.specs.Products.{Below}
-use Rattle.theory.specs.Tree.{Matrix, Pair, node}
-use Rattle.theory.specs.TreeLengths.{MatrixLength, PairLength, node-length}
-use Rattle.theory.specs.TreeBelow.{RowBelow, MatrixBelow, PairBelow, node-below}
+use Rattle.tree_model.specs.Level.{span, span-zero, span-suc, span-two, span-power}
+use Rattle.numbers.specs.Regions.{part, Apart, KeptOutside, part-left, part-right, kept-part}
+use Rattle.numbers.specs.Products.{Below}
+use Rattle.tree_model.specs.Tree.{Matrix, Pair, node}
+use Rattle.tree_model.specs.TreeLengths.{MatrixLength, PairLength, node-length}
+use Rattle.tree_model.specs.TreeBelow.{RowBelow, MatrixBelow, PairBelow, node-below}
 
 unfoldable pub treeSize : ℕ → ℕ
 treeSize zero = 12
@@ -140,12 +140,12 @@ matrix-reads w at n x h holds =
     let top : length (x .e00 ++ x .e01) ≡ n + n = simp length-append (omega arith) in
     let bottom : length (x .e10 ++ x .e11) ≡ n + n = simp length-append (omega arith) in
     let upper : part w at (n + n) ≡ x .e00 ++ x .e01 = part-left w at (n + n) (n + n) (x .e00 ++ x .e01) (x .e10 ++ x .e11) top bottom all in
-    let lower : part w (at + (n + n)) (n + n) ≡ x .e10 ++ x .e11 = part-right w at (n + n) (n + n) (x .e00 ++ x .e01) (x .e10 ++ x .e11) top bottom all in
+    let bottom : part w (at + (n + n)) (n + n) ≡ x .e10 ++ x .e11 = part-right w at (n + n) (n + n) (x .e00 ++ x .e01) (x .e10 ++ x .e11) top bottom all in
     rw (
       part-left w at n n (x .e00) (x .e01) (h .l00) (h .l01) upper,
       part-right w at n n (x .e00) (x .e01) (h .l00) (h .l01) upper,
-      part-left w (at + (n + n)) n n (x .e10) (x .e11) (h .l10) (h .l11) lower,
-      part-right w (at + (n + n)) n n (x .e10) (x .e11) (h .l10) (h .l11) lower,
+      part-left w (at + (n + n)) n n (x .e10) (x .e11) (h .l10) (h .l11) bottom,
+      part-right w (at + (n + n)) n n (x .e10) (x .e11) (h .l10) (h .l11) bottom,
     )
 
 pub pair-reads : (w : List ℕ) (at n : ℕ) (v : Pair) → PairLength n v → part w at (n + n) ≡ pairList v → pairAt w at n ≡ v

@@ -12,8 +12,8 @@ use native.Mathlib.Omega.{arith}
 use lib.ListN.{length, getD, take, set, List·getD-eq-default}
 use lib.Seq.{getD-take, length-take-le}
 use Rattle.definitions.specs.Family.{Family, Row, family, greatestModulus}
-use Rattle.theory.specs.Regions.{written, written-one, written-more, written-then}
-use Rattle.theory.specs.Tree.{leaf}
+use Rattle.numbers.specs.Regions.{written, written-one, written-more, written-then}
+use Rattle.tree_model.specs.Tree.{leaf}
 use Rattle.subproduct.specs.Layout.{matrixList}
 
 abbrev pub familyOf : ℕ → ℕ → List ℕ → List ℕ → List ℕ → Family
@@ -39,13 +39,6 @@ pub record LeafInput (m : ℕ) (w : List ℕ) (at pa pb pc qa qb qc : ℕ) : Typ
   pub qaBelow : qa < m
   pub qbBelow : qb < m
   pub qcBelow : qc < m
-
--- ---- rows
-pub row-inside : (a : List ℕ) (r i : ℕ) → i < r → getD a i 0 ≡ getD (take r a) i 0
-row-inside a r i h = sym (getD-take r a i 0 h)
-
-pub row-past : (a : List ℕ) (r i : ℕ) → r ≤ length a → r ≤ i → 0 ≡ getD (take r a) i 0
-row-past a r i l h = sym (List·getD-eq-default (take r a) 0 {n = i} (rw (length-take-le r a l) h))
 
 -- ---- sums
 pub product-small : (m x y : ℕ) → m ≤ greatestModulus → x < m → y < m → x * y ≤ 4611686009837453316

@@ -4,5 +4,5 @@ pub mod Leaf
 pub mod Join
 pub mod Build
 pub mod Climb
-pub mod Lower
+pub mod AdjointPair
 pub mod Descend

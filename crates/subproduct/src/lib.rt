@@ -4,15 +4,16 @@ ghost use mathlib.Core.Path.{_≡_};
 ghost use mathlib.Core.List.{[], _∷_};
 ghost use Prim.Native.Nat.{_+_, _*_, _-_, _%_, _≤_, _<_};
 ghost use lib.ListN.{length, getD, take};
-ghost use Rattle.theory.specs.Regions.{written};
-ghost use Rattle.theory.specs.Tree.{padded, leaf, join, raise, lower};
+ghost use Rattle.numbers.specs.Regions.{written};
+ghost use Rattle.tree_model.specs.Tree.{padded, leaf, join, expandPair, adjointPair};
 ghost use Rattle.subproduct.specs.Layout.{Level, treeSize, treeList, matrixList, pairList, matrixAt, pairAt, listsAt};
 ghost use Rattle.subproduct.specs.Leaf.{familyOf, rowOf, Residues, LeafInput};
-ghost use Rattle.subproduct.specs.Join.{RaisePlaces, JoinPlaces};
+ghost use Rattle.subproduct.specs.Join.{ExpandPlaces, JoinPlaces};
 ghost use Rattle.subproduct.specs.Build.{BuildInput};
 ghost use Rattle.subproduct.specs.Climb.{ClimbInput, ClimbOutput};
 ghost use Rattle.subproduct.specs.Descend.{LeafPlaces, DescendInput, DescendOutput};
-ghost use Rattle.subproduct.specs.Lower.{LowerPlaces};
+ghost use Rattle.subproduct.specs.AdjointPair.{AdjointPlaces};
+use lists::row_entry;
 use products::add_products;
 use products::transposed_sum;
 
@@ -22,14 +23,6 @@ fn tree_size(level: usize, pairs: usize) -> usize
     ensures { λ r. ⌜ r ≡ treeSize level ⌝ }
 {
     8 * pairs * (level + 2) - 4
-}
-
-// Entry i of a column of the family, and 0 from row r on: the padding rows.
-fn row_entry(a: &[u32], r: usize, i: usize) -> u32
-    requires { ⌜ r ≤ length (now a) ⌝ }
-    ensures { λ v. ⌜ v ≡ getD (take r (now (a .entry))) i 0 ⌝ }
-{
-    if i < r { a[i] } else { 0 }
 }
 
 // s + x y + u v modulo m.
@@ -79,7 +72,7 @@ fn write_leaf(
 
 // Writes the pair t + row matrix, n coefficients of each entry, from place target on: t is a pair of lists of tn numbers, row one of
 // lists of pn, matrix has lists of qn.
-fn raise(
+fn expand_pair(
     m: u32,
     w: &mut [u32],
     target: usize,
@@ -91,12 +84,12 @@ fn raise(
     matrix: usize,
     qn: usize,
 )
-    requires { ⌜ RaisePlaces m (now w) target n t tn row pn matrix qn ⌝ }
-    ensures { λ _. ⌜ now (w .exit) ≡ written (now (w .entry)) target (pairList (raise m n (pairAt (now (w .entry)) t tn) (pairAt (now (w .entry)) row pn) (matrixAt (now (w .entry)) matrix qn))) ⌝ }
+    requires { ⌜ ExpandPlaces m (now w) target n t tn row pn matrix qn ⌝ }
+    ensures { λ _. ⌜ now (w .exit) ≡ written (now (w .entry)) target (pairList (expandPair m n (pairAt (now (w .entry)) t tn) (pairAt (now (w .entry)) row pn) (matrixAt (now (w .entry)) matrix qn))) ⌝ }
 {
     let second = row + pn;
-    let lower = matrix + (qn + qn);
-    add_products(m, w, target, n, t, tn, row, second, pn, matrix, lower, qn);
+    let bottom = matrix + (qn + qn);
+    add_products(m, w, target, n, t, tn, row, second, pn, matrix, bottom, qn);
     add_products(
         m,
         w,
@@ -108,7 +101,7 @@ fn raise(
         second,
         pn,
         matrix + qn,
-        lower + qn,
+        bottom + qn,
         qn,
     );
 }
@@ -119,8 +112,8 @@ fn join(m: u32, w: &mut [u32], target: usize, n: usize, right: usize, left: usiz
     requires { ⌜ JoinPlaces m (now w) target n right left k ⌝ }
     ensures { λ _. ⌜ now (w .exit) ≡ written (now (w .entry)) target (matrixList (join m n (matrixAt (now (w .entry)) right k) (matrixAt (now (w .entry)) left k))) ⌝ }
 {
-    raise(m, w, target, n, left, 0, right, k, left, k);
-    raise(
+    expand_pair(m, w, target, n, left, 0, right, k, left, k);
+    expand_pair(
         m,
         w,
         target + (n + n),
@@ -141,12 +134,12 @@ fn build_leaf(m: u32, a: &[u32], b: &[u32], c: &[u32], r: usize, w: &mut [u32], 
 {
     let p = t + 1;
     let q = t + 2;
-    let pa = row_entry(a, r, p);
-    let pb = row_entry(b, r, p);
-    let pc = row_entry(c, r, p);
-    let qa = row_entry(a, r, q);
-    let qb = row_entry(b, r, q);
-    let qc = row_entry(c, r, q);
+    let pa = row_entry(a, r, p, 0);
+    let pb = row_entry(b, r, p, 0);
+    let pc = row_entry(c, r, p, 0);
+    let qa = row_entry(a, r, q, 0);
+    let qb = row_entry(b, r, q, 0);
+    let qc = row_entry(c, r, q, 0);
     write_leaf(m, w, at, pa, pb, pc, qa, qb, qc);
 }
 
@@ -212,8 +205,8 @@ pub fn climb(
     ensures { λ _. ⌜ ClimbOutput m (take n (now (curve .entry))) (now (w .entry)) tree at level t (now (w .exit)) ⌝ }
 {
     if pairs == 1 {
-        let x = row_entry(curve, n, t);
-        let y = row_entry(curve, n, t + 1);
+        let x = row_entry(curve, n, t, 0);
+        let y = row_entry(curve, n, t + 1, 0);
         climb_leaf(w, at, x, y);
         return;
     }
@@ -225,7 +218,7 @@ pub fn climb(
     let k = pairs + 1;
     climb(m, curve, n, w, tree, left, level - 1, half, t);
     climb(m, curve, n, w, end, right, level - 1, half, t + pairs);
-    raise(
+    expand_pair(
         m,
         w,
         at,
@@ -241,7 +234,7 @@ pub fn climb(
 
 // Writes the pair of the right half: n terms of the transposed products of the lists at first and second with a matrix. Those lists have
 // vn numbers, the matrix has lists of qn.
-fn lower(
+fn adjoint_pair(
     m: u32,
     w: &mut [u32],
     target: usize,
@@ -252,8 +245,8 @@ fn lower(
     second: usize,
     vn: usize,
 )
-    requires { ⌜ LowerPlaces m (now w) target n matrix qn first second vn ⌝ }
-    ensures { λ _. ⌜ now (w .exit) ≡ written (now (w .entry)) target (pairList (lower m n (matrixAt (now (w .entry)) matrix qn) (listsAt (now (w .entry)) first second vn))) ⌝ }
+    requires { ⌜ AdjointPlaces m (now w) target n matrix qn first second vn ⌝ }
+    ensures { λ _. ⌜ now (w .exit) ≡ written (now (w .entry)) target (pairList (adjointPair m n (matrixAt (now (w .entry)) matrix qn) (listsAt (now (w .entry)) first second vn))) ⌝ }
 {
     let row = matrix + (qn + qn);
     transposed_sum(m, w, target, n, matrix, matrix + qn, qn, first, second, vn);
@@ -296,7 +289,7 @@ pub fn descend(
     let pair = at + 4 * pairs;
     let k = pairs + 1;
     descend(m, w, tree, first, second, at, level - 1, half);
-    lower(
+    adjoint_pair(
         m,
         w,
         pair,

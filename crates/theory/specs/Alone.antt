@@ -10,7 +10,7 @@ use lib.ListN.{getD}
 use Rattle.definitions.specs.Conversion.{expand, adjoint, decompose, decomposeBelow, top}
 use Rattle.definitions.specs.Family.{Family, rows, F, term}
 use Rattle.definitions.specs.Number.{sum, table, inverse}
-use Rattle.theory.specs.Inverse.{inverse-unique}
+use Rattle.numbers.specs.Inverse.{inverse-unique}
 
 table-alone : (m r : ℕ) (u : List ℕ) (g : ℕ → ℕ → ℕ) → r ≡ 0 → g 0 0 ≡ 1 → table (suc r) (λ i. sum (suc r) (λ j. getD u j 0 * g j i) % m) ≡ getD u 0 0 % m ∷ []
 unfolding table sum

@@ -19,9 +19,9 @@ use Rattle.definitions.specs.Family as Family
 use Rattle.definitions.specs.Family.{Family, Row, Curve, size, rowAt, timesX, F, G}
 use Rattle.definitions.specs.Number.{sum}
 use Rattle.theory.specs.Curves.{table-curve}
-use Rattle.theory.specs.Lists.{table-entry}
+use Rattle.numbers.specs.Lists.{table-entry}
 use Rattle.theory.specs.Recurrence.{Rows, later, term, term-step}
-use Rattle.theory.specs.Residue.{residue-sum}
+use Rattle.numbers.specs.Residue.{residue-sum}
 
 module _ (m : ℕ) (pos : 0 < m) where
   abbrev R : CommRing

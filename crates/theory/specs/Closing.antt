@@ -11,8 +11,8 @@ use lib.ListN.{length, getD}
 use Rattle.definitions.specs.Conversion.{expand, adjoint, top, lessTop, decomposeBelow, decompose}
 use Rattle.definitions.specs.Family.{Family, Row, Accepted, rows, size, rowAt, timesX, term, F}
 use Rattle.definitions.specs.Number.{negative, inverse}
-use Rattle.theory.specs.Lists.{getD-default, table-equal}
-use Rattle.theory.specs.Sums.{sum-equal}
+use Rattle.numbers.specs.Lists.{getD-default, table-equal}
+use Rattle.numbers.specs.Sums.{sum-equal}
 
 abbrev pub closedBy : Row → Family → Family
 closedBy row f = record { m = f .m; a = f .a; b = f .b; c = f .c; close = row }

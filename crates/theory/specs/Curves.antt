@@ -9,8 +9,8 @@ use lib.ListN.{length, getD}
 use Rattle.algebra.specs.Residues.{res}
 use Rattle.definitions.specs.Number.{table}
 use Rattle.definitions.specs.Family.{Family, Curve, size}
-use Rattle.theory.specs.Lists.{table-length, table-below}
-use Rattle.theory.specs.Residue.{lists-equal}
+use Rattle.numbers.specs.Lists.{table-length, table-below}
+use Rattle.numbers.specs.Residue.{lists-equal}
 
 module _ (f : Family) where
   pub table-curve : (g : ℕ → ℕ) → ((i : ℕ) → i < size f → g i < f .m) → Curve f (table (size f) g)

@@ -19,11 +19,11 @@ use Rattle.definitions.specs.Orthogonality.{moments, norm, norms}
 use Rattle.theory.specs.Bridge.{entries, rowsOf, entries-expand, entries-adjoint}
 use Rattle.theory.specs.Curves.{table-curve, curves-equal-residues}
 use Rattle.theory.specs.Form.{form, form-rows, form-cong}
-use Rattle.theory.specs.Lists.{table-entry}
+use Rattle.numbers.specs.Lists.{table-entry}
 use Rattle.theory.specs.Moments.{norms-entry, convertible-moments, convertible-norms, norms-have-inverses}
 use Rattle.theory.specs.Orthogonal.{form-row}
 use Rattle.theory.specs.Recurrence.{Rows, term}
-use Rattle.theory.specs.Residue.{residue-sum, residue-inverse}
+use Rattle.numbers.specs.Residue.{residue-sum, residue-inverse}
 use Rattle.theory.specs.RoundTrip.{convertible-decomposable, decompose-curve, expand-decompose}
 
 unfoldable pub hankelProduct : Family → List ℕ → List ℕ

@@ -14,10 +14,10 @@ use Rattle.algebra.specs.Solver.{linear, scaled, both, reify}
 use Rattle.definitions.specs.Family.{Family, rowAt, F}
 use Rattle.definitions.specs.Number.{negative, HasInverse, inverse}
 use Rattle.definitions.specs.Orthogonality.{signedProduct, norm}
-use Rattle.theory.specs.Inverse.{inverse-unique}
-use Rattle.theory.specs.Residue.{residue-negative, residue-product-one, residue-inverse}
+use Rattle.numbers.specs.Inverse.{inverse-unique}
+use Rattle.numbers.specs.Residue.{residue-negative, residue-product-one, residue-inverse}
 use Rattle.theory.specs.RoundTrip.{leading-product}
-use Rattle.theory.specs.RunningProduct.{runningProduct}
+use Rattle.numbers.specs.RunningProduct.{runningProduct}
 
 unfoldable pub signedInverse : ℕ → (ℕ → ℕ) → ℕ → ℕ
 signedInverse m w zero = 1

@@ -19,7 +19,7 @@ use Rattle.theory.specs.Bridge.{entries, entries-expand}
 use Rattle.theory.specs.Form.{placed, form, form-cong, form-product}
 use Rattle.theory.specs.Moments.{convertible-moments, convertible-norms, norms-have-inverses}
 use Rattle.theory.specs.Orthogonal.{form-combination}
-use Rattle.theory.specs.Residue.{residue-sum}
+use Rattle.numbers.specs.Residue.{residue-sum}
 
 -- ---- the two totals as residues
 module _ (m : ℕ) (pos : 0 < m) where

@@ -19,8 +19,8 @@ use Rattle.algebra.specs.Unit.{IsUnit}
 use Rattle.definitions.specs.Number.{HasInverse, inverse}
 use Rattle.definitions.specs.Orthogonality.{nextQuotient, quotient}
 use Rattle.theory.specs.Bridge.{entries}
-use Rattle.theory.specs.Lists.{snoc-length, snoc-entry, snoc-last}
-use Rattle.theory.specs.Residue.{residue-sum, residue-negative, residue-inverse}
+use Rattle.numbers.specs.Lists.{snoc-length, snoc-entry, snoc-last}
+use Rattle.numbers.specs.Residue.{residue-sum, residue-negative, residue-inverse}
 
 module _ (m : ℕ) (g d : List ℕ) where
   pub quotient-length : (k : ℕ) → length (quotient m g d k) ≡ k

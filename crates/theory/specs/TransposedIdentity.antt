@@ -16,7 +16,7 @@ use Rattle.definitions.specs.Family.{Family, size}
 use Rattle.definitions.specs.Number.{sum}
 use Rattle.theory.specs.Bridge.{entries, rowsOf, entries-expand, entries-adjoint}
 use Rattle.theory.specs.Recurrence.{term}
-use Rattle.theory.specs.Residue.{residue-sum}
+use Rattle.numbers.specs.Residue.{residue-sum}
 
 -- φ j i is the coefficient of x^i in the j-th polynomial of a basis
 module _ (R : CommRing) (φ : ℕ → ℕ → R .Car) where

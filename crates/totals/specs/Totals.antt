@@ -20,7 +20,7 @@ use Rattle.definitions.specs.Orthogonality.{momentTotal}
 use Rattle.theory.specs.Bridge.{entries}
 use Rattle.theory.specs.Form.{form, form-rows}
 use Rattle.theory.specs.ProductLaw.{res-momentTotal}
-use Rattle.theory.specs.Residue.{residue-sum}
+use Rattle.numbers.specs.Residue.{residue-sum}
 
 unfoldable pub rowTotal : ℕ → ℕ → List ℕ → List ℕ → ℕ → ℕ
 rowTotal m n t moment i = sum n (λ j. getD t j 0 * getD moment (i + j) 0) % m

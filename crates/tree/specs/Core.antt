@@ -19,13 +19,13 @@ use lib.Seq.{length-take-le, getD-take, set-split}
 use Rattle.definitions.specs.Family.{Family, Modulus, rows, size, rowAt}
 use Rattle.definitions.specs.Refusals.{workLength}
 use Rattle.definitions.specs.Answers.{cleared}
-use Rattle.theory.specs.Level.{span, levelFor, level-covers, level-least, level-most}
-use Rattle.theory.specs.Regions.{part, written, Apart, ResiduesIn, KeptOutside, part-length, part-take, part-both, part-residues, part-written, written-kept, kept-wider, kept-then, kept-part, kept-residues, kept-drop}
-use Rattle.theory.specs.Products.{Below, plusProduct}
-use Rattle.theory.specs.Tree.{F₁, Pair, padded, up, expandAt, treeExpand, down, rootPair, adjointAt, treeAdjoint}
-use Rattle.theory.specs.TreeClauses.{treeExpand-tree, treeExpand-alone, treeAdjoint-tree, treeAdjoint-alone}
-use Rattle.theory.specs.TreeLengths.{PairLength, rootPair-length}
-use Rattle.theory.specs.TreeBelow.{RowBelow, rootPair-below}
+use Rattle.tree_model.specs.Level.{span, levelFor, level-covers, level-least, level-most}
+use Rattle.numbers.specs.Regions.{part, written, Apart, ResiduesIn, KeptOutside, part-length, part-take, part-both, part-residues, part-written, written-kept, kept-wider, kept-then, kept-part, kept-residues, kept-drop}
+use Rattle.numbers.specs.Products.{Below, plusProduct}
+use Rattle.tree_model.specs.Tree.{F₁, Pair, padded, up, expandAt, treeExpand, down, rootPair, adjointAt, treeAdjoint}
+use Rattle.tree_model.specs.TreeClauses.{treeExpand-tree, treeExpand-alone, treeAdjoint-tree, treeAdjoint-alone}
+use Rattle.tree_model.specs.TreeLengths.{PairLength, rootPair-length}
+use Rattle.tree_model.specs.TreeBelow.{RowBelow, rootPair-below}
 use Rattle.subproduct.specs.Layout.{treeSize, treeList, pairList, pairAt, listsAt, treeSize-most, treeList-length, treeList-below, pairList-length, pairList-below, pair-reads}
 use Rattle.subproduct.specs.Leaf.{familyOf, rowOf}
 use Rattle.subproduct.specs.Build.{RowsInput, BuildInput}

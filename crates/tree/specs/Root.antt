@@ -13,11 +13,11 @@ use Rattle.definitions.specs.Number.{table}
 use Rattle.definitions.specs.Family.{Modulus, greatestModulus}
 use Rattle.definitions.specs.Refusals.{workLength}
 use Rattle.definitions.specs.Answers.{cleared}
-use Rattle.theory.specs.Level.{span, span-power, span-mono, levelFor, level-unique}
-use Rattle.theory.specs.Lists.{filled, filled-none, filled-more}
-use Rattle.theory.specs.Regions.{part, written, ResiduesIn, part-entry, written-length, written-then}
-use Rattle.theory.specs.Products.{Below, productAt, plusProduct, transposed, transposed-length}
-use Rattle.theory.specs.Tree.{Pair, F₀}
+use Rattle.tree_model.specs.Level.{span, span-power, span-mono, levelFor, level-unique}
+use Rattle.numbers.specs.Lists.{filled, filled-none, filled-more}
+use Rattle.numbers.specs.Regions.{part, written, ResiduesIn, part-entry, written-length, written-then}
+use Rattle.numbers.specs.Products.{Below, productAt, plusProduct, transposed, transposed-length}
+use Rattle.tree_model.specs.Tree.{Pair, F₀}
 use Rattle.reduction.specs.Reciprocal.{Reciprocal}
 use Rattle.reduction.specs.Wrapping.{Reducible}
 use Rattle.convolution.specs.Coefficients.{ProductsInput, product-one}
@@ -74,19 +74,6 @@ module _ (f : ℕ → ℕ) (n : ℕ) (old : List ℕ) where
     filling-ends l =
         let e : k ≡ n = omega (arith, h .reached) in
         h .is ∙ ap (λ j. filled f j old) e
-
--- zeros in the first n places
-zeros-table : (n : ℕ) → table n (λ _. 0) ≡ replicate n 0
-unfolding table
-zeros-table zero = refl
-zeros-table (suc n) = ap (λ t. 0 ∷ t) (zeros-table n)
-
-zeros-end : (n : ℕ) (old now : List ℕ) (k : ℕ) → n ≤ k → Filling (λ _. 0) n old now k → now ≡ replicate n 0 ++ drop n old
-zeros-end n old now k l h = filling-ends (λ _. 0) n old now k h l ∙ ap (λ t. t ++ drop n old) (zeros-table n)
-
-pub clear-ends : (old now : List ℕ) (k : ℕ) → workLength ≤ k → Filling (λ _. 0) workLength old now k → now ≡ cleared old
-unfolding cleared
-clear-ends old now k l h = zeros-end workLength old now k l h
 
 -- ---- Expand's last step
 pub record CoefficientInput (m reciprocal : ℕ) (w : List ℕ) (at span : ℕ) (first : List ℕ) (k : ℕ) : Type 0 where

@@ -5,15 +5,16 @@ ghost use mathlib.Core.List.{_++_};
 ghost use Prim.Native.Nat.{_+_, _-_, _≤_};
 ghost use lib.ListN.{length, take, drop};
 ghost use Rattle.definitions.specs.Answers.{cleared};
-ghost use Rattle.theory.specs.Level.{span, levelFor};
-ghost use Rattle.theory.specs.Regions.{part, written};
-ghost use Rattle.theory.specs.Products.{plusProduct};
-ghost use Rattle.theory.specs.Tree.{treeExpand, treeAdjoint};
+ghost use Rattle.tree_model.specs.Level.{span, levelFor};
+ghost use Rattle.numbers.specs.Regions.{part, written};
+ghost use Rattle.numbers.specs.Products.{plusProduct};
+ghost use Rattle.tree_model.specs.Tree.{treeExpand, treeAdjoint};
 ghost use Rattle.subproduct.specs.Layout.{pairList};
 ghost use Rattle.subproduct.specs.Leaf.{familyOf};
 ghost use Rattle.tree.specs.Root.{RootInput, CoefficientInput, PairInput, rootEntry, rootLists};
 ghost use Rattle.tree.specs.Core.{Input, TreeOutput, Output, expandVectors, adjointVectors};
 use convolution::products_at;
+use lists::clear;
 use products::transposed;
 use subproduct::build;
 use subproduct::climb;
@@ -103,18 +104,6 @@ fn copy_out(w: &[u32], at: usize, n: usize, output: &mut [u32])
     while i < n {
         let place = at + i;
         output[i] = w[place];
-        i += 1;
-    }
-}
-
-// Leaves zeros in the first 16,384 numbers.
-pub fn clear(work: &mut [u32])
-    requires { ⌜ 16384 ≤ length (now work) ⌝ }
-    ensures { λ _. ⌜ now (work .exit) ≡ cleared (now (work .entry)) ⌝ }
-{
-    let mut i: usize = 0;
-    while i < 16384 {
-        work[i] = 0;
         i += 1;
     }
 }

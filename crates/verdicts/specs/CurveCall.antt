@@ -10,7 +10,7 @@ use Rattle.definitions.specs.Answers.{answered}
 use Rattle.definitions.specs.Family.{Family, family, size}
 use Rattle.definitions.specs.Refusals.{Test, Verdict, finished, refused, verdict, some, notBelow, curveEntriesTest}
 use Rattle.definitions.specs.declared.Answer.{Answer}
-use Rattle.theory.specs.Verdicts.{verdict-here, verdict-next}
+use Rattle.acceptance.specs.Verdicts.{verdict-here, verdict-next}
 use Rattle.checks.specs.Calls.{check-refuses, check-passes}
 use Rattle.checks.specs.Groups.{shapeOf, lengthTests, rowTests}
 

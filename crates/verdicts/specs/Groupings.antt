@@ -8,7 +8,7 @@ use Rattle.definitions.specs.Family.{Family, size}
 use Rattle.definitions.specs.Orthogonality.{momentCount}
 use Rattle.definitions.specs.Refusals.{verdict, workTest, plainTests, treeTests, momentsTests, normsTests}
 use Rattle.definitions.specs.declared.Answer.{Answer}
-use Rattle.theory.specs.Verdicts.{modulus-passes}
+use Rattle.acceptance.specs.Verdicts.{modulus-passes}
 use Rattle.checks.specs.Calls.{check-none}
 use Rattle.checks.specs.Groups.{shapeTests, plain-groups, tree-groups, moments-groups, norms-groups}
 use Rattle.verdicts.specs.CurveCall as CurveCall

@@ -10,8 +10,8 @@ use lib.ListN.{length, drop, set}
 use Rattle.definitions.specs.Text.{newline, numbers, line, operationKey, resultKey, name, answerText}
 use Rattle.definitions.specs.TextCall.{textOutputLength}
 use Rattle.definitions.specs.declared.Operation.{Operation}
-use Rattle.theory.specs.AnswerTexts.{length-line, length-name}
-use Rattle.theory.specs.Overwriting.{over-front}
+use Rattle.texts.specs.AnswerTexts.{length-line, length-name}
+use Rattle.texts.specs.Overwriting.{over-front}
 use Rattle.writer.specs.Putting.{Put, put-one, put-length, put-then, put-as}
 
 pub record Room (out xs : List ℕ) : Type 0 where

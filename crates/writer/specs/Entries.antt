@@ -10,8 +10,8 @@ use native.Mathlib.Omega.{arith}
 use lib.ListN.{length, getD, set, take}
 use lib.Seq.{length-take-le, take-all, take-suc}
 use Rattle.definitions.specs.Text.{greatestNumber, space, nought, decimal, spaced, numbers}
-use Rattle.theory.specs.Decimal.{decimal-small, decimal-large, length-decimal, length-decimal-large}
-use Rattle.theory.specs.Overwriting.{over-none}
+use Rattle.texts.specs.Decimal.{decimal-small, decimal-large, length-decimal, length-decimal-large}
+use Rattle.texts.specs.Overwriting.{over-none}
 use Rattle.writer.specs.Putting.{Put, put-one, put-length, put-then, put-as}
 
 -- ---- a number

@@ -10,7 +10,7 @@ use native.Mathlib.Numerals.{add-one}
 use native.Mathlib.Omega.{arith}
 use lib.ListN.{length, getD, set, take, length-append, length-set}
 use lib.Seq.{length-take-le, take-all, take-suc}
-use Rattle.theory.specs.Overwriting.{over, over-none, over-one, length-over, over-on}
+use Rattle.texts.specs.Overwriting.{over, over-none, over-one, length-over, over-on}
 
 pub record Put (old : List ℕ) (at : ℕ) (xs : List ℕ) (most : ℕ) (new : List ℕ) (next : ℕ) : Type 0 where
   pub place : next ≡ at + length xs

@@ -8,7 +8,7 @@ use Prim.Native.Nat.{ℕ, _+_, _<_, _≤_}
 use native.Mathlib.Omega.{arith}
 use lib.ListN.{length, drop, set}
 use Rattle.definitions.specs.Text.{newline, decimal, line, refusalKey, refusalText}
-use Rattle.theory.specs.Overwriting.{over-front}
+use Rattle.texts.specs.Overwriting.{over-front}
 use Rattle.writer.specs.Putting.{Put, put-one, put-length, put-then, put-as}
 
 abbrev pub longestRefusal : ℕ

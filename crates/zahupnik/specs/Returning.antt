@@ -10,7 +10,7 @@ use Rattle.definitions.specs.Refusals.{Test, Verdict, finished, refused, verdic
 use Rattle.definitions.specs.TextCall.{textTests, reply, TextConverted}
 use Rattle.definitions.specs.declared.Answer.{Answer}
 use Rattle.definitions.specs.declared.Valued.{Valued}
-use Rattle.theory.specs.Verdicts.{refused-not-finished, withValues, verdict-values}
+use Rattle.acceptance.specs.Verdicts.{refused-not-finished, withValues, verdict-values}
 use Rattle.zahupnik.specs.Returned.{number, Returned, ReturnedIn}
 
 pub list-returned : (tests : List Test) (result output output′ : List ℕ) (r : Answer) (k : ℕ)

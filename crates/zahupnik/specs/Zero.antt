@@ -13,7 +13,7 @@ use Rattle.definitions.specs.Text.{Job, meant}
 use Rattle.definitions.specs.Reading.{Read, found, malformed, readJob}
 use Rattle.definitions.specs.TextCall.{textLengthTest, emptyCurveTest, curveTest, textOutputTest, jobTests, formTests, textTests}
 use Rattle.definitions.specs.declared.Operation.{Operation}
-use Rattle.theory.specs.Verdicts.{verdict-here, verdict-next}
+use Rattle.acceptance.specs.Verdicts.{verdict-here, verdict-next}
 use Rattle.zahupnik.specs.Returned.{number}
 
 abbrev Positive : List Test → Type 0

@@ -4,7 +4,7 @@ use mathlib.Core.List.{[]}
 use borrow.Author.Tests.{lt-ltb, le-ltb}
 use Rattle.definitions.specs.Refusals.{verdict}
 use Rattle.definitions.specs.TextCall.{mostBytes}
-use Rattle.theory.specs.Verdicts.{verdict-here, verdict-next}
+use Rattle.acceptance.specs.Verdicts.{verdict-here, verdict-next}
 use Rattle.checks.proofs.text_length.Statement.{statement}
 use Rattle.checks.proofs.text_length.Tie as tie
 

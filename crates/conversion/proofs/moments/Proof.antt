@@ -24,11 +24,11 @@ returns c = both-kept _ _ _ _ _ _ (c .before .before .moments .ensures) (c .enum
 zeros-requires : tie.Need-zeros-requires
 zeros-requires c κs = search needs
 
-slice-aggregate-inverses : tie.Need-slice-aggregate-inverses
-slice-aggregate-inverses c = search needs
+slice-aggregate-of-list : tie.Need-slice-aggregate-of-list
+slice-aggregate-of-list c = search needs
 
-inverses-requires : tie.Need-inverses-requires
-inverses-requires c κs = room _ _ _ _ ((moments-accepted _ _ _ _ _ _ _ (c .before .before .before .before .moments .ensures) (c .before .before .enum-told .given .1)) .accepted) _ (c .before .zeros .ensures)
+of-list-requires : tie.Need-of-list-requires
+of-list-requires c κs = room _ _ _ _ ((moments-accepted _ _ _ _ _ _ _ (c .before .before .before .before .moments .ensures) (c .before .before .enum-told .given .1)) .accepted) _ (c .before .zeros .ensures)
 
 slice-aggregate-moments : tie.Need-slice-aggregate-moments
 slice-aggregate-moments c = search needs
@@ -39,7 +39,7 @@ add-moments c = search needs
 moments-requires-2 : tie.Need-moments-requires-2
 moments-requires-2 c κs =
     let input = (moments-accepted _ _ _ _ _ _ _ (c .before .before .before .before .before .before .before .before .before .moments .ensures) (c .before .before .before .before .before .before .before .enum-told .given .1)) in
-    moments-input _ _ _ _ (input .accepted) _ (c .before .before .before .before .before .before .zeros .ensures) _ (c .before .before .before .before .inverses2 .ensures) (c .before .before .before .before .before .before .before .before .before .before .before .before .before .before .before .args .output .now) (c .before .before .before .before .before .before .before .before .before .before .before .before .before .before .before .args .work .now) input
+    moments-input _ _ _ _ (input .accepted) _ (c .before .before .before .before .before .before .zeros .ensures) _ (c .before .before .before .before .of-list .ensures) (c .before .before .before .before .before .before .before .before .before .before .before .before .before .before .before .args .output .now) (c .before .before .before .before .before .before .before .before .before .before .before .before .before .before .before .args .work .now) input
 
 same-length : tie.Need-same-length
 same-length c = search needs
@@ -52,7 +52,7 @@ returns-2 c =
     let input = (moments-accepted _ _ _ _ _ _ _ (c .before .before .before .before .before .before .before .before .before .before .before .before .before .before .moments .ensures) (c .before .before .before .before .before .before .before .before .before .before .before .before .enum-told .given .1)) in
     record {
       answer = tests-passed _ _ (c .before .before .before .before .before .before .before .before .before .before .before .before .before .before .moments .ensures) (c .before .before .before .before .before .before .before .before .before .before .before .before .enum-told .given .1);
-      written = moments-written _ _ _ _ (input .accepted) _ (c .before .before .before .before .before .before .before .before .before .before .before .zeros .ensures) _ (c .before .before .before .before .before .before .before .before .before .inverses2 .ensures) (c .before .before .before .before .before .before .before .before .before .before .before .before .before .before .before .before .before .before .before .before .args .output .now) (c .before .before .before .before .before .before .before .before .before .before .before .before .before .before .before .before .before .before .before .before .args .work .now) input _ _ (c .before .before .before .before .moments2 .ensures);
+      written = moments-written _ _ _ _ (input .accepted) _ (c .before .before .before .before .before .before .before .before .before .before .before .zeros .ensures) _ (c .before .before .before .before .before .before .before .before .before .of-list .ensures) (c .before .before .before .before .before .before .before .before .before .before .before .before .before .before .before .before .before .before .before .before .args .output .now) (c .before .before .before .before .before .before .before .before .before .before .before .before .before .before .before .before .before .before .before .before .args .work .now) input _ _ (c .before .before .before .before .moments2 .ensures);
       wiped = c .before .before .before .before .moments2 .ensures .wiped;
     }
 
@@ -65,8 +65,8 @@ moments-spec =
     enum-told-2
     returns
     zeros-requires
-    slice-aggregate-inverses
-    inverses-requires
+    slice-aggregate-of-list
+    of-list-requires
     slice-aggregate-moments
     add-moments
     moments-requires-2

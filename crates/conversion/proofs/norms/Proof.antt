@@ -23,11 +23,11 @@ returns c = search needs
 zeros-requires : tie.Need-zeros-requires
 zeros-requires c κs = search needs
 
-slice-aggregate-inverses : tie.Need-slice-aggregate-inverses
-slice-aggregate-inverses c = search needs
+slice-aggregate-of-list : tie.Need-slice-aggregate-of-list
+slice-aggregate-of-list c = search needs
 
-inverses-requires : tie.Need-inverses-requires
-inverses-requires c κs = room _ _ _ _ ((norms-accepted _ _ _ _ _ _ (c .before .before .before .before .norms .ensures) (c .before .before .enum-told .given .1)) .accepted) _ (c .before .zeros .ensures)
+of-list-requires : tie.Need-of-list-requires
+of-list-requires c κs = room _ _ _ _ ((norms-accepted _ _ _ _ _ _ (c .before .before .before .before .norms .ensures) (c .before .before .enum-told .given .1)) .accepted) _ (c .before .zeros .ensures)
 
 slice-aggregate-norms : tie.Need-slice-aggregate-norms
 slice-aggregate-norms c = search needs
@@ -38,7 +38,7 @@ add-norms c = search needs
 norms-requires-2 : tie.Need-norms-requires-2
 norms-requires-2 c κs =
     let input = (norms-accepted _ _ _ _ _ _ (c .before .before .before .before .before .before .before .before .norms .ensures) (c .before .before .before .before .before .before .enum-told .given .1)) in
-    norms-input _ _ _ _ (input .accepted) _ (c .before .before .before .before .before .zeros .ensures) _ (c .before .before .before .inverses2 .ensures) _ input
+    norms-input _ _ _ _ (input .accepted) _ (c .before .before .before .before .before .zeros .ensures) _ (c .before .before .before .of-list .ensures) _ input
 
 same-length : tie.Need-same-length
 same-length c = search needs
@@ -49,7 +49,7 @@ returns-2 c =
     let input = (norms-accepted _ _ _ _ _ _ (c .before .before .before .before .before .before .before .before .before .before .before .norms .ensures) (c .before .before .before .before .before .before .before .before .before .enum-told .given .1)) in
     record {
       answer = tests-passed _ _ (c .before .before .before .before .before .before .before .before .before .before .before .norms .ensures) (c .before .before .before .before .before .before .before .before .before .enum-told .given .1);
-      written = c .before .before .norms2 .ensures (a .a .now) (a .b .now) _ (inverses-of _ _ _ _ (input .accepted) _ (c .before .before .before .before .before .before .before .before .zeros .ensures) _ (c .before .before .before .before .before .before .inverses2 .ensures)) (closes _ _ _ _ (input .accepted) _ (c .before .before .before .before .before .before .before .before .zeros .ensures) _ (c .before .before .before .before .before .before .inverses2 .ensures)) ∙ norms-written _ _ _ _ (input .accepted) _ (c .before .before .before .before .before .before .before .before .zeros .ensures) _ (c .before .before .before .before .before .before .inverses2 .ensures) (a .output .now) input;
+      written = c .before .before .norms2 .ensures (a .a .now) (a .b .now) _ (inverses-of _ _ _ _ (input .accepted) _ (c .before .before .before .before .before .before .before .before .zeros .ensures) _ (c .before .before .before .before .before .before .of-list .ensures)) (closes _ _ _ _ (input .accepted) _ (c .before .before .before .before .before .before .before .before .zeros .ensures) _ (c .before .before .before .before .before .before .of-list .ensures)) ∙ norms-written _ _ _ _ (input .accepted) _ (c .before .before .before .before .before .before .before .before .zeros .ensures) _ (c .before .before .before .before .before .before .of-list .ensures) (a .output .now) input;
     }
 
 pub norms-spec : {M : Type 1} → statement M
@@ -61,8 +61,8 @@ norms-spec =
     enum-told-2
     returns
     zeros-requires
-    slice-aggregate-inverses
-    inverses-requires
+    slice-aggregate-of-list
+    of-list-requires
     slice-aggregate-norms
     add-norms
     norms-requires-2

@@ -24,11 +24,11 @@ returns c = refusal-kept _ _ _ _ _ (c .before .before .plain .ensures) (c .enum-
 zeros-requires : tie.Need-zeros-requires
 zeros-requires c κs = search needs
 
-slice-aggregate-inverses : tie.Need-slice-aggregate-inverses
-slice-aggregate-inverses c = search needs
+slice-aggregate-of-list : tie.Need-slice-aggregate-of-list
+slice-aggregate-of-list c = search needs
 
-inverses-requires : tie.Need-inverses-requires
-inverses-requires c κs = room _ _ _ _ ((plain-input _ _ _ _ _ _ _ (c .before .before .before .before .plain .ensures) (c .before .before .enum-told .given .1)) .accepted) _ (c .before .zeros .ensures)
+of-list-requires : tie.Need-of-list-requires
+of-list-requires c κs = room _ _ _ _ ((plain-input _ _ _ _ _ _ _ (c .before .before .before .before .plain .ensures) (c .before .before .enum-told .given .1)) .accepted) _ (c .before .zeros .ensures)
 
 slice-aggregate-decompose : tie.Need-slice-aggregate-decompose
 slice-aggregate-decompose c = search needs
@@ -39,7 +39,7 @@ add-decompose c = search needs
 decompose-requires : tie.Need-decompose-requires
 decompose-requires c κs =
     let input = (plain-input _ _ _ _ _ _ _ (c .before .before .before .before .before .before .before .before .plain .ensures) (c .before .before .before .before .before .before .enum-told .given .1)) in
-    decompose-input _ _ _ _ (input .accepted) _ (c .before .before .before .before .before .zeros .ensures) _ (c .before .before .before .inverses2 .ensures) _ _ input
+    decompose-input _ _ _ _ (input .accepted) _ (c .before .before .before .before .before .zeros .ensures) _ (c .before .before .before .of-list .ensures) _ _ input
 
 same-length : tie.Need-same-length
 same-length c = search needs
@@ -50,7 +50,7 @@ returns-2 c =
     let input = (plain-input _ _ _ _ _ _ _ (c .before .before .before .before .before .before .before .before .before .before .before .plain .ensures) (c .before .before .before .before .before .before .before .before .before .enum-told .given .1)) in
     record {
       answer = tests-passed _ _ (c .before .before .before .before .before .before .before .before .before .before .before .plain .ensures) (c .before .before .before .before .before .before .before .before .before .enum-told .given .1);
-      written = c .before .before .decompose .ensures (a .a .now) (inverses-of _ _ _ _ (input .accepted) _ (c .before .before .before .before .before .before .before .before .zeros .ensures) _ (c .before .before .before .before .before .before .inverses2 .ensures)) ∙ core-written _ _ _ _ _ (a .output .now) input decompose;
+      written = c .before .before .decompose .ensures (a .a .now) (inverses-of _ _ _ _ (input .accepted) _ (c .before .before .before .before .before .before .before .before .zeros .ensures) _ (c .before .before .before .before .before .before .of-list .ensures)) ∙ core-written _ _ _ _ _ (a .output .now) input decompose;
     }
 
 pub plain-decompose-spec : {M : Type 1} → statement M
@@ -62,8 +62,8 @@ plain-decompose-spec =
     enum-told-2
     returns
     zeros-requires
-    slice-aggregate-inverses
-    inverses-requires
+    slice-aggregate-of-list
+    of-list-requires
     slice-aggregate-decompose
     add-decompose
     decompose-requires

@@ -1,6 +1,6 @@
 -- `tree_adjoint` meets its promise: it answers the verdict of its tests, and its core, whose list is the tree model's, writes the
 -- definition's list and leaves the working list clear. Assumes nothing.
-use Rattle.theory.specs.Tree.{treeAdjoint}
+use Rattle.tree_model.specs.Tree.{treeAdjoint}
 use Rattle.conversion.specs.PlainCall.{tests-passed}
 use Rattle.conversion.specs.TreeCore.{both-kept, tree-input, core-input, core-written, adjoint-is}
 use borrow.Author.Needs.{needs}

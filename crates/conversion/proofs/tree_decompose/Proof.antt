@@ -23,20 +23,20 @@ returns c = both-kept _ _ _ _ _ _ (c .before .before .tree .ensures) (c .enum-to
 zeros-requires : tie.Need-zeros-requires
 zeros-requires c κs = search needs
 
-slice-aggregate-inverses : tie.Need-slice-aggregate-inverses
-slice-aggregate-inverses c = search needs
+slice-aggregate-of-list : tie.Need-slice-aggregate-of-list
+slice-aggregate-of-list c = search needs
 
-inverses-requires : tie.Need-inverses-requires
-inverses-requires c κs = room _ _ _ _ ((tree-input _ _ _ _ _ _ _ _ (c .before .before .before .before .tree .ensures) (c .before .before .enum-told .given .1)) .plain .accepted) _ (c .before .zeros .ensures)
+of-list-requires : tie.Need-of-list-requires
+of-list-requires c κs = room _ _ _ _ ((tree-input _ _ _ _ _ _ _ _ (c .before .before .before .before .tree .ensures) (c .before .before .enum-told .given .1)) .plain .accepted) _ (c .before .zeros .ensures)
 
 zeros-requires-2 : tie.Need-zeros-requires-2
 zeros-requires-2 c κs = search needs
 
-slice-aggregate-inverses-2 : tie.Need-slice-aggregate-inverses-2
-slice-aggregate-inverses-2 c = search needs
+slice-aggregate-of-list-2 : tie.Need-slice-aggregate-of-list-2
+slice-aggregate-of-list-2 c = search needs
 
-inverses-requires-2 : tie.Need-inverses-requires-2
-inverses-requires-2 c κs = reciprocals-room _ _ _ _ ((tree-input _ _ _ _ _ _ _ _ (c .before .before .before .before .before .before .before .before .tree .ensures) (c .before .before .before .before .before .before .enum-told .given .1)) .plain .accepted) _ (c .before .before .before .before .before .zeros .ensures) _ (c .before .before .before .inverses2 .ensures) _ (c .before .zeros2 .ensures)
+of-list-requires-2 : tie.Need-of-list-requires-2
+of-list-requires-2 c κs = reciprocals-room _ _ _ _ ((tree-input _ _ _ _ _ _ _ _ (c .before .before .before .before .before .before .before .before .tree .ensures) (c .before .before .before .before .before .before .enum-told .given .1)) .plain .accepted) _ (c .before .before .before .before .before .zeros .ensures) _ (c .before .before .before .of-list .ensures) _ (c .before .zeros2 .ensures)
 
 slice-aggregate-decompose : tie.Need-slice-aggregate-decompose
 slice-aggregate-decompose c = search needs
@@ -50,7 +50,7 @@ add-decompose c = search needs
 decompose-requires : tie.Need-decompose-requires
 decompose-requires c κs =
     let input = (tree-input _ _ _ _ _ _ _ _ (c .before .before .before .before .before .before .before .before .before .before .before .before .before .before .tree .ensures) (c .before .before .before .before .before .before .before .before .before .before .before .before .enum-told .given .1)) in
-    decompose-input _ _ _ _ (input .plain .accepted) _ (c .before .before .before .before .before .before .before .before .before .before .before .zeros .ensures) _ (c .before .before .before .before .before .before .before .before .before .inverses2 .ensures) _ (c .before .before .before .before .before .before .before .zeros2 .ensures) _ (c .before .before .before .before .before .inverses4 .ensures) _ (c .before .before .before .before .before .before .before .before .before .before .before .before .before .before .before .before .before .before .before .before .before .args .output .now) (c .before .before .before .before .before .before .before .before .before .before .before .before .before .before .before .before .before .before .before .before .before .args .work .now) input
+    decompose-input _ _ _ _ (input .plain .accepted) _ (c .before .before .before .before .before .before .before .before .before .before .before .zeros .ensures) _ (c .before .before .before .before .before .before .before .before .before .of-list .ensures) _ (c .before .before .before .before .before .before .before .zeros2 .ensures) _ (c .before .before .before .before .before .of-list2 .ensures) _ (c .before .before .before .before .before .before .before .before .before .before .before .before .before .before .before .before .before .before .before .before .before .args .output .now) (c .before .before .before .before .before .before .before .before .before .before .before .before .before .before .before .before .before .before .before .before .before .args .work .now) input
 
 same-length : tie.Need-same-length
 same-length c = search needs
@@ -63,7 +63,7 @@ returns-2 c =
     let input = (tree-input _ _ _ _ _ _ _ _ (c .before .before .before .before .before .before .before .before .before .before .before .before .before .before .before .before .before .before .before .tree .ensures) (c .before .before .before .before .before .before .before .before .before .before .before .before .before .before .before .before .before .enum-told .given .1)) in
     record {
       answer = tests-passed _ _ (c .before .before .before .before .before .before .before .before .before .before .before .before .before .before .before .before .before .before .before .tree .ensures) (c .before .before .before .before .before .before .before .before .before .before .before .before .before .before .before .before .before .enum-told .given .1);
-      written = decompose-written _ _ _ _ (input .plain .accepted) _ (c .before .before .before .before .before .before .before .before .before .before .before .before .before .before .before .before .zeros .ensures) _ (c .before .before .before .before .before .before .before .before .before .before .before .before .before .before .inverses2 .ensures) _ (c .before .before .before .before .before .before .before .before .before .before .before .before .zeros2 .ensures) _ (c .before .before .before .before .before .before .before .before .before .before .inverses4 .ensures) _ (c .before .before .before .before .before .before .before .before .before .before .before .before .before .before .before .before .before .before .before .before .before .before .before .before .before .before .args .output .now) (c .before .before .before .before .before .before .before .before .before .before .before .before .before .before .before .before .before .before .before .before .before .before .before .before .before .before .args .work .now) input _ _ (c .before .before .before .before .decompose .ensures);
+      written = decompose-written _ _ _ _ (input .plain .accepted) _ (c .before .before .before .before .before .before .before .before .before .before .before .before .before .before .before .before .zeros .ensures) _ (c .before .before .before .before .before .before .before .before .before .before .before .before .before .before .of-list .ensures) _ (c .before .before .before .before .before .before .before .before .before .before .before .before .zeros2 .ensures) _ (c .before .before .before .before .before .before .before .before .before .before .of-list2 .ensures) _ (c .before .before .before .before .before .before .before .before .before .before .before .before .before .before .before .before .before .before .before .before .before .before .before .before .before .before .args .output .now) (c .before .before .before .before .before .before .before .before .before .before .before .before .before .before .before .before .before .before .before .before .before .before .before .before .before .before .args .work .now) input _ _ (c .before .before .before .before .decompose .ensures);
       wiped = c .before .before .before .before .decompose .ensures .wiped;
     }
 
@@ -76,11 +76,11 @@ tree-decompose-spec =
     enum-told-2
     returns
     zeros-requires
-    slice-aggregate-inverses
-    inverses-requires
+    slice-aggregate-of-list
+    of-list-requires
     zeros-requires-2
-    slice-aggregate-inverses-2
-    inverses-requires-2
+    slice-aggregate-of-list-2
+    of-list-requires-2
     slice-aggregate-decompose
     slice-aggregate-decompose-2
     add-decompose

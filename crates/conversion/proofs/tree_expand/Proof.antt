@@ -1,6 +1,6 @@
 -- `tree_expand` meets its promise: it answers the verdict of its tests, and its core, whose list is the tree model's, writes the
 -- definition's list and leaves the working list clear. Assumes nothing.
-use Rattle.theory.specs.Tree.{treeExpand}
+use Rattle.tree_model.specs.Tree.{treeExpand}
 use Rattle.conversion.specs.PlainCall.{tests-passed}
 use Rattle.conversion.specs.TreeCore.{both-kept, tree-input, core-input, core-written, expand-is}
 use borrow.Author.Needs.{needs}

@@ -52,17 +52,17 @@ row-entry-requires-2 c κs = omega arith
 row-entry-requires-3 : tie.Need-row-entry-requires-3 Inv-loop μ-loop
 row-entry-requires-3 c κs = omega arith
 
-slice-aggregate-raise-row : tie.Need-slice-aggregate-raise-row Inv-loop μ-loop
-slice-aggregate-raise-row c = omega arith
+slice-aggregate-adjoint-row : tie.Need-slice-aggregate-adjoint-row Inv-loop μ-loop
+slice-aggregate-adjoint-row c = omega arith
 
-slice-aggregate-raise-row-2 : tie.Need-slice-aggregate-raise-row-2 Inv-loop μ-loop
-slice-aggregate-raise-row-2 c = omega arith
+slice-aggregate-adjoint-row-2 : tie.Need-slice-aggregate-adjoint-row-2 Inv-loop μ-loop
+slice-aggregate-adjoint-row-2 c = omega arith
 
-sub-raise-row : tie.Need-sub-raise-row Inv-loop μ-loop
-sub-raise-row c = omega arith
+sub-adjoint-row : tie.Need-sub-adjoint-row Inv-loop μ-loop
+sub-adjoint-row c = omega arith
 
-raise-row-requires : tie.Need-raise-row-requires Inv-loop μ-loop
-raise-row-requires c κs = adjoint-step-input (c .before .before .before .before .before .before .before .before .before .before .before .before .before .before .before .before .before .pre) (c .before .before .before .before .before .loop-test .taken) (c .before .before .before .before .before .before .loop .inv) (c .before .before .before .before .row-entry .ensures) (c .before .before .before .row-entry2 .ensures) (c .before .before .row-entry3 .ensures)
+adjoint-row-requires : tie.Need-adjoint-row-requires Inv-loop μ-loop
+adjoint-row-requires c κs = adjoint-step-input (c .before .before .before .before .before .before .before .before .before .before .before .before .before .before .before .before .before .pre) (c .before .before .before .before .before .loop-test .taken) (c .before .before .before .before .before .before .loop .inv) (c .before .before .before .before .row-entry .ensures) (c .before .before .before .row-entry2 .ensures) (c .before .before .row-entry3 .ensures)
 
 add-j : tie.Need-add-j Inv-loop μ-loop
 add-j c = omega arith
@@ -71,7 +71,7 @@ loop-less : tie.Need-loop-less Inv-loop μ-loop
 loop-less c = omega arith
 
 loop-again : tie.Need-loop-again Inv-loop μ-loop
-loop-again c = adjoint-step (c .before .before .before .before .before .before .before .before .before .before .before .before .before .before .before .before .before .before .before .before .pre) (c .before .before .before .before .before .before .before .before .loop-test .taken) (c .before .before .before .before .before .before .before .before .before .loop .inv) (c .before .before .before .before .before .before .before .row-entry .ensures) (c .before .before .before .before .before .before .row-entry2 .ensures) (c .before .before .before .before .before .row-entry3 .ensures) (c .before .before .raise-row .ensures)
+loop-again c = adjoint-step (c .before .before .before .before .before .before .before .before .before .before .before .before .before .before .before .before .before .before .before .before .pre) (c .before .before .before .before .before .before .before .before .loop-test .taken) (c .before .before .before .before .before .before .before .before .before .loop .inv) (c .before .before .before .before .before .before .before .row-entry .ensures) (c .before .before .before .before .before .before .row-entry2 .ensures) (c .before .before .before .before .before .row-entry3 .ensures) (c .before .before .adjoint-row .ensures)
 
 same-length : tie.Need-same-length Inv-loop μ-loop
 same-length c = c .before .loop .inv .written .sameLength
@@ -97,10 +97,10 @@ adjoint-spec =
     row-entry-requires
     row-entry-requires-2
     row-entry-requires-3
-    slice-aggregate-raise-row
-    slice-aggregate-raise-row-2
-    sub-raise-row
-    raise-row-requires
+    slice-aggregate-adjoint-row
+    slice-aggregate-adjoint-row-2
+    sub-adjoint-row
+    adjoint-row-requires
     add-j
     loop-less
     loop-again

@@ -51,32 +51,32 @@ opposite-products-requires-2 c κs = omega (arith, ap length (c .before .before 
 loop-holds : tie.Need-loop-holds Inv-loop μ-loop
 loop-holds c = (tables-filled (c .before .before .before .before .before .before .before .before .before .before .before .before .zeros .ensures) (c .before .before .before .before .before .before .before .before .before .before .before .zeros2 .ensures) (c .before .before .before .before .before .before .before .before .before .before .zeros3 .ensures) (c .before .before .before .before .before .before .before .copy .ensures) (c .before .before .before .before .opposite-products .ensures) (c .before .opposite-products2 .ensures), decomposing-starts (c .before .before .before .before .before .before .before .before .before .zeros4 .ensures))
 
-sub-horner-row : tie.Need-sub-horner-row Inv-loop μ-loop
-sub-horner-row c = omega arith
+sub-decompose-row : tie.Need-sub-decompose-row Inv-loop μ-loop
+sub-decompose-row c = omega arith
 
-mul-horner-row : tie.Need-mul-horner-row Inv-loop μ-loop
-mul-horner-row c = omega arith
+mul-decompose-row : tie.Need-mul-decompose-row Inv-loop μ-loop
+mul-decompose-row c = omega arith
 
-shared-slice-read-horner-row : tie.Need-shared-slice-read-horner-row Inv-loop μ-loop
-shared-slice-read-horner-row c = omega arith
+shared-slice-read-decompose-row : tie.Need-shared-slice-read-decompose-row Inv-loop μ-loop
+shared-slice-read-decompose-row c = omega arith
 
-slice-aggregate-horner-row : tie.Need-slice-aggregate-horner-row Inv-loop μ-loop
-slice-aggregate-horner-row c = omega arith
+slice-aggregate-decompose-row : tie.Need-slice-aggregate-decompose-row Inv-loop μ-loop
+slice-aggregate-decompose-row c = omega arith
 
-slice-aggregate-horner-row-2 : tie.Need-slice-aggregate-horner-row-2 Inv-loop μ-loop
-slice-aggregate-horner-row-2 c = omega arith
+slice-aggregate-decompose-row-2 : tie.Need-slice-aggregate-decompose-row-2 Inv-loop μ-loop
+slice-aggregate-decompose-row-2 c = omega arith
 
-slice-aggregate-horner-row-3 : tie.Need-slice-aggregate-horner-row-3 Inv-loop μ-loop
-slice-aggregate-horner-row-3 c = omega arith
+slice-aggregate-decompose-row-3 : tie.Need-slice-aggregate-decompose-row-3 Inv-loop μ-loop
+slice-aggregate-decompose-row-3 c = omega arith
 
-slice-aggregate-horner-row-4 : tie.Need-slice-aggregate-horner-row-4 Inv-loop μ-loop
-slice-aggregate-horner-row-4 c = omega arith
+slice-aggregate-decompose-row-4 : tie.Need-slice-aggregate-decompose-row-4 Inv-loop μ-loop
+slice-aggregate-decompose-row-4 c = omega arith
 
-add-horner-row : tie.Need-add-horner-row Inv-loop μ-loop
-add-horner-row c = omega arith
+add-decompose-row : tie.Need-add-decompose-row Inv-loop μ-loop
+add-decompose-row c = omega arith
 
-horner-row-requires : tie.Need-horner-row-requires Inv-loop μ-loop
-horner-row-requires c κs = decompose-step-input (c .before .before .before .before .before .before .before .before .before .before .before .before .before .before .before .before .before .before .before .before .before .before .before .before .before .pre) (c .before .before .before .before .before .before .loop .inv .0) (c .before .before .before .before .before .loop-test .taken) (c .before .before .before .before .before .before .loop .inv .1)
+decompose-row-requires : tie.Need-decompose-row-requires Inv-loop μ-loop
+decompose-row-requires c κs = decompose-step-input (c .before .before .before .before .before .before .before .before .before .before .before .before .before .before .before .before .before .before .before .before .before .before .before .before .before .pre) (c .before .before .before .before .before .before .loop .inv .0) (c .before .before .before .before .before .loop-test .taken) (c .before .before .before .before .before .before .loop .inv .1)
 
 add-i : tie.Need-add-i Inv-loop μ-loop
 add-i c = omega (arith, c .before .before .before .before .before .before .before .before .before .before .before .before .before .before .before .before .before .before .before .before .before .before .before .before .before .before .before .pre .sizes .most)
@@ -85,7 +85,7 @@ loop-less : tie.Need-loop-less Inv-loop μ-loop
 loop-less c = omega arith
 
 loop-again : tie.Need-loop-again Inv-loop μ-loop
-loop-again c = (c .before .before .before .before .before .before .before .before .loop .inv .0, decompose-step (c .before .before .before .before .before .before .before .before .before .before .before .before .before .before .before .before .before .before .before .before .before .before .before .before .before .before .before .pre) (c .before .before .before .before .before .before .before .before .loop .inv .0) (c .before .before .before .before .before .before .before .loop-test .taken) (c .before .before .before .before .before .before .before .before .loop .inv .1) (c .before .horner-row .ensures))
+loop-again c = (c .before .before .before .before .before .before .before .before .loop .inv .0, decompose-step (c .before .before .before .before .before .before .before .before .before .before .before .before .before .before .before .before .before .before .before .before .before .before .before .before .before .before .before .pre) (c .before .before .before .before .before .before .before .before .loop .inv .0) (c .before .before .before .before .before .before .before .loop-test .taken) (c .before .before .before .before .before .before .before .before .loop .inv .1) (c .before .decompose-row .ensures))
 
 slice-aggregate-copy-2 : tie.Need-slice-aggregate-copy-2 Inv-loop μ-loop
 slice-aggregate-copy-2 c = omega arith
@@ -117,15 +117,15 @@ decompose-spec =
     slice-aggregate-opposite-products-2
     opposite-products-requires-2
     loop-holds
-    sub-horner-row
-    mul-horner-row
-    shared-slice-read-horner-row
-    slice-aggregate-horner-row
-    slice-aggregate-horner-row-2
-    slice-aggregate-horner-row-3
-    slice-aggregate-horner-row-4
-    add-horner-row
-    horner-row-requires
+    sub-decompose-row
+    mul-decompose-row
+    shared-slice-read-decompose-row
+    slice-aggregate-decompose-row
+    slice-aggregate-decompose-row-2
+    slice-aggregate-decompose-row-3
+    slice-aggregate-decompose-row-4
+    add-decompose-row
+    decompose-row-requires
     add-i
     loop-less
     loop-again

@@ -48,17 +48,17 @@ add-row-entry c = omega arith
 row-entry-requires-3 : tie.Need-row-entry-requires-3 Inv-loop μ-loop
 row-entry-requires-3 c κs = omega arith
 
-slice-aggregate-lower-row : tie.Need-slice-aggregate-lower-row Inv-loop μ-loop
-slice-aggregate-lower-row c = omega arith
+slice-aggregate-expand-row : tie.Need-slice-aggregate-expand-row Inv-loop μ-loop
+slice-aggregate-expand-row c = omega arith
 
-slice-aggregate-lower-row-2 : tie.Need-slice-aggregate-lower-row-2 Inv-loop μ-loop
-slice-aggregate-lower-row-2 c = omega arith
+slice-aggregate-expand-row-2 : tie.Need-slice-aggregate-expand-row-2 Inv-loop μ-loop
+slice-aggregate-expand-row-2 c = omega arith
 
-add-lower-row : tie.Need-add-lower-row Inv-loop μ-loop
-add-lower-row c = omega arith
+add-expand-row : tie.Need-add-expand-row Inv-loop μ-loop
+add-expand-row c = omega arith
 
-lower-row-requires : tie.Need-lower-row-requires Inv-loop μ-loop
-lower-row-requires c κs = expand-step-input (c .before .before .before .before .before .before .before .before .before .before .before .before .before .before .before .pre) (c .before .before .before .before .before .before .loop-test .taken) (c .before .before .before .before .before .before .before .loop .inv) (c .before .before .before .before .row-entry .ensures) (c .before .before .before .row-entry2 .ensures) (c .before .before .row-entry3 .ensures)
+expand-row-requires : tie.Need-expand-row-requires Inv-loop μ-loop
+expand-row-requires c κs = expand-step-input (c .before .before .before .before .before .before .before .before .before .before .before .before .before .before .before .pre) (c .before .before .before .before .before .before .loop-test .taken) (c .before .before .before .before .before .before .before .loop .inv) (c .before .before .before .before .row-entry .ensures) (c .before .before .before .row-entry2 .ensures) (c .before .before .row-entry3 .ensures)
 
 add-i : tie.Need-add-i Inv-loop μ-loop
 add-i c = omega arith
@@ -67,7 +67,7 @@ loop-less : tie.Need-loop-less Inv-loop μ-loop
 loop-less c = omega arith
 
 loop-again : tie.Need-loop-again Inv-loop μ-loop
-loop-again c = expand-step (c .before .before .before .before .before .before .before .before .before .before .before .before .before .before .before .before .before .before .pre) (c .before .before .before .before .before .before .before .before .before .loop-test .taken) (c .before .before .before .before .before .before .before .before .before .before .loop .inv) (c .before .before .before .before .before .before .before .row-entry .ensures) (c .before .before .before .before .before .before .row-entry2 .ensures) (c .before .before .before .before .before .row-entry3 .ensures) (c .before .before .lower-row .ensures)
+loop-again c = expand-step (c .before .before .before .before .before .before .before .before .before .before .before .before .before .before .before .before .before .before .pre) (c .before .before .before .before .before .before .before .before .before .loop-test .taken) (c .before .before .before .before .before .before .before .before .before .before .loop .inv) (c .before .before .before .before .before .before .before .row-entry .ensures) (c .before .before .before .before .before .before .row-entry2 .ensures) (c .before .before .before .before .before .row-entry3 .ensures) (c .before .before .expand-row .ensures)
 
 slice-aggregate-copy : tie.Need-slice-aggregate-copy Inv-loop μ-loop
 slice-aggregate-copy c = omega arith
@@ -98,10 +98,10 @@ expand-spec =
     row-entry-requires-2
     add-row-entry
     row-entry-requires-3
-    slice-aggregate-lower-row
-    slice-aggregate-lower-row-2
-    add-lower-row
-    lower-row-requires
+    slice-aggregate-expand-row
+    slice-aggregate-expand-row-2
+    add-expand-row
+    expand-row-requires
     add-i
     loop-less
     loop-again

@@ -4,7 +4,7 @@ use mathlib.Core.Path.{_∙_, ap}
 use Prim.Native.Nat.{_-_, _*_, _%_, _≤_}
 use native.Mathlib.Omega.{arith}
 use lib.ListN.{getD}
-use Rattle.theory.specs.Lists.{Filling, filling-start, filling-next, filling-stop}
+use Rattle.numbers.specs.Lists.{Filling, filling-start, filling-next, filling-stop}
 use borrow.Author.Needs.{needs}
 use Rattle.plain.specs.Decomposing.{oppositeProduct}
 use Rattle.plain.proofs.opposite_products.Statement.{statement}

@@ -2,7 +2,7 @@
 -- zeros at the end of p and r change none of them. The measure is what is left of them. Assumes nothing.
 use Prim.Native.Nat.{_-_}
 use native.Mathlib.Omega.{arith}
-use Rattle.theory.specs.Regions.{Writing, writing-starts}
+use Rattle.numbers.specs.Regions.{Writing, writing-starts}
 use Rattle.products.specs.Places.{productEntry, product-sources, product-next, product-ends}
 use Rattle.products.proofs.add_products.Statement.{statement}
 use Rattle.products.proofs.add_products.Tie as tie

@@ -1,6 +1,6 @@
 -- `products::entry` meets its contract: inside the part the entry is read, and past it it is zero. Assumes nothing.
 use mathlib.Core.Path.{sym}
-use Rattle.theory.specs.Regions.{part-entry, part-past}
+use Rattle.numbers.specs.Regions.{part-entry, part-past}
 use borrow.Author.Needs.{needs}
 use Rattle.products.proofs.entry.Statement.{statement}
 use Rattle.products.proofs.entry.Tie as tie

@@ -2,7 +2,7 @@
 -- measure is what is left of them. Assumes nothing.
 use Prim.Native.Nat.{_-_}
 use native.Mathlib.Omega.{arith}
-use Rattle.theory.specs.Regions.{Writing, writing-starts}
+use Rattle.numbers.specs.Regions.{Writing, writing-starts}
 use Rattle.products.specs.Places.{listEntry, list-input, list-next, list-ends}
 use Rattle.products.proofs.transposed.Statement.{statement}
 use Rattle.products.proofs.transposed.Tie as tie

@@ -2,7 +2,7 @@
 -- the measure is what is left of them. Assumes nothing.
 use Prim.Native.Nat.{_-_}
 use native.Mathlib.Omega.{arith}
-use Rattle.theory.specs.Regions.{Writing, writing-starts}
+use Rattle.numbers.specs.Regions.{Writing, writing-starts}
 use Rattle.products.specs.Places.{transposedEntry, transposed-term, transposed-next, transposed-ends}
 use Rattle.products.proofs.transposed_sum.Statement.{statement}
 use Rattle.products.proofs.transposed_sum.Tie as tie

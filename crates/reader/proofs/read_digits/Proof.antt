@@ -3,7 +3,7 @@
 use Prim.Native.Nat.{_-_}
 use native.Mathlib.Omega.{arith}
 use lib.ListN.{length}
-use Rattle.theory.specs.DecimalReading.{digit-below, digit-above}
+use Rattle.texts.specs.DecimalReading.{digit-below, digit-above}
 use Rattle.reader.specs.Digits.{Digits, digits-start, digits-large, digits-end, digits-next, digits-past}
 use Rattle.reader.proofs.read_digits.Statement.{statement}
 use Rattle.reader.proofs.read_digits.Tie as tie

@@ -2,7 +2,7 @@
 use mathlib.Core.Path.{sym, _∙_, ap}
 use native.Mathlib.Omega.{arith}
 use borrow.Author.Needs.{needs}
-use Rattle.theory.specs.DecimalReading.{digit-below, digit-above}
+use Rattle.texts.specs.DecimalReading.{digit-below, digit-above}
 use Rattle.reader.specs.Places.{placed}
 use Rattle.reader.specs.Digits.{number-past, number-other, number-nought, number-first}
 use Rattle.reader.proofs.read_number.Statement.{statement}

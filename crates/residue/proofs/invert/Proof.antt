@@ -4,7 +4,7 @@ use Prim.Native.Nat.{ℕ, _+_, _*_, _/_, _%_, _<_, _≤_}
 use native.Mathlib.Nat.{mod-lt, mod-one}
 use native.Mathlib.Omega.{arith}
 use borrow.Author.Needs.{needs}
-use Rattle.theory.specs.Euclid.{greatest-factor-zero, greatest-factor-one}
+use Rattle.numbers.specs.Euclid.{greatest-factor-zero, greatest-factor-one}
 use Rattle.residue.specs.Inversion.{IsInverse, SharesFactor}
 use Rattle.residue.specs.Turning.{Turning, turning-starts, turned, turned-again, first-fits, second-fits, found-middle, absent-middle, at-most, found-end, absent-end}
 use Rattle.residue.proofs.invert.Statement.{statement}

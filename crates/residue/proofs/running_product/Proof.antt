@@ -3,7 +3,7 @@ use mathlib.Core.Path.{_≡_, _∙_, ap}
 use Prim.Native.Nat.{_-_, _≤_}
 use native.Mathlib.Omega.{arith}
 use lib.ListN.{length, getD}
-use Rattle.theory.specs.RunningProduct.{runningProduct, running-none, running-next}
+use Rattle.numbers.specs.RunningProduct.{runningProduct, running-none, running-next}
 use borrow.Author.Needs.{needs}
 use Rattle.residue.proofs.running_product.Statement.{statement}
 use Rattle.residue.proofs.running_product.Tie as tie

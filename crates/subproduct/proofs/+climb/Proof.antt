@@ -2,7 +2,7 @@
 -- but scratch (`climb-output`). Assumes nothing.
 use native.Mathlib.Omega.{arith}
 use mathlib.Core.Path.{_∙_}
-use Rattle.subproduct.specs.Climb.{climb-one, climb-one-output, climb-halves, climb-sizes, climb-left, climb-right, climb-raise, climb-output}
+use Rattle.subproduct.specs.Climb.{climb-one, climb-one-output, climb-halves, climb-sizes, climb-left, climb-right, climb-pair, climb-output}
 use Prim.Native.Nat.{ℕ, _<_}
 use borrow.Fn.Kinds.{In}
 use borrow.Fn.PlainCycle.{Measures, is, falls, and}
@@ -10,8 +10,8 @@ use Rattle.subproduct.proofs.climb.Reads as climb
 use Rattle.subproduct.proofs.climb.Kinds as climb-kinds
 use Rattle.subproduct.proofs.+climb.Lts-climb as climb-lts
 use Rattle.subproduct.proofs.climb_leaf.Reads as climb-leaf-reads
-use Rattle.subproduct.proofs.raise.Reads as raise-reads
-use Rattle.subproduct.proofs.row_entry.Reads as row-entry-reads
+use Rattle.subproduct.proofs.expand_pair.Reads as expand-pair-reads
+use Rattle.lists.proofs.row_entry.Reads as row-entry-reads
 use Rattle.subproduct.proofs.tree_size.Reads as tree-size-reads
 use Rattle.subproduct.proofs.+climb.{statement}
 use Rattle.subproduct.proofs.+climb.Tie.{close}
@@ -27,7 +27,7 @@ climb-below t = and 2 climb-kinds.ps (falls 2 climb-kinds.ps _<_ μ-climb t) cli
 
 -- what the calls ask and promise, in their order
 abbrev climb-claims : ℕ → climb-lts.Claims
-climb-claims t = (row-entry-reads.Asked, row-entry-reads.Learnt, climb-leaf-reads.Asked, climb-leaf-reads.Learnt, tree-size-reads.Asked, tree-size-reads.Learnt, climb-below t, climb.Post, raise-reads.Asked, raise-reads.Learnt)
+climb-claims t = (row-entry-reads.Asked, row-entry-reads.Learnt, climb-leaf-reads.Asked, climb-leaf-reads.Learnt, tree-size-reads.Asked, tree-size-reads.Learnt, climb-below t, climb.Post, expand-pair-reads.Asked, expand-pair-reads.Learnt)
 
 climb-row-entry-requires : (t : ℕ) → climb-lts.Need-row-entry-requires (climb-claims t) (climb-at t) climb.Post
 climb-row-entry-requires t c κs = c .before .before .before .pre .1 .curveLong
@@ -86,23 +86,23 @@ climb-add-climb t c = omega (arith, climb-sizes _ _ _ _ _ _ _ _ _ (c .before .be
 climb-climb-requires-2 : (t : ℕ) → climb-lts.Need-climb-requires-2 (climb-claims t) (climb-at t) climb.Post
 climb-climb-requires-2 t c κs = (omega (arith, climb-sizes _ _ _ _ _ _ _ _ _ (c .before .before .before .before .before .before .before .before .before .pre .1) (c .before .before .before .before .before .before .if1 .left) _ (c .before .before .before .before .before .tree-size .ensures)), climb-right _ _ _ _ _ _ _ _ _ (c .before .before .before .before .before .before .before .before .before .pre .1) (c .before .before .before .before .before .before .if1 .left) _ (c .before .before .before .before .before .tree-size .ensures) _ (c .before .before .before .climb .ensures))
 
-climb-add-raise : (t : ℕ) → climb-lts.Need-add-raise (climb-claims t) (climb-at t) climb.Post
-climb-add-raise t c = omega (arith, climb-sizes _ _ _ _ _ _ _ _ _ (c .before .before .before .before .before .before .before .before .before .before .before .before .before .pre .1) (c .before .before .before .before .before .before .before .before .before .before .if1 .left) _ (c .before .before .before .before .before .before .before .before .before .tree-size .ensures))
+climb-add-expand-pair : (t : ℕ) → climb-lts.Need-add-expand-pair (climb-claims t) (climb-at t) climb.Post
+climb-add-expand-pair t c = omega (arith, climb-sizes _ _ _ _ _ _ _ _ _ (c .before .before .before .before .before .before .before .before .before .before .before .before .before .pre .1) (c .before .before .before .before .before .before .before .before .before .before .if1 .left) _ (c .before .before .before .before .before .before .before .before .before .tree-size .ensures))
 
-climb-mul-raise : (t : ℕ) → climb-lts.Need-mul-raise (climb-claims t) (climb-at t) climb.Post
-climb-mul-raise t c = omega (arith, climb-sizes _ _ _ _ _ _ _ _ _ (c .before .before .before .before .before .before .before .before .before .before .before .before .before .pre .1) (c .before .before .before .before .before .before .before .before .before .before .if1 .left) _ (c .before .before .before .before .before .before .before .before .before .tree-size .ensures))
+climb-mul-expand-pair : (t : ℕ) → climb-lts.Need-mul-expand-pair (climb-claims t) (climb-at t) climb.Post
+climb-mul-expand-pair t c = omega (arith, climb-sizes _ _ _ _ _ _ _ _ _ (c .before .before .before .before .before .before .before .before .before .before .before .before .before .pre .1) (c .before .before .before .before .before .before .before .before .before .before .if1 .left) _ (c .before .before .before .before .before .before .before .before .before .tree-size .ensures))
 
-climb-sub-raise : (t : ℕ) → climb-lts.Need-sub-raise (climb-claims t) (climb-at t) climb.Post
-climb-sub-raise t c = omega (arith, climb-sizes _ _ _ _ _ _ _ _ _ (c .before .before .before .before .before .before .before .before .before .before .before .before .before .pre .1) (c .before .before .before .before .before .before .before .before .before .before .if1 .left) _ (c .before .before .before .before .before .before .before .before .before .tree-size .ensures))
+climb-sub-expand-pair : (t : ℕ) → climb-lts.Need-sub-expand-pair (climb-claims t) (climb-at t) climb.Post
+climb-sub-expand-pair t c = omega (arith, climb-sizes _ _ _ _ _ _ _ _ _ (c .before .before .before .before .before .before .before .before .before .before .before .before .before .pre .1) (c .before .before .before .before .before .before .before .before .before .before .if1 .left) _ (c .before .before .before .before .before .before .before .before .before .tree-size .ensures))
 
-climb-raise-requires : (t : ℕ) → climb-lts.Need-raise-requires (climb-claims t) (climb-at t) climb.Post
-climb-raise-requires t c κs = climb-raise _ _ _ _ _ _ _ _ _ (c .before .before .before .before .before .before .before .before .before .before .before .before .before .pre .1) (c .before .before .before .before .before .before .before .before .before .before .if1 .left) _ (c .before .before .before .before .before .before .before .before .before .tree-size .ensures) _ (c .before .before .before .before .before .before .before .climb .ensures) _ (c .before .before .before .climb2 .ensures)
+climb-expand-pair-requires : (t : ℕ) → climb-lts.Need-expand-pair-requires (climb-claims t) (climb-at t) climb.Post
+climb-expand-pair-requires t c κs = climb-pair _ _ _ _ _ _ _ _ _ (c .before .before .before .before .before .before .before .before .before .before .before .before .before .pre .1) (c .before .before .before .before .before .before .before .before .before .before .if1 .left) _ (c .before .before .before .before .before .before .before .before .before .tree-size .ensures) _ (c .before .before .before .before .before .before .before .climb .ensures) _ (c .before .before .before .climb2 .ensures)
 
 climb-same-length-2 : (t : ℕ) → climb-lts.Need-same-length-2 (climb-claims t) (climb-at t) climb.Post
-climb-same-length-2 t c = c .before .before .raise .kept .1 .0 ∙ c .before .before .before .before .before .before .climb2 .kept .1 .1 .1 .0 ∙ c .before .before .before .before .before .before .before .before .before .before .climb .kept .1 .1 .1 .0
+climb-same-length-2 t c = c .before .before .expand-pair .kept .1 .0 ∙ c .before .before .before .before .before .before .climb2 .kept .1 .1 .1 .0 ∙ c .before .before .before .before .before .before .before .before .before .before .climb .kept .1 .1 .1 .0
 
 climb-returns-2 : (t : ℕ) → climb-lts.Need-returns-2 (climb-claims t) (climb-at t) climb.Post
-climb-returns-2 t c = climb-output _ _ _ _ _ _ _ _ _ (c .before .before .before .before .before .before .before .before .before .before .before .before .before .before .before .before .pre .1) (c .before .before .before .before .before .before .before .before .before .before .before .before .before .if1 .left) _ (c .before .before .before .before .before .before .before .before .before .before .before .before .tree-size .ensures) _ (c .before .before .before .before .before .before .before .before .before .before .climb .ensures) _ (c .before .before .before .before .before .before .climb2 .ensures) _ (c .before .before .raise .ensures)
+climb-returns-2 t c = climb-output _ _ _ _ _ _ _ _ _ (c .before .before .before .before .before .before .before .before .before .before .before .before .before .before .before .before .pre .1) (c .before .before .before .before .before .before .before .before .before .before .before .before .before .if1 .left) _ (c .before .before .before .before .before .before .before .before .before .before .before .before .tree-size .ensures) _ (c .before .before .before .before .before .before .before .before .before .before .climb .ensures) _ (c .before .before .before .before .before .before .climb2 .ensures) _ (c .before .before .expand-pair .ensures)
 
 pub +climb-spec : {M : Type 1} → statement M
 +climb-spec = close μ-climb λ t. climb-lts.spec (
@@ -114,8 +114,8 @@ pub +climb-spec : {M : Type 1} → statement M
   tree-size-reads.Learnt,
   climb-below t,
   climb.Post,
-  raise-reads.Asked,
-  raise-reads.Learnt,
+  expand-pair-reads.Asked,
+  expand-pair-reads.Learnt,
 )
     (climb-at t)
     climb.Post
@@ -138,9 +138,9 @@ pub +climb-spec : {M : Type 1} → statement M
     (climb-sub-climb-2 t)
     (climb-add-climb t)
     (climb-climb-requires-2 t)
-    (climb-add-raise t)
-    (climb-mul-raise t)
-    (climb-sub-raise t)
-    (climb-raise-requires t)
+    (climb-add-expand-pair t)
+    (climb-mul-expand-pair t)
+    (climb-sub-expand-pair t)
+    (climb-expand-pair-requires t)
     (climb-same-length-2 t)
     (climb-returns-2 t)

@@ -2,7 +2,7 @@
 -- scratch (`descend-output`). Assumes nothing.
 use native.Mathlib.Omega.{arith}
 use mathlib.Core.Path.{_∙_}
-use Rattle.subproduct.specs.Descend.{descend-one, descend-one-output, descend-halves, descend-sizes, descend-left, descend-lower, descend-right, descend-output}
+use Rattle.subproduct.specs.Descend.{descend-one, descend-one-output, descend-halves, descend-sizes, descend-left, descend-pair, descend-right, descend-output}
 use Prim.Native.Nat.{ℕ, _<_}
 use borrow.Fn.Kinds.{In}
 use borrow.Fn.PlainCycle.{Measures, is, falls, and}
@@ -10,7 +10,7 @@ use Rattle.subproduct.proofs.descend.Reads as descend
 use Rattle.subproduct.proofs.descend.Kinds as descend-kinds
 use Rattle.subproduct.proofs.+descend.Lts-descend as descend-lts
 use Rattle.subproduct.proofs.descend_leaf.Reads as descend-leaf-reads
-use Rattle.subproduct.proofs.lower.Reads as lower-reads
+use Rattle.subproduct.proofs.adjoint_pair.Reads as adjoint-pair-reads
 use Rattle.subproduct.proofs.tree_size.Reads as tree-size-reads
 use Rattle.subproduct.proofs.+descend.{statement}
 use Rattle.subproduct.proofs.+descend.Tie.{close}
@@ -26,7 +26,7 @@ descend-below t = and 1 descend-kinds.ps (falls 1 descend-kinds.ps _<_ μ-descen
 
 -- what the calls ask and promise, in their order
 abbrev descend-claims : ℕ → descend-lts.Claims
-descend-claims t = (descend-leaf-reads.Asked, descend-leaf-reads.Learnt, tree-size-reads.Asked, tree-size-reads.Learnt, descend-below t, descend.Post, lower-reads.Asked, lower-reads.Learnt)
+descend-claims t = (descend-leaf-reads.Asked, descend-leaf-reads.Learnt, tree-size-reads.Asked, tree-size-reads.Learnt, descend-below t, descend.Post, adjoint-pair-reads.Asked, adjoint-pair-reads.Learnt)
 
 descend-descend-leaf-requires : (t : ℕ) → descend-lts.Need-descend-leaf-requires (descend-claims t) (descend-at t) descend.Post
 descend-descend-leaf-requires t c κs = descend-one _ _ _ _ _ _ _ _ (c .before .before .before .pre .1) (c .before .if1 .taken)
@@ -61,17 +61,17 @@ descend-sub-descend t c = omega (arith, descend-sizes _ _ _ _ _ _ _ _ (c .before
 descend-descend-requires : (t : ℕ) → descend-lts.Need-descend-requires (descend-claims t) (descend-at t) descend.Post
 descend-descend-requires t c κs = (omega (arith, descend-sizes _ _ _ _ _ _ _ _ (c .before .before .before .before .pre .1) (c .before .before .if1 .left) _ (c .before .tree-size .ensures)), descend-left _ _ _ _ _ _ _ _ (c .before .before .before .before .pre .1) (c .before .before .if1 .left) _ (c .before .tree-size .ensures))
 
-descend-mul-lower : (t : ℕ) → descend-lts.Need-mul-lower (descend-claims t) (descend-at t) descend.Post
-descend-mul-lower t c = omega (arith, descend-sizes _ _ _ _ _ _ _ _ (c .before .before .before .before .before .before .before .before .pre .1) (c .before .before .before .before .before .before .if1 .left) _ (c .before .before .before .before .before .tree-size .ensures))
+descend-mul-adjoint-pair : (t : ℕ) → descend-lts.Need-mul-adjoint-pair (descend-claims t) (descend-at t) descend.Post
+descend-mul-adjoint-pair t c = omega (arith, descend-sizes _ _ _ _ _ _ _ _ (c .before .before .before .before .before .before .before .before .pre .1) (c .before .before .before .before .before .before .if1 .left) _ (c .before .before .before .before .before .tree-size .ensures))
 
-descend-sub-lower : (t : ℕ) → descend-lts.Need-sub-lower (descend-claims t) (descend-at t) descend.Post
-descend-sub-lower t c = omega (arith, descend-sizes _ _ _ _ _ _ _ _ (c .before .before .before .before .before .before .before .before .pre .1) (c .before .before .before .before .before .before .if1 .left) _ (c .before .before .before .before .before .tree-size .ensures))
+descend-sub-adjoint-pair : (t : ℕ) → descend-lts.Need-sub-adjoint-pair (descend-claims t) (descend-at t) descend.Post
+descend-sub-adjoint-pair t c = omega (arith, descend-sizes _ _ _ _ _ _ _ _ (c .before .before .before .before .before .before .before .before .pre .1) (c .before .before .before .before .before .before .if1 .left) _ (c .before .before .before .before .before .tree-size .ensures))
 
-descend-add-lower : (t : ℕ) → descend-lts.Need-add-lower (descend-claims t) (descend-at t) descend.Post
-descend-add-lower t c = omega (arith, descend-sizes _ _ _ _ _ _ _ _ (c .before .before .before .before .before .before .before .before .pre .1) (c .before .before .before .before .before .before .if1 .left) _ (c .before .before .before .before .before .tree-size .ensures))
+descend-add-adjoint-pair : (t : ℕ) → descend-lts.Need-add-adjoint-pair (descend-claims t) (descend-at t) descend.Post
+descend-add-adjoint-pair t c = omega (arith, descend-sizes _ _ _ _ _ _ _ _ (c .before .before .before .before .before .before .before .before .pre .1) (c .before .before .before .before .before .before .if1 .left) _ (c .before .before .before .before .before .tree-size .ensures))
 
-descend-lower-requires : (t : ℕ) → descend-lts.Need-lower-requires (descend-claims t) (descend-at t) descend.Post
-descend-lower-requires t c κs = descend-lower _ _ _ _ _ _ _ _ (c .before .before .before .before .before .before .before .before .pre .1) (c .before .before .before .before .before .before .if1 .left) _ (c .before .before .before .before .before .tree-size .ensures) _ (c .before .before .before .descend .ensures)
+descend-adjoint-pair-requires : (t : ℕ) → descend-lts.Need-adjoint-pair-requires (descend-claims t) (descend-at t) descend.Post
+descend-adjoint-pair-requires t c κs = descend-pair _ _ _ _ _ _ _ _ (c .before .before .before .before .before .before .before .before .pre .1) (c .before .before .before .before .before .before .if1 .left) _ (c .before .before .before .before .before .tree-size .ensures) _ (c .before .before .before .descend .ensures)
 
 descend-add-descend : (t : ℕ) → descend-lts.Need-add-descend (descend-claims t) (descend-at t) descend.Post
 descend-add-descend t c = omega (arith, descend-sizes _ _ _ _ _ _ _ _ (c .before .before .before .before .before .before .before .before .before .before .before .before .pre .1) (c .before .before .before .before .before .before .before .before .before .before .if1 .left) _ (c .before .before .before .before .before .before .before .before .before .tree-size .ensures))
@@ -83,13 +83,13 @@ descend-sub-descend-2 : (t : ℕ) → descend-lts.Need-sub-descend-2 (descend-cl
 descend-sub-descend-2 t c = omega (arith, descend-sizes _ _ _ _ _ _ _ _ (c .before .before .before .before .before .before .before .before .before .before .before .before .pre .1) (c .before .before .before .before .before .before .before .before .before .before .if1 .left) _ (c .before .before .before .before .before .before .before .before .before .tree-size .ensures))
 
 descend-descend-requires-2 : (t : ℕ) → descend-lts.Need-descend-requires-2 (descend-claims t) (descend-at t) descend.Post
-descend-descend-requires-2 t c κs = (omega (arith, descend-sizes _ _ _ _ _ _ _ _ (c .before .before .before .before .before .before .before .before .before .before .before .before .pre .1) (c .before .before .before .before .before .before .before .before .before .before .if1 .left) _ (c .before .before .before .before .before .before .before .before .before .tree-size .ensures)), descend-right _ _ _ _ _ _ _ _ (c .before .before .before .before .before .before .before .before .before .before .before .before .pre .1) (c .before .before .before .before .before .before .before .before .before .before .if1 .left) _ (c .before .before .before .before .before .before .before .before .before .tree-size .ensures) _ (c .before .before .before .before .before .before .before .descend .ensures) _ (c .before .before .before .lower .ensures))
+descend-descend-requires-2 t c κs = (omega (arith, descend-sizes _ _ _ _ _ _ _ _ (c .before .before .before .before .before .before .before .before .before .before .before .before .pre .1) (c .before .before .before .before .before .before .before .before .before .before .if1 .left) _ (c .before .before .before .before .before .before .before .before .before .tree-size .ensures)), descend-right _ _ _ _ _ _ _ _ (c .before .before .before .before .before .before .before .before .before .before .before .before .pre .1) (c .before .before .before .before .before .before .before .before .before .before .if1 .left) _ (c .before .before .before .before .before .before .before .before .before .tree-size .ensures) _ (c .before .before .before .before .before .before .before .descend .ensures) _ (c .before .before .before .adjoint-pair .ensures))
 
 descend-same-length-2 : (t : ℕ) → descend-lts.Need-same-length-2 (descend-claims t) (descend-at t) descend.Post
-descend-same-length-2 t c = c .before .before .descend2 .kept .1 .0 ∙ c .before .before .before .before .before .before .lower .kept .1 .0 ∙ c .before .before .before .before .before .before .before .before .before .before .descend .kept .1 .0
+descend-same-length-2 t c = c .before .before .descend2 .kept .1 .0 ∙ c .before .before .before .before .before .before .adjoint-pair .kept .1 .0 ∙ c .before .before .before .before .before .before .before .before .before .before .descend .kept .1 .0
 
 descend-returns-2 : (t : ℕ) → descend-lts.Need-returns-2 (descend-claims t) (descend-at t) descend.Post
-descend-returns-2 t c = descend-output _ _ _ _ _ _ _ _ (c .before .before .before .before .before .before .before .before .before .before .before .before .before .before .before .pre .1) (c .before .before .before .before .before .before .before .before .before .before .before .before .before .if1 .left) _ (c .before .before .before .before .before .before .before .before .before .before .before .before .tree-size .ensures) _ (c .before .before .before .before .before .before .before .before .before .before .descend .ensures) _ (c .before .before .before .before .before .before .lower .ensures) _ (c .before .before .descend2 .ensures)
+descend-returns-2 t c = descend-output _ _ _ _ _ _ _ _ (c .before .before .before .before .before .before .before .before .before .before .before .before .before .before .before .pre .1) (c .before .before .before .before .before .before .before .before .before .before .before .before .before .if1 .left) _ (c .before .before .before .before .before .before .before .before .before .before .before .before .tree-size .ensures) _ (c .before .before .before .before .before .before .before .before .before .before .descend .ensures) _ (c .before .before .before .before .before .before .adjoint-pair .ensures) _ (c .before .before .descend2 .ensures)
 
 pub +descend-spec : {M : Type 1} → statement M
 +descend-spec = close μ-descend λ t. descend-lts.spec (
@@ -99,8 +99,8 @@ pub +descend-spec : {M : Type 1} → statement M
   tree-size-reads.Learnt,
   descend-below t,
   descend.Post,
-  lower-reads.Asked,
-  lower-reads.Learnt,
+  adjoint-pair-reads.Asked,
+  adjoint-pair-reads.Learnt,
 )
     (descend-at t)
     descend.Post
@@ -115,10 +115,10 @@ pub +descend-spec : {M : Type 1} → statement M
     (descend-add-k t)
     (descend-sub-descend t)
     (descend-descend-requires t)
-    (descend-mul-lower t)
-    (descend-sub-lower t)
-    (descend-add-lower t)
-    (descend-lower-requires t)
+    (descend-mul-adjoint-pair t)
+    (descend-sub-adjoint-pair t)
+    (descend-add-adjoint-pair t)
+    (descend-adjoint-pair-requires t)
     (descend-add-descend t)
     (descend-add-descend-2 t)
     (descend-sub-descend-2 t)

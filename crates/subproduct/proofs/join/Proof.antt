@@ -4,39 +4,39 @@ use borrow.Author.Needs.{needs}
 use Rattle.subproduct.proofs.join.Statement.{statement}
 use Rattle.subproduct.proofs.join.Tie as tie
 
-raise-requires : tie.Need-raise-requires
-raise-requires c κs = join-first _ _ _ _ _ _ _ (c .before .before .pre)
+expand-pair-requires : tie.Need-expand-pair-requires
+expand-pair-requires c κs = join-first _ _ _ _ _ _ _ (c .before .before .pre)
 
-add-raise : tie.Need-add-raise
-add-raise c = search needs
+add-expand-pair : tie.Need-add-expand-pair
+add-expand-pair c = search needs
 
-add-raise-2 : tie.Need-add-raise-2
-add-raise-2 c = search needs
+add-expand-pair-2 : tie.Need-add-expand-pair-2
+add-expand-pair-2 c = search needs
 
-add-raise-3 : tie.Need-add-raise-3
-add-raise-3 c = search needs
+add-expand-pair-3 : tie.Need-add-expand-pair-3
+add-expand-pair-3 c = search needs
 
-add-raise-4 : tie.Need-add-raise-4
-add-raise-4 c = search needs
+add-expand-pair-4 : tie.Need-add-expand-pair-4
+add-expand-pair-4 c = search needs
 
-raise-requires-2 : tie.Need-raise-requires-2
-raise-requires-2 c κs = join-second _ _ _ _ _ _ _ (c .before .before .before .before .before .before .pre) _ (c .before .before .before .raise .ensures)
+expand-pair-requires-2 : tie.Need-expand-pair-requires-2
+expand-pair-requires-2 c κs = join-second _ _ _ _ _ _ _ (c .before .before .before .before .before .before .pre) _ (c .before .before .before .expand-pair .ensures)
 
 same-length : tie.Need-same-length
 same-length c = search needs
 
 returns : tie.Need-returns
-returns c = join-written _ _ _ _ _ _ _ (c .before .before .before .before .before .before .before .before .before .pre) _ (c .before .before .before .before .before .before .raise .ensures) _ (c .before .before .raise2 .ensures)
+returns c = join-written _ _ _ _ _ _ _ (c .before .before .before .before .before .before .before .before .before .pre) _ (c .before .before .before .before .before .before .expand-pair .ensures) _ (c .before .before .expand-pair2 .ensures)
 
 pub join-spec : {M : Type 1} → statement M
 join-spec =
     tie.close
     (tie.spec
-    raise-requires
-    add-raise
-    add-raise-2
-    add-raise-3
-    add-raise-4
-    raise-requires-2
+    expand-pair-requires
+    add-expand-pair
+    add-expand-pair-2
+    add-expand-pair-3
+    add-expand-pair-4
+    expand-pair-requires-2
     same-length
     returns)

@@ -1,0 +1,194 @@
+-- The calls finish exactly on what the paper accepts.
+--   PlainInput, TreeInput, MomentsInput, NormsInput, InverseInput
+--                 what a call of that kind accepts: of family, curve, number, output and working list
+-- Proved: none of a call's tests holds (`-passes`), and its verdict is finished (`-finished`), if and only if its input is of that
+-- kind; each row of an accepted family passes, the rows past its end as well; an accepted family is convertible; the closing row
+-- 1 1 1 passes for every modulus.
+-- Assumes nothing.
+use mathlib.Core.Path.{_≡_}
+use mathlib.Core.Bool.{false}
+use mathlib.Core.List.{List, [], _∷_, _++_}
+use mathlib.Core.Logic.{_↔_, Iff·trans, by-cases}
+use Prim.Native.Nat.{ℕ, suc, _<_, _≤_}
+use native.Mathlib.Decide.{decLt}
+use native.Mathlib.Omega.{arith}
+use lib.ListN.{length, List·getD-eq-default}
+use Rattle.definitions.specs.Number.{HasInverse}
+use Rattle.definitions.specs.Family.{Family, family, Modulus, Accepted, AcceptedRow, Convertible, Curve, rows, rowAt, size}
+use Rattle.definitions.specs.Orthogonality.{momentCount}
+use Rattle.definitions.specs.Refusals.{Test, finished, verdict, workLength, modulusTest, lengthsTest, rowCountTest, curveLengthTest, outputTest, workTest, entriesTest, aInverseTest, cInverseTest, curveEntriesTest, plainTests, treeTests, momentsTests, normsTests, inverseTests}
+use Rattle.numbers.specs.Inverse.{one-has-inverse}
+use Rattle.acceptance.specs.Verdicts.{None, none-append, verdict-finished, modulus-passes, lengths-pass, row-count-passes, entries-pass, a-inverses-pass, c-inverses-pass, curve-length-passes, curve-entries-pass, output-passes, work-passes, number-passes, number-inverse-passes}
+
+pub closing-accepted : (m : ℕ) → 2 ≤ m → AcceptedRow m (record { a = 1; b = 1; c = 1 })
+closing-accepted m h = record { aBelow = h; bBelow = h; cBelow = h; aInverse = one-has-inverse m h; cInverse = one-has-inverse m h }
+
+-- rows past the end are the closing row
+module _ (f : Family) (acc : Accepted f) where
+  pub row-closing : (i : ℕ) → rows f ≤ i → rowAt f i ≡ f .close
+  unfolding rowAt
+  row-closing i h =
+      let lb : length (f .b) ≡ rows f = acc .bLength in
+      let lc : length (f .c) ≡ rows f = acc .cLength in
+      rw (List·getD-eq-default (f .a) (f .close .a) {n = i} h, List·getD-eq-default (f .b) (f .close .b) {n = i} (omega arith), List·getD-eq-default (f .c) (f .close .c) {n = i} (omega arith))
+
+  pub row-accepted : (i : ℕ) → AcceptedRow (f .m) (rowAt f i)
+  row-accepted i = by-cases (decLt i (rows f)) (acc .row i) (λ n. rw (row-closing i (omega arith)) (acc .closing))
+
+  pub accepted-convertible : Convertible f
+  accepted-convertible =
+      record {
+        modulus = acc .modulus .least;
+        aInverse = λ i h. row-accepted i .aInverse;
+        cInverse = λ i h. row-accepted (suc i) .cInverse;
+      }
+
+pub curve-accepted : (f : Family) (u : List ℕ) → None (curveLengthTest f u ∷ curveEntriesTest f u ∷ []) ↔ Curve f u
+curve-accepted f u = (
+  λ n.
+      let long : length u ≡ size f = curve-length-passes f u .0 (n .0) in
+      record { long = long; below = λ i h. curve-entries-pass f u 0 .0 (n .1 .0) i (omega arith) },
+  λ curve.
+      let long : length u ≡ size f = curve .long in
+      (curve-length-passes f u .1 long, (curve-entries-pass f u 0 .1 (λ i h. curve .below i (omega arith)), tt)),
+)
+
+-- what each call accepts; lengths of output and working list are numbers
+pub record PlainInput (f : Family) (u : List ℕ) (output : ℕ) : Type 0 where
+  pub accepted : Accepted f
+  pub curve : Curve f u
+  pub outputLength : output ≡ size f
+
+pub record TreeInput (f : Family) (u : List ℕ) (output work : ℕ) : Type 0 where
+  pub plain : PlainInput f u output
+  pub workLong : workLength ≤ work
+
+pub record MomentsInput (f : Family) (output work : ℕ) : Type 0 where
+  pub accepted : Accepted f
+  pub outputLength : output ≡ momentCount f
+  pub workLong : workLength ≤ work
+
+pub record NormsInput (f : Family) (output : ℕ) : Type 0 where
+  pub accepted : Accepted f
+  pub outputLength : output ≡ size f
+
+pub record InverseInput (m x : ℕ) : Type 0 where
+  pub modulus : Modulus m
+  pub below : x < m
+  pub hasInverse : HasInverse m x
+
+module _ (m : ℕ) (a b c : List ℕ) where
+  abbrev f : Family
+  f = family m a b c
+
+  abbrev writersTests : List Test
+  writersTests = modulusTest m ∷ lengthsTest f ∷ rowCountTest f ∷ []
+
+  abbrev makersTests : List Test
+  makersTests = entriesTest f ∷ aInverseTest f ∷ cInverseTest f ∷ []
+
+  family-passes : (None writersTests × None makersTests) ↔ Accepted f
+  unfolding rowAt
+  family-passes = (to, from)
+    where
+      to : None writersTests × None makersTests → Accepted f
+      to ((e3, (e4, (e5, done))), (e9, (e10, (e11, done′)))) =
+          let modulus : Modulus m = modulus-passes m .0 e3 in
+          let lengths : (length b ≡ length a) × (length c ≡ length a) = lengths-pass f .0 e4 in
+          let below = entries-pass f 1 1 1 .0 e9 in
+          let h : 0 < m = omega arith in
+          record {
+            modulus = modulus;
+            bLength = lengths .0;
+            cLength = lengths .1;
+            rowCount = row-count-passes f .0 e5;
+            row = λ i l.
+                record {
+                  aBelow = below .0 i l;
+                  bBelow = below .1 i (omega arith);
+                  cBelow = below .2 i (omega arith);
+                  aInverse = a-inverses-pass f 1 h .0 e10 i l;
+                  cInverse = c-inverses-pass f 1 h .0 e11 i (omega arith);
+                };
+            closing = closing-accepted m (modulus .least);
+          }
+
+      from : Accepted f → None writersTests × None makersTests
+      from acc =
+          let lb : length b ≡ length a = acc .bLength in
+          let lc : length c ≡ length a = acc .cLength in
+          let two : 2 ≤ m = acc .modulus .least in
+          let h : 0 < m = omega arith in (
+            (modulus-passes m .1 (acc .modulus), (lengths-pass f .1 (lb, lc), (row-count-passes f .1 (acc .rowCount), tt))),
+            (
+              entries-pass f 1 1 1 .1
+                  (λ i l. acc .row i l .aBelow, λ i l. acc .row i (omega arith) .bBelow, λ i l. acc .row i (omega arith) .cBelow),
+              (
+                a-inverses-pass f 1 h .1 (λ i l. acc .row i l .aInverse),
+                (c-inverses-pass f 1 h .1 (λ i l. acc .row i (omega arith) .cInverse), tt),
+              ),
+            ),
+          )
+
+  -- a call on a family makes those six tests, with others between and after
+  call-passes : (between after : List Test) → None (writersTests ++ between ++ makersTests ++ after) ↔ (Accepted f × None between × None after)
+  call-passes between after = simp (none-append, ← family-passes)
+      (λ p. ((p .0 .0 .0, p .0 .1), p .0 .0 .1, p .1), λ p. (((p .0 .0, p .1), p .0 .1), p .2))
+
+  pub plain-passes : (u : List ℕ) (output : ℕ) → None (plainTests f u output) ↔ PlainInput f u output
+  unfolding plainTests
+  plain-passes u output = Iff·trans (call-passes (curveLengthTest f u ∷ outputTest (size f) output ∷ []) (curveEntriesTest f u ∷ []))
+      (simp output-passes (
+        λ p. record { accepted = p .0; curve = curve-accepted f u .0 (p .1 .0, p .2); outputLength = p .1 .1 .0 },
+        λ p. let curve = curve-accepted f u .1 (p .curve) in (p .accepted, (curve .0, (p .outputLength, tt)), curve .1),
+      ))
+
+  pub tree-passes : (u : List ℕ) (output work : ℕ) → None (treeTests f u output work) ↔ TreeInput f u output work
+  unfolding treeTests plainTests
+  tree-passes u output work = (to, λ p. from (plain-passes u output .1 (p .plain)) (work-passes work .1 (p .workLong)))
+    where
+      to : None (treeTests f u output work) → TreeInput f u output work
+      to (e3, (e4, (e5, (e6, (e7, (e8, rest)))))) =
+          record { plain = plain-passes u output .0 (e3, (e4, (e5, (e6, (e7, rest))))); workLong = work-passes work .0 e8 }
+
+      from : None (plainTests f u output) → workTest work .holds ≡ false → None (treeTests f u output work)
+      from (e3, (e4, (e5, (e6, (e7, rest))))) e8 = (e3, (e4, (e5, (e6, (e7, (e8, rest))))))
+
+  pub moments-passes : (output work : ℕ) → None (momentsTests f output work) ↔ MomentsInput f output work
+  unfolding momentsTests
+  moments-passes output work = Iff·trans (call-passes (outputTest (momentCount f) output ∷ workTest work ∷ []) [])
+      (simp (output-passes, work-passes)
+      (λ p. record { accepted = p .0; outputLength = p .1 .0; workLong = p .1 .1 .0 }, λ p. (p .accepted, (p .outputLength, (p .workLong, tt)), tt)))
+
+  pub norms-passes : (output : ℕ) → None (normsTests f output) ↔ NormsInput f output
+  unfolding normsTests
+  norms-passes output = Iff·trans (call-passes (outputTest (size f) output ∷ []) [])
+      (simp output-passes (λ p. record { accepted = p .0; outputLength = p .1 .0 }, λ p. (p .accepted, (p .outputLength, tt), tt)))
+
+  pub plain-finished : (u : List ℕ) (output : ℕ) (values : List ℕ) → (verdict (plainTests f u output) values ≡ finished values) ↔ PlainInput f u output
+  plain-finished u output values = Iff·trans (verdict-finished (plainTests f u output) values) (plain-passes u output)
+
+  pub tree-finished : (u : List ℕ) (output work : ℕ) (values : List ℕ)
+      → (verdict (treeTests f u output work) values ≡ finished values) ↔ TreeInput f u output work
+  tree-finished u output work values = Iff·trans (verdict-finished (treeTests f u output work) values) (tree-passes u output work)
+
+  pub moments-finished : (output work : ℕ) (values : List ℕ) → (verdict (momentsTests f output work) values ≡ finished values) ↔ MomentsInput f output work
+  moments-finished output work values = Iff·trans (verdict-finished (momentsTests f output work) values) (moments-passes output work)
+
+  pub norms-finished : (output : ℕ) (values : List ℕ) → (verdict (normsTests f output) values ≡ finished values) ↔ NormsInput f output
+  norms-finished output values = Iff·trans (verdict-finished (normsTests f output) values) (norms-passes output)
+
+pub inverse-passes : (m x : ℕ) → None (inverseTests m x) ↔ InverseInput m x
+unfolding inverseTests
+inverse-passes m x = (to, from)
+  where
+    to : None (inverseTests m x) → InverseInput m x
+    to (e3, (e12, (e13, done))) =
+        let modulus : Modulus m = modulus-passes m .0 e3 in
+        record { modulus = modulus; below = number-passes m x .0 e12; hasInverse = number-inverse-passes m x (omega arith) .0 e13 }
+
+    from : InverseInput m x → None (inverseTests m x)
+    from p = (modulus-passes m .1 (p .modulus), (number-passes m x .1 (p .below), (number-inverse-passes m x (omega arith) .1 (p .hasInverse), tt)))
+
+pub inverse-finished : (m x : ℕ) (values : List ℕ) → (verdict (inverseTests m x) values ≡ finished values) ↔ InverseInput m x
+inverse-finished m x values = Iff·trans (verdict-finished (inverseTests m x) values) (inverse-passes m x)

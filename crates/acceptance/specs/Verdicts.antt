@@ -1,0 +1,198 @@
+-- Verdicts, and each test of the refusals as a plain fact.
+--   None ts           no test of ts holds
+--   withValues vs v   the verdict v, with the values vs if it is finished
+-- Proved: a verdict is finished if and only if no test holds, a verdict is settled test by test, and its values make no difference to
+-- whether it is; of each test, that it does not hold is a plain fact about lengths, entries or inverses, and the fact is that it does
+-- not hold.
+-- Assumes nothing.
+use mathlib.Core.Path.{_≡_, refl, sym, _∙_, ap}
+use mathlib.Core.Bool.{Bool, true, false, not, _||_, not-eq-not, true≢false}
+use mathlib.Core.List.{List, [], _∷_, _++_}
+use mathlib.Core.Logic.{_↔_, Iff·rfl, Iff·trans}
+use Prim.Native.Nat.{ℕ, zero, suc, _*_, _%_, _<_, _≤_}
+use native.Mathlib.Nat.{le-of-suc-le-suc}
+use native.Mathlib.Omega.{arith}
+use lib.Dec.{eqb, ltb}
+use lib.ListN.{length, getD}
+use borrow.Author.Tests.{eq-eqb, eqb-true, le-ltb, leb-false, lt-leb, ltb-false, not-false}
+use Rattle.definitions.specs.Number.{HasInverse, inverse}
+use Rattle.definitions.specs.Family.{Family, Modulus, mostRows, rows, size}
+use Rattle.definitions.specs.Refusals.{Test, Verdict, finished, refused, verdict, some, differ, notBelow, noInverse, workLength, modulusTest, lengthsTest, rowCountTest, curveLengthTest, outputTest, workTest, entriesTest, aInverseTest, cInverseTest, curveEntriesTest, numberTest, numberInverseTest}
+use Rattle.numbers.specs.Inverse.{inverse-right}
+use Rattle.numbers.specs.Lists.{Each}
+
+abbrev pub None : List Test → Type 0
+None [] = Unit {0}
+None (t ∷ ts) = (t .holds ≡ false) × None ts
+
+pub refused-not-finished : (k : ℕ) (values : List ℕ) → refused k ≡ finished values → ⊥
+refused-not-finished k values e = let z : _≡_ {A = ℕ} 0 1 = cc in omega arith
+
+module _ (t : Test) (ts : List Test) (values : List ℕ) where
+  pub verdict-here : t .holds ≡ true → verdict (t ∷ ts) values ≡ refused (t .number)
+  unfolding verdict
+  verdict-here e = rw (e, verdict)
+
+  pub verdict-next : t .holds ≡ false → verdict (t ∷ ts) values ≡ verdict ts values
+  unfolding verdict
+  verdict-next e = rw (e, verdict)
+
+pub verdict-finished : (ts : List Test) (values : List ℕ) → (verdict ts values ≡ finished values) ↔ None ts
+unfolding verdict
+verdict-finished [] values = (λ e. tt, λ n. refl)
+verdict-finished (t ∷ ts) values = split (t .holds) refl (verdict-finished ts values)
+  where
+    split : (h : Bool) → t .holds ≡ h → (verdict ts values ≡ finished values) ↔ None ts → (verdict (t ∷ ts) values ≡ finished values) ↔ None (t ∷ ts)
+    split true q rest =
+        (λ e. absurd (refused-not-finished (t .number) values (sym (verdict-here t ts values q) ∙ e)), λ n. absurd (true≢false (sym q ∙ n .0)))
+    split false q rest = rw (verdict-next t ts values q) (λ e. (q, rest .0 e), λ n. rest .1 (n .1))
+
+-- a verdict, with the values that it gives if finished
+abbrev pub withValues : List ℕ → Verdict → Verdict
+withValues values (finished none) = finished values
+withValues values (refused k) = refused k
+
+pub verdict-values : (values : List ℕ) (ts : List Test) → verdict ts values ≡ withValues values (verdict ts [])
+unfolding verdict
+verdict-values values [] = refl
+verdict-values values (t ∷ ts) = split (t .holds) refl (verdict-values values ts)
+  where
+    split : (h : Bool) → t .holds ≡ h → verdict ts values ≡ withValues values (verdict ts [])
+        → verdict (t ∷ ts) values ≡ withValues values (verdict (t ∷ ts) [])
+    split true q rest = rw (verdict-here t ts values q, verdict-here t ts [] q)
+    split false q rest = rw (verdict-next t ts values q, verdict-next t ts [] q) rest
+
+-- tests that are made in two parts
+pub none-append : (ts us : List Test) → None (ts ++ us) ↔ (None ts × None us)
+none-append [] us = (λ n. (tt, n), λ p. p .1)
+none-append (t ∷ ts) us =
+    let rest = none-append ts us in
+    (λ n. ((n .0, rest .0 (n .1) .0), rest .0 (n .1) .1), λ p. (p .0 .0, rest .1 (p .0 .1, p .1)))
+
+module _ (us : List Test) (values : List ℕ) where
+  pub verdict-stops : (ts : List Test) (before : List ℕ) (k : ℕ) → verdict ts before ≡ refused k → verdict (ts ++ us) values ≡ refused k
+  unfolding verdict
+  verdict-stops [] before k e = absurd (refused-not-finished k before (sym e))
+  verdict-stops (t ∷ ts) before k e = split (t .holds) refl (verdict-stops ts before k)
+    where
+      split : (h : Bool) → t .holds ≡ h → (verdict ts before ≡ refused k → verdict (ts ++ us) values ≡ refused k) → verdict (t ∷ ts ++ us) values ≡ refused k
+      split true q rest = verdict-here t (ts ++ us) values q ∙ sym (verdict-here t ts before q) ∙ e
+      split false q rest = verdict-next t (ts ++ us) values q ∙ rest (sym (verdict-next t ts before q) ∙ e)
+
+  pub verdict-goes-on : (ts : List Test) → None ts → verdict (ts ++ us) values ≡ verdict us values
+  verdict-goes-on [] n = refl
+  verdict-goes-on (t ∷ ts) (q, rest) = verdict-next t (ts ++ us) values q ∙ verdict-goes-on ts rest
+
+-- the tests of a number
+pub differ-false : (x y : ℕ) → (differ x y ≡ false) ↔ (x ≡ y)
+unfolding differ
+differ-false x y = (λ e. eqb-true x y (not-false (eqb x y) e), λ e. ap not (eq-eqb x y e))
+
+pub notBelow-false : (m x : ℕ) → (notBelow m x ≡ false) ↔ (x < m)
+unfolding notBelow
+notBelow-false m x = (leb-false m x, lt-leb m x)
+
+ltb-fails : (x y : ℕ) → (ltb x y ≡ false) ↔ (y ≤ x)
+ltb-fails x y = (ltb-false x y, le-ltb x y)
+
+pub noInverse-false : (m x : ℕ) → 0 < m → (noInverse m x ≡ false) ↔ HasInverse m x
+unfolding noInverse differ HasInverse
+noInverse-false m x h = Iff·trans (differ-false (x * inverse m x % m) 1) (λ e. (inverse m x, e), inverse-right m x h)
+
+pub noInverse-true : (m x : ℕ) → 0 < m → (noInverse m x ≡ true) ↔ (HasInverse m x → ⊥)
+noInverse-true m x h = (
+  λ e i. true≢false (sym e ∙ noInverse-false m x h .1 i),
+  λ n. not-eq-not {a = noInverse m x} {b = true} .0 (λ e. n (noInverse-false m x h .0 e)),
+)
+
+-- the tests of every entry of a list
+some-here : (passes : ℕ → Bool) (x : ℕ) (xs : List ℕ) → passes x ≡ true → some passes (x ∷ xs) ≡ true
+unfolding some
+some-here passes x xs e = rw (e, some)
+
+some-next : (passes : ℕ → Bool) (x : ℕ) (xs : List ℕ) → passes x ≡ false → some passes (x ∷ xs) ≡ some passes xs
+unfolding some
+some-next passes x xs e = rw (e, some)
+
+pub some-false : (passes : ℕ → Bool) (xs : List ℕ) (d : ℕ) → (some passes xs ≡ false) ↔ Each (λ x. passes x ≡ false) xs d
+unfolding some
+some-false passes [] d = (λ e i h. absurd (omega arith), λ all. refl)
+some-false passes (x ∷ xs) d = split (passes x) refl (some-false passes xs d)
+  where
+    split : (h : Bool) → passes x ≡ h → (some passes xs ≡ false) ↔ Each (λ y. passes y ≡ false) xs d
+        → (some passes (x ∷ xs) ≡ false) ↔ Each (λ y. passes y ≡ false) (x ∷ xs) d
+    split true q rest =
+        (λ e. absurd (true≢false (sym (some-here passes x xs q) ∙ e)), λ all. absurd (true≢false (sym q ∙ all 0 (omega arith))))
+    split false q rest = rw (some-next passes x xs q) (to, λ all. rest .1 (λ i h. all (suc i) (omega arith)))
+      where
+        to : some passes xs ≡ false → Each (λ y. passes y ≡ false) (x ∷ xs) d
+        to e zero h = q
+        to e (suc i) h = rest .0 e i (le-of-suc-le-suc h)
+
+pub some-true : (passes : ℕ → Bool) (xs : List ℕ) (i d : ℕ) → i < length xs → passes (getD xs i d) ≡ true → some passes xs ≡ true
+some-true passes xs i d h e = not-eq-not {a = some passes xs} {b = true} .0 (λ none. true≢false (sym e ∙ some-false passes xs d .0 none i h))
+
+module _ (m : ℕ) (xs : List ℕ) (d : ℕ) where
+  pub some-notBelow-false : (some (notBelow m) xs ≡ false) ↔ Each (λ x. x < m) xs d
+  some-notBelow-false = simp (some-false (notBelow m) xs d, notBelow-false) Iff·rfl
+
+  pub some-noInverse-false : 0 < m → (some (noInverse m) xs ≡ false) ↔ Each (HasInverse m) xs d
+  some-noInverse-false h = simp (some-false (noInverse m) xs d, noInverse-false) Iff·rfl
+
+-- of each test, what it is that it does not hold
+pub or-false : (s t : Bool) → ((s || t) ≡ false) ↔ ((s ≡ false) × (t ≡ false))
+or-false true t = (λ e. absurd (true≢false e), λ p. absurd (true≢false (p .0)))
+or-false false t = (λ e. (refl, e), λ p. p .1)
+
+pub modulus-passes : (m : ℕ) → (modulusTest m .holds ≡ false) ↔ Modulus m
+unfolding modulusTest
+modulus-passes m = simp (or-false, ltb-fails)
+    (λ p. record { least = p .0; greatest = p .1 }, λ h. (h .least, h .greatest))
+
+pub output-passes : (wanted output : ℕ) → (outputTest wanted output .holds ≡ false) ↔ (output ≡ wanted)
+unfolding outputTest
+output-passes wanted output = differ-false output wanted
+
+pub work-passes : (work : ℕ) → (workTest work .holds ≡ false) ↔ (workLength ≤ work)
+unfolding workTest
+work-passes work = ltb-fails work workLength
+
+pub number-passes : (m x : ℕ) → (numberTest m x .holds ≡ false) ↔ (x < m)
+unfolding numberTest
+number-passes m x = notBelow-false m x
+
+pub number-inverse-passes : (m x : ℕ) → 0 < m → (numberInverseTest m x .holds ≡ false) ↔ HasInverse m x
+unfolding numberInverseTest
+number-inverse-passes m x h = noInverse-false m x h
+
+module _ (f : Family) where
+  pub lengths-pass : (lengthsTest f .holds ≡ false) ↔ ((length (f .b) ≡ rows f) × (length (f .c) ≡ rows f))
+  unfolding lengthsTest
+  lengths-pass = simp (or-false, differ-false) Iff·rfl
+
+  pub row-count-passes : (rowCountTest f .holds ≡ false) ↔ (rows f ≤ mostRows)
+  unfolding rowCountTest
+  row-count-passes = ltb-fails mostRows (rows f)
+
+  pub entries-pass : (d e g : ℕ) → (entriesTest f .holds ≡ false)
+      ↔ (Each (λ x. x < f .m) (f .a) d × Each (λ x. x < f .m) (f .b) e × Each (λ x. x < f .m) (f .c) g)
+  unfolding entriesTest
+  entries-pass d e g =
+      simp (or-false, some-notBelow-false (f .m) (f .a) d, some-notBelow-false (f .m) (f .b) e, some-notBelow-false (f .m) (f .c) g)
+      (λ p. (p .0 .0, p .0 .1, p .1), λ p. ((p .0, p .1), p .2))
+
+  pub a-inverses-pass : (d : ℕ) → 0 < f .m → (aInverseTest f .holds ≡ false) ↔ Each (HasInverse (f .m)) (f .a) d
+  unfolding aInverseTest
+  a-inverses-pass d h = some-noInverse-false (f .m) (f .a) d h
+
+  pub c-inverses-pass : (d : ℕ) → 0 < f .m → (cInverseTest f .holds ≡ false) ↔ Each (HasInverse (f .m)) (f .c) d
+  unfolding cInverseTest
+  c-inverses-pass d h = some-noInverse-false (f .m) (f .c) d h
+
+  pub curve-length-passes : (u : List ℕ) → (curveLengthTest f u .holds ≡ false) ↔ (length u ≡ size f)
+  unfolding curveLengthTest
+  curve-length-passes u = differ-false (length u) (size f)
+
+  pub curve-entries-pass : (u : List ℕ) (d : ℕ) → (curveEntriesTest f u .holds ≡ false) ↔ Each (λ x. x < f .m) u d
+  unfolding curveEntriesTest
+  curve-entries-pass u d = some-notBelow-false (f .m) u d

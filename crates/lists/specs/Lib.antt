@@ -1,0 +1,2 @@
+-- What the list functions cite. Assumes nothing.
+pub mod Entries

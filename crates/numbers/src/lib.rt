@@ -1,0 +1,1 @@
+// Lists of numbers and numbers modulo m: no code, only the laws of specs/.

@@ -1,0 +1,67 @@
+-- Adjoint upwards is Adjoint.
+-- Proves that the plain model's lists are the pairings of the curve with the polynomials, W_j[t] = sum of u_i times the coefficient of
+-- x^i in x^t F_j, which follow the rows with the shift for an operator; so the answer, the W_j[0], is Adjoint's, for every
+-- modulus but 0, every family and every curve. Assumes nothing.
+use mathlib.Core.Path.{_≡_, sym, _∙_, ap}
+use mathlib.Core.List.{List}
+use Prim.Native.Nat.{ℕ, zero, suc, _<_, _≤_}
+use native.Mathlib.Omega.{arith}
+use lib.ListN.{length}
+use Rattle.algebra.specs.Residues.{Zmod, res, res-add, res-mul, res-mod}
+use Rattle.algebra.specs.Ring.{CommRing}
+use Rattle.definitions.specs.Conversion.{adjoint}
+use Rattle.definitions.specs.Family.{Family, Curve, size}
+use Rattle.theory.specs.Bridge.{entries, rowsOf, entries-adjoint, adjoint-curve}
+use Rattle.plain_model.specs.Entries.{entries-past, entries-zeros, entries-table}
+use Rattle.numbers.specs.Lists.{table-entry}
+use Rattle.theory.specs.Operator.{pairing, pairing-start, pairing-none, pairing-past, pairing-follows, pairing-one}
+use Rattle.plain_model.specs.PlainModels.{State, adjointEntry, adjointStep, adjointState, plainAdjoint, adjointState-curves}
+use Rattle.theory.specs.Recurrence.{Rows, term}
+use Rattle.theory.specs.Curves.{table-curve, curves-equal-residues}
+
+module _ (f : Family) (pos : 0 < f .m) (u : List ℕ) (cu : Curve f u) where
+  abbrev m : ℕ
+  m = f .m
+
+  abbrev Q : CommRing
+  Q = Zmod m pos
+
+  abbrev ρ : Rows Q
+  ρ = rowsOf f pos
+
+  abbrev W : ℕ → ℕ → Q .Car
+  W k = pairing Q (size f) (entries m pos u) .to (term Q ρ k)
+
+  ends : (i : ℕ) → size f ≤ i → entries m pos u i ≡ Q .zero
+  ends i h = let l : length u ≡ size f = cu .long in entries-past m pos u i (omega arith)
+
+  record Holds (s : State) (now before : ℕ → Q .Car) : Type 0 where
+    currentHolds : (t : ℕ) → entries m pos (s .current) t ≡ now t
+    previousHolds : (t : ℕ) → entries m pos (s .previous) t ≡ before t
+
+  adjointStep-pairing : (j : ℕ) (s : State) → Holds s (W (suc j)) (W j) → Holds (adjointStep f j s) (W (suc (suc j))) (W (suc j))
+  unfolding adjointStep adjointEntry
+  adjointStep-pairing j s e = record {
+    currentHolds = entries-table m pos (size f) _ (W (suc (suc j)))
+        (λ t h. simp (res-mod m pos, res-add m pos, res-mul m pos, e .currentHolds, e .previousHolds) (sym (pairing-follows Q (size f) (entries m pos u) ends ρ j t)))
+        (pairing-past Q (size f) (entries m pos u) ends (term Q ρ (suc (suc j))));
+    previousHolds = e .currentHolds;
+  }
+
+  adjointState-pairing : (j : ℕ) → Holds (adjointState f u j) (W (suc j)) (W j)
+  unfolding adjointState
+  adjointState-pairing zero = record {
+    currentHolds = λ t. sym (pairing-one Q (size f) (entries m pos u) ends ρ t);
+    previousHolds = λ t. entries-zeros m pos (size f) t ∙ sym (pairing-none Q (size f) (entries m pos u) ρ t);
+  }
+  adjointState-pairing (suc j) = adjointStep-pairing j (adjointState f u j) (adjointState-pairing j)
+
+  pub plainAdjoint-curve : Curve f (plainAdjoint f u)
+  unfolding plainAdjoint
+  plainAdjoint-curve = table-curve f _ (λ j h. adjointState-curves f pos u cu j .currentCurve .below 0 (omega arith))
+
+  pub plainAdjoint-adjoint : plainAdjoint f u ≡ adjoint f u
+  unfolding plainAdjoint
+  plainAdjoint-adjoint = curves-equal-residues f (plainAdjoint f u) (adjoint f u) plainAdjoint-curve (adjoint-curve f pos u) pos
+      (λ j h. ap (res m pos) (table-entry (size f) _ j 0 h) ∙ adjointState-pairing j .currentHolds 0
+      ∙ pairing-start Q (size f) (entries m pos u) (term Q ρ (suc j)) ∙ sym (entries-adjoint f pos u j h))

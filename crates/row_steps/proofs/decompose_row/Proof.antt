@@ -1,0 +1,108 @@
+-- `decompose_row` meets its contract: the laws of `DecomposeRow` at the loop. The measure is what is left of the count.
+-- Assumes nothing.
+use Prim.Native.Nat.{_-_}
+use native.Mathlib.Omega.{arith}
+use borrow.Author.Needs.{needs}
+use Rattle.row_steps.specs.DecomposeRow.{Multiplying, multiplying-starts, multiplying-summands, multiplying-next, multiplying-ends}
+use Rattle.row_steps.proofs.decompose_row.Statement.{statement}
+use Rattle.row_steps.proofs.decompose_row.Tie as tie
+
+abbrev Inv-loop : tie.InvT-loop
+Inv-loop m p rise stay fall current₀ count reciprocal constant₀ lead₀ previous₀ i₀ current constant lead previous i =
+    Multiplying m p rise stay fall current₀ count current constant lead previous i
+
+abbrev μ-loop : tie.MeasureT-loop
+μ-loop m p rise stay fall current₀ count reciprocal constant₀ lead₀ previous₀ i₀ current constant lead previous i = count - i
+
+reciprocal-requires : tie.Need-reciprocal-requires Inv-loop μ-loop
+reciprocal-requires c κs = omega (arith, c .before .before .before .before .pre .pBelow)
+
+loop-holds : tie.Need-loop-holds Inv-loop μ-loop
+loop-holds c = multiplying-starts _ _ _ _ _ _ _ (c .before .before .before .before .before .pre)
+
+mul-here : tie.Need-mul-here Inv-loop μ-loop
+mul-here c = omega arith
+
+slice-read-here : tie.Need-slice-read-here Inv-loop μ-loop
+slice-read-here c = omega arith
+
+add-entry : tie.Need-add-entry Inv-loop μ-loop
+add-entry c = omega arith
+
+entry-requires : tie.Need-entry-requires Inv-loop μ-loop
+entry-requires c κs = search needs
+
+add-entry-2 : tie.Need-add-entry-2 Inv-loop μ-loop
+add-entry-2 c = omega arith
+
+entry-requires-2 : tie.Need-entry-requires-2 Inv-loop μ-loop
+entry-requires-2 c κs = search needs
+
+mul-combine : tie.Need-mul-combine Inv-loop μ-loop
+mul-combine c = omega arith
+
+shared-slice-read-combine : tie.Need-shared-slice-read-combine Inv-loop μ-loop
+shared-slice-read-combine c = omega arith
+
+combine-requires : tie.Need-combine-requires Inv-loop μ-loop
+combine-requires c κs =
+    (multiplying-summands _ _ _ _ _ _ _ (c .before .before .before .before .before .before .before .before .before .before .before .before .pre) _ _ _ _ _ (c .before .before .before .before .before .loop-test .taken) (c .before .before .before .before .before .before .loop .inv) _ _ (c .before .entry2 .ensures) (c .before .before .entry .ensures), c .before .before .before .before .before .before .before .reciprocal .ensures)
+
+mul-current : tie.Need-mul-current Inv-loop μ-loop
+mul-current c = omega arith
+
+slice-write-current : tie.Need-slice-write-current Inv-loop μ-loop
+slice-write-current c = omega arith
+
+mul-lead : tie.Need-mul-lead Inv-loop μ-loop
+mul-lead c = omega arith
+
+shared-slice-read-lead : tie.Need-shared-slice-read-lead Inv-loop μ-loop
+shared-slice-read-lead c = omega arith
+
+add-i : tie.Need-add-i Inv-loop μ-loop
+add-i c = omega arith
+
+loop-less : tie.Need-loop-less Inv-loop μ-loop
+loop-less c = omega arith
+
+loop-again : tie.Need-loop-again Inv-loop μ-loop
+loop-again c =
+    multiplying-next _ _ _ _ _ _ _
+    (c .before .before .before .before .before .before .before .before .before .before .before .before .before .before .pre) _ _ _ _ _
+    (c .before .before .before .before .before .before .before .loop-test .taken)
+    (c .before .before .before .before .before .before .before .before .loop .inv) _ _ (c .before .before .before .entry2 .ensures)
+    (c .before .before .before .before .entry .ensures) _ (c .before .combine .ensures)
+
+same-length : tie.Need-same-length Inv-loop μ-loop
+same-length c = c .before .loop .inv .filling .sameLength
+
+returns : tie.Need-returns Inv-loop μ-loop
+returns c = multiplying-ends _ _ _ _ _ _ _ _ _ _ _ _ (c .loop-test .left) (c .before .loop .inv)
+
+pub decompose-row-spec : {M : Type 1} → statement M
+decompose-row-spec =
+    tie.close
+    (tie.spec
+    Inv-loop
+    μ-loop
+    reciprocal-requires
+    loop-holds
+    mul-here
+    slice-read-here
+    add-entry
+    entry-requires
+    add-entry-2
+    entry-requires-2
+    mul-combine
+    shared-slice-read-combine
+    combine-requires
+    mul-current
+    slice-write-current
+    mul-lead
+    shared-slice-read-lead
+    add-i
+    loop-less
+    loop-again
+    same-length
+    returns)

@@ -1,0 +1,1 @@
+// Writing and reading texts: no code, only the laws of specs/.

@@ -1,0 +1,1 @@
+// The tree way as a model on lists: no code, only the model and laws of specs/.
