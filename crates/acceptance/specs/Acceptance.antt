@@ -2,11 +2,9 @@
 --   PlainInput, TreeInput, MomentsInput, NormsInput, InverseInput
 --                 what a call of that kind accepts: of family, curve, number, output and working list
 -- Proved: none of a call's tests holds (`-passes`), and its verdict is finished (`-finished`), if and only if its input is of that
--- kind; each row of an accepted family passes, the rows past its end as well; an accepted family is convertible; the closing row
--- 1 1 1 passes for every modulus.
+-- kind; each row of an accepted family passes, the rows past its end as well; an accepted family is convertible.
 -- Assumes nothing.
-use mathlib.Core.Path.{_≡_}
-use mathlib.Core.Bool.{false}
+use mathlib.Core.Path.{_≡_, refl, sym}
 use mathlib.Core.List.{List, [], _∷_, _++_}
 use mathlib.Core.Logic.{_↔_, Iff·trans, by-cases}
 use Prim.Native.Nat.{ℕ, suc, _<_, _≤_}
@@ -14,43 +12,40 @@ use native.Mathlib.Decide.{decLt}
 use native.Mathlib.Omega.{arith}
 use lib.ListN.{length, List·getD-eq-default}
 use Rattle.definitions.specs.Number.{HasInverse}
-use Rattle.definitions.specs.Family.{Family, family, Modulus, Accepted, AcceptedRow, Convertible, Curve, rows, rowAt, size}
+use Rattle.definitions.specs.Family.{Family, Modulus, RowBelow, Accepted, Convertible, Curve, firstC, rows, rowAt, size}
 use Rattle.definitions.specs.Orthogonality.{momentCount}
-use Rattle.definitions.specs.Refusals.{Test, finished, verdict, workLength, modulusTest, lengthsTest, rowCountTest, curveLengthTest, outputTest, workTest, entriesTest, aInverseTest, cInverseTest, curveEntriesTest, plainTests, treeTests, momentsTests, normsTests, inverseTests}
-use Rattle.numbers.specs.Inverse.{one-has-inverse}
+use Rattle.definitions.specs.Refusals.{Test, finished, verdict, workLength, curveLengthTest, outputTest, workTest, curveEntriesTest, shapeTests, familyShape, familyRows, plainTests, treeTests, momentsTests, normsTests, inverseTests}
 use Rattle.acceptance.specs.Verdicts.{None, none-append, verdict-finished, modulus-passes, lengths-pass, row-count-passes, entries-pass, a-inverses-pass, c-inverses-pass, curve-length-passes, curve-entries-pass, output-passes, work-passes, number-passes, number-inverse-passes}
 
-pub closing-accepted : (m : ℕ) → 2 ≤ m → AcceptedRow m (record { a = 1; b = 1; c = 1 })
-closing-accepted m h = record { aBelow = h; bBelow = h; cBelow = h; aInverse = one-has-inverse m h; cInverse = one-has-inverse m h }
-
--- rows past the end are the closing row
+-- rows past the end are the closing row, which is row n
 module _ (f : Family) (acc : Accepted f) where
   pub row-closing : (i : ℕ) → rows f ≤ i → rowAt f i ≡ f .close
   unfolding rowAt
   row-closing i h =
       let lb : length (f .b) ≡ rows f = acc .bLength in
       let lc : length (f .c) ≡ rows f = acc .cLength in
-      rw (List·getD-eq-default (f .a) (f .close .a) {n = i} h, List·getD-eq-default (f .b) (f .close .b) {n = i} (omega arith), List·getD-eq-default (f .c) (f .close .c) {n = i} (omega arith))
+      rw (
+        List·getD-eq-default (f .a) (f .close .a) {n = i} h,
+        List·getD-eq-default (f .b) (f .close .b) {n = i} (omega arith),
+        List·getD-eq-default (f .c) (f .close .c) {n = i} (omega arith),
+      )
 
-  pub row-accepted : (i : ℕ) → AcceptedRow (f .m) (rowAt f i)
-  row-accepted i = by-cases (decLt i (rows f)) (acc .row i) (λ n. rw (row-closing i (omega arith)) (acc .closing))
+  pub row-below : (i : ℕ) → RowBelow (f .m) (rowAt f i)
+  row-below i = by-cases (decLt i (size f)) (acc .below i)
+      (λ n. rw (row-closing i (omega arith), ← row-closing (rows f) (omega arith)) (acc .below (rows f) (omega arith)))
 
   pub accepted-convertible : Convertible f
   accepted-convertible =
-      record {
-        modulus = acc .modulus .least;
-        aInverse = λ i h. row-accepted i .aInverse;
-        cInverse = λ i h. row-accepted (suc i) .cInverse;
-      }
+      record { modulus = acc .modulus .least; aInverse = acc .aInverse; cInverse = λ i h. acc .cInverse (suc i) (omega arith) (omega arith) }
 
-pub curve-accepted : (f : Family) (u : List ℕ) → None (curveLengthTest f u ∷ curveEntriesTest f u ∷ []) ↔ Curve f u
+pub curve-accepted : (f : Family) (u : List ℕ) → None (curveLengthTest (size f) (length u) ∷ curveEntriesTest f u ∷ []) ↔ Curve f u
 curve-accepted f u = (
   λ n.
-      let long : length u ≡ size f = curve-length-passes f u .0 (n .0) in
+      let long : length u ≡ size f = curve-length-passes (size f) (length u) .0 (n .0) in
       record { long = long; below = λ i h. curve-entries-pass f u 0 .0 (n .1 .0) i (omega arith) },
   λ curve.
       let long : length u ≡ size f = curve .long in
-      (curve-length-passes f u .1 long, (curve-entries-pass f u 0 .1 (λ i h. curve .below i (omega arith)), tt)),
+      (curve-length-passes (size f) (length u) .1 long, (curve-entries-pass f u 0 .1 (λ i h. curve .below i (omega arith)), tt)),
 )
 
 -- what each call accepts; lengths of output and working list are numbers
@@ -77,102 +72,99 @@ pub record InverseInput (m x : ℕ) : Type 0 where
   pub below : x < m
   pub hasInverse : HasInverse m x
 
-module _ (m : ℕ) (a b c : List ℕ) where
-  abbrev f : Family
-  f = family m a b c
-
-  abbrev writersTests : List Test
-  writersTests = modulusTest m ∷ lengthsTest f ∷ rowCountTest f ∷ []
-
-  abbrev makersTests : List Test
-  makersTests = entriesTest f ∷ aInverseTest f ∷ cInverseTest f ∷ []
-
-  family-passes : (None writersTests × None makersTests) ↔ Accepted f
-  unfolding rowAt
+module _ (f : Family) where
+  pub family-passes : (None (familyShape f) × None (familyRows f)) ↔ Accepted f
+  unfolding shapeTests familyRows
   family-passes = (to, from)
     where
-      to : None writersTests × None makersTests → Accepted f
+      to : None (familyShape f) × None (familyRows f) → Accepted f
       to ((e3, (e4, (e5, done))), (e9, (e10, (e11, done′)))) =
-          let modulus : Modulus m = modulus-passes m .0 e3 in
-          let lengths : (length b ≡ length a) × (length c ≡ length a) = lengths-pass f .0 e4 in
-          let below = entries-pass f 1 1 1 .0 e9 in
-          let h : 0 < m = omega arith in
+          let modulus : Modulus (f .m) = modulus-passes (f .m) .0 e3 in
+          let lengths = lengths-pass (rows f) (length (f .b)) (length (f .c)) .0 e4 in
+          let two : 2 ≤ f .m = modulus .least in
           record {
             modulus = modulus;
             bLength = lengths .0;
             cLength = lengths .1;
-            rowCount = row-count-passes f .0 e5;
-            row = λ i l.
-                record {
-                  aBelow = below .0 i l;
-                  bBelow = below .1 i (omega arith);
-                  cBelow = below .2 i (omega arith);
-                  aInverse = a-inverses-pass f 1 h .0 e10 i l;
-                  cInverse = c-inverses-pass f 1 h .0 e11 i (omega arith);
-                };
-            closing = closing-accepted m (modulus .least);
+            rowCount = row-count-passes (rows f) .0 e5;
+            below = entries-pass f .0 e9;
+            aInverse = a-inverses-pass f (omega arith) .0 e10;
+            cInverse = c-inverses-pass f (omega arith) firstC .0 e11;
           }
 
-      from : Accepted f → None writersTests × None makersTests
+      from : Accepted f → None (familyShape f) × None (familyRows f)
       from acc =
-          let lb : length b ≡ length a = acc .bLength in
-          let lc : length c ≡ length a = acc .cLength in
-          let two : 2 ≤ m = acc .modulus .least in
-          let h : 0 < m = omega arith in (
-            (modulus-passes m .1 (acc .modulus), (lengths-pass f .1 (lb, lc), (row-count-passes f .1 (acc .rowCount), tt))),
+          let two : 2 ≤ f .m = acc .modulus .least in (
             (
-              entries-pass f 1 1 1 .1
-                  (λ i l. acc .row i l .aBelow, λ i l. acc .row i (omega arith) .bBelow, λ i l. acc .row i (omega arith) .cBelow),
+              modulus-passes (f .m) .1 (acc .modulus),
               (
-                a-inverses-pass f 1 h .1 (λ i l. acc .row i l .aInverse),
-                (c-inverses-pass f 1 h .1 (λ i l. acc .row i (omega arith) .cInverse), tt),
+                lengths-pass (rows f) (length (f .b)) (length (f .c)) .1 (acc .bLength, acc .cLength),
+                (row-count-passes (rows f) .1 (acc .rowCount), tt),
+              ),
+            ),
+            (
+              entries-pass f .1 (acc .below),
+              (
+                a-inverses-pass f (omega arith) .1 (acc .aInverse),
+                (c-inverses-pass f (omega arith) firstC .1 (acc .cInverse), tt),
               ),
             ),
           )
 
-  -- a call on a family makes those six tests, with others between and after
-  call-passes : (between after : List Test) → None (writersTests ++ between ++ makersTests ++ after) ↔ (Accepted f × None between × None after)
+  -- a call on a family makes those two stages, with other tests between and after
+  pub call-passes : (between after : List Test) → None (familyShape f ++ (between ++ (familyRows f ++ after)))
+      ↔ (Accepted f × None between × None after)
   call-passes between after = simp (none-append, ← family-passes)
-      (λ p. ((p .0 .0 .0, p .0 .1), p .0 .0 .1, p .1), λ p. (((p .0 .0, p .1), p .0 .1), p .2))
+      (λ p. ((p .0, p .1 .1 .0), p .1 .0, p .1 .1 .1), λ p. (p .0 .0, (p .1, (p .0 .1, p .2))))
 
   pub plain-passes : (u : List ℕ) (output : ℕ) → None (plainTests f u output) ↔ PlainInput f u output
   unfolding plainTests
-  plain-passes u output = Iff·trans (call-passes (curveLengthTest f u ∷ outputTest (size f) output ∷ []) (curveEntriesTest f u ∷ []))
+  plain-passes u output =
+      Iff·trans (call-passes (curveLengthTest (size f) (length u) ∷ outputTest (size f) output ∷ []) (curveEntriesTest f u ∷ []))
       (simp output-passes (
         λ p. record { accepted = p .0; curve = curve-accepted f u .0 (p .1 .0, p .2); outputLength = p .1 .1 .0 },
         λ p. let curve = curve-accepted f u .1 (p .curve) in (p .accepted, (curve .0, (p .outputLength, tt)), curve .1),
       ))
 
   pub tree-passes : (u : List ℕ) (output work : ℕ) → None (treeTests f u output work) ↔ TreeInput f u output work
-  unfolding treeTests plainTests
-  tree-passes u output work = (to, λ p. from (plain-passes u output .1 (p .plain)) (work-passes work .1 (p .workLong)))
-    where
-      to : None (treeTests f u output work) → TreeInput f u output work
-      to (e3, (e4, (e5, (e6, (e7, (e8, rest)))))) =
-          record { plain = plain-passes u output .0 (e3, (e4, (e5, (e6, (e7, rest))))); workLong = work-passes work .0 e8 }
-
-      from : None (plainTests f u output) → workTest work .holds ≡ false → None (treeTests f u output work)
-      from (e3, (e4, (e5, (e6, (e7, rest))))) e8 = (e3, (e4, (e5, (e6, (e7, (e8, rest))))))
+  unfolding treeTests
+  tree-passes u output work =
+      Iff·trans (call-passes (curveLengthTest (size f) (length u) ∷ outputTest (size f) output ∷ workTest work ∷ []) (curveEntriesTest f u ∷ []))
+      (simp (output-passes, work-passes) (
+        λ p.
+            record {
+              plain = record { accepted = p .0; curve = curve-accepted f u .0 (p .1 .0, p .2); outputLength = p .1 .1 .0 };
+              workLong = p .1 .1 .1 .0;
+            },
+        λ p.
+            let curve = curve-accepted f u .1 (p .plain .curve) in
+            (p .plain .accepted, (curve .0, (p .plain .outputLength, (p .workLong, tt))), curve .1),
+      ))
 
   pub moments-passes : (output work : ℕ) → None (momentsTests f output work) ↔ MomentsInput f output work
   unfolding momentsTests
-  moments-passes output work = Iff·trans (call-passes (outputTest (momentCount f) output ∷ workTest work ∷ []) [])
-      (simp (output-passes, work-passes)
-      (λ p. record { accepted = p .0; outputLength = p .1 .0; workLong = p .1 .1 .0 }, λ p. (p .accepted, (p .outputLength, (p .workLong, tt)), tt)))
+  moments-passes output work = simp (none-append, output-passes, work-passes) (
+    λ p. record { accepted = family-passes .0 (p .0, p .1 .1 .1); outputLength = p .1 .0; workLong = p .1 .1 .0 },
+    λ p. let family = family-passes .1 (p .accepted) in (family .0, (p .outputLength, (p .workLong, family .1))),
+  )
 
   pub norms-passes : (output : ℕ) → None (normsTests f output) ↔ NormsInput f output
   unfolding normsTests
-  norms-passes output = Iff·trans (call-passes (outputTest (size f) output ∷ []) [])
-      (simp output-passes (λ p. record { accepted = p .0; outputLength = p .1 .0 }, λ p. (p .accepted, (p .outputLength, tt), tt)))
+  norms-passes output = simp (none-append, output-passes) (
+    λ p. record { accepted = family-passes .0 (p .0, p .1 .1); outputLength = p .1 .0 },
+    λ p. let family = family-passes .1 (p .accepted) in (family .0, (p .outputLength, family .1)),
+  )
 
-  pub plain-finished : (u : List ℕ) (output : ℕ) (values : List ℕ) → (verdict (plainTests f u output) values ≡ finished values) ↔ PlainInput f u output
+  pub plain-finished : (u : List ℕ) (output : ℕ) (values : List ℕ)
+      → (verdict (plainTests f u output) values ≡ finished values) ↔ PlainInput f u output
   plain-finished u output values = Iff·trans (verdict-finished (plainTests f u output) values) (plain-passes u output)
 
   pub tree-finished : (u : List ℕ) (output work : ℕ) (values : List ℕ)
       → (verdict (treeTests f u output work) values ≡ finished values) ↔ TreeInput f u output work
   tree-finished u output work values = Iff·trans (verdict-finished (treeTests f u output work) values) (tree-passes u output work)
 
-  pub moments-finished : (output work : ℕ) (values : List ℕ) → (verdict (momentsTests f output work) values ≡ finished values) ↔ MomentsInput f output work
+  pub moments-finished : (output work : ℕ) (values : List ℕ)
+      → (verdict (momentsTests f output work) values ≡ finished values) ↔ MomentsInput f output work
   moments-finished output work values = Iff·trans (verdict-finished (momentsTests f output work) values) (moments-passes output work)
 
   pub norms-finished : (output : ℕ) (values : List ℕ) → (verdict (normsTests f output) values ≡ finished values) ↔ NormsInput f output

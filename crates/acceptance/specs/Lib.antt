@@ -1,3 +1,5 @@
--- The tests of the calls as plain facts, and what a call that finishes has been lent. Assumes nothing.
+-- The tests of the calls as plain facts, how they are made stage by stage, and what a call that finishes has been lent.
+-- Assumes nothing.
 pub mod Verdicts
+pub mod Stages
 pub mod Acceptance

@@ -5,19 +5,19 @@
 -- whether it is; of each test, that it does not hold is a plain fact about lengths, entries or inverses, and the fact is that it does
 -- not hold.
 -- Assumes nothing.
-use mathlib.Core.Path.{_≡_, refl, sym, _∙_, ap}
+use mathlib.Core.Path.{_≡_, refl, sym, _∙_, ap, subst}
 use mathlib.Core.Bool.{Bool, true, false, not, _||_, not-eq-not, true≢false}
 use mathlib.Core.List.{List, [], _∷_, _++_}
-use mathlib.Core.Logic.{_↔_, Iff·rfl, Iff·trans}
-use Prim.Native.Nat.{ℕ, zero, suc, _*_, _%_, _<_, _≤_}
-use native.Mathlib.Nat.{le-of-suc-le-suc}
+use mathlib.Core.Logic.{_↔_, Iff·rfl, Iff·trans, ⊎-elim}
+use Prim.Native.Nat.{ℕ, zero, suc, _+_, _*_, _-_, _%_, _<_, _≤_}
+use native.Mathlib.Nat.{le-of-suc-le-suc, eq-or-lt-of-le}
 use native.Mathlib.Omega.{arith}
 use lib.Dec.{eqb, ltb}
 use lib.ListN.{length, getD}
 use borrow.Author.Tests.{eq-eqb, eqb-true, le-ltb, leb-false, lt-leb, ltb-false, not-false}
 use Rattle.definitions.specs.Number.{HasInverse, inverse}
-use Rattle.definitions.specs.Family.{Family, Modulus, mostRows, rows, size}
-use Rattle.definitions.specs.Refusals.{Test, Verdict, finished, refused, verdict, some, differ, notBelow, noInverse, workLength, modulusTest, lengthsTest, rowCountTest, curveLengthTest, outputTest, workTest, entriesTest, aInverseTest, cInverseTest, curveEntriesTest, numberTest, numberInverseTest}
+use Rattle.definitions.specs.Family.{Row, Family, Modulus, RowBelow, mostRows, size, rowAt}
+use Rattle.definitions.specs.Refusals.{Test, Verdict, finished, refused, verdict, some, someFrom, someRow, differ, notBelow, noInverse, workLength, modulusTest, lengthsTest, rowCountTest, curveLengthTest, outputTest, workTest, entriesTest, aInverseTest, cInverseTest, curveEntriesTest, numberTest, numberInverseTest}
 use Rattle.numbers.specs.Inverse.{inverse-right}
 use Rattle.numbers.specs.Lists.{Each}
 
@@ -132,6 +132,41 @@ some-false passes (x ∷ xs) d = split (passes x) refl (some-false passes xs d)
 pub some-true : (passes : ℕ → Bool) (xs : List ℕ) (i d : ℕ) → i < length xs → passes (getD xs i d) ≡ true → some passes xs ≡ true
 some-true passes xs i d h e = not-eq-not {a = some passes xs} {b = true} .0 (λ none. true≢false (sym e ∙ some-false passes xs d .0 none i h))
 
+-- the tests of numbers and of rows from a place on
+from-here : (passes : ℕ → Bool) (first count : ℕ) → passes first ≡ true → someFrom passes first (suc count) ≡ true
+unfolding someFrom
+from-here passes first count e = rw (e, someFrom)
+
+from-next : (passes : ℕ → Bool) (first count : ℕ) → passes first ≡ false → someFrom passes first (suc count) ≡ someFrom passes (suc first) count
+unfolding someFrom
+from-next passes first count e = rw (e, someFrom)
+
+abbrev Within : (ℕ → Bool) → ℕ → ℕ → Type 0
+Within passes first count = (i : ℕ) → first ≤ i → i < first + count → passes i ≡ false
+
+someFrom-false : (passes : ℕ → Bool) (first count : ℕ) → (someFrom passes first count ≡ false) ↔ Within passes first count
+unfolding someFrom
+someFrom-false passes first zero = (λ e i l h. absurd (omega arith), λ all. refl)
+someFrom-false passes first (suc count) = split (passes first) refl (someFrom-false passes (suc first) count)
+  where
+    split : (h : Bool) → passes first ≡ h → (someFrom passes (suc first) count ≡ false) ↔ Within passes (suc first) count
+        → (someFrom passes first (suc count) ≡ false) ↔ Within passes first (suc count)
+    split true q rest = (
+      λ e. absurd (true≢false (sym (from-here passes first count q) ∙ e)),
+      λ all. absurd (true≢false (sym q ∙ all first (omega arith) (omega arith))),
+    )
+    split false q rest = rw (from-next passes first count q) (to, λ all. rest .1 (λ i l h. all i (omega arith) (omega arith)))
+      where
+        to : someFrom passes (suc first) count ≡ false → Within passes first (suc count)
+        to e i l h = ⊎-elim (λ (same : first ≡ i). subst (λ k. passes k ≡ false) same q)
+            (λ (more : first < i). rest .0 e i (omega arith) (omega arith)) (eq-or-lt-of-le {n = first} {m = i} l)
+
+pub someRow-false : (f : Family) (first : ℕ) (passes : Row → Bool)
+    → (someRow f first passes ≡ false) ↔ ((i : ℕ) → first ≤ i → i < size f → passes (rowAt f i) ≡ false)
+unfolding someRow
+someRow-false f first passes = Iff·trans (someFrom-false (λ i. passes (rowAt f i)) first (size f - first))
+    (λ all i l h. all i l (omega arith), λ all i l h. all i l (omega arith))
+
 module _ (m : ℕ) (xs : List ℕ) (d : ℕ) where
   pub some-notBelow-false : (some (notBelow m) xs ≡ false) ↔ Each (λ x. x < m) xs d
   some-notBelow-false = simp (some-false (notBelow m) xs d, notBelow-false) Iff·rfl
@@ -165,33 +200,47 @@ pub number-inverse-passes : (m x : ℕ) → 0 < m → (numberInverseTest m x .ho
 unfolding numberInverseTest
 number-inverse-passes m x h = noInverse-false m x h
 
+pub lengths-pass : (a b c : ℕ) → (lengthsTest a b c .holds ≡ false) ↔ ((b ≡ a) × (c ≡ a))
+unfolding lengthsTest
+lengths-pass a b c = simp (or-false, differ-false) Iff·rfl
+
+pub row-count-passes : (rows : ℕ) → (rowCountTest rows .holds ≡ false) ↔ (rows ≤ mostRows)
+unfolding rowCountTest
+row-count-passes rows = ltb-fails mostRows rows
+
+pub curve-length-passes : (wanted curve : ℕ) → (curveLengthTest wanted curve .holds ≡ false) ↔ (curve ≡ wanted)
+unfolding curveLengthTest
+curve-length-passes wanted curve = differ-false curve wanted
+
 module _ (f : Family) where
-  pub lengths-pass : (lengthsTest f .holds ≡ false) ↔ ((length (f .b) ≡ rows f) × (length (f .c) ≡ rows f))
-  unfolding lengthsTest
-  lengths-pass = simp (or-false, differ-false) Iff·rfl
-
-  pub row-count-passes : (rowCountTest f .holds ≡ false) ↔ (rows f ≤ mostRows)
-  unfolding rowCountTest
-  row-count-passes = ltb-fails mostRows (rows f)
-
-  pub entries-pass : (d e g : ℕ) → (entriesTest f .holds ≡ false)
-      ↔ (Each (λ x. x < f .m) (f .a) d × Each (λ x. x < f .m) (f .b) e × Each (λ x. x < f .m) (f .c) g)
+  pub entries-pass : (entriesTest f .holds ≡ false) ↔ ((i : ℕ) → i < size f → RowBelow (f .m) (rowAt f i))
   unfolding entriesTest
-  entries-pass d e g =
-      simp (or-false, some-notBelow-false (f .m) (f .a) d, some-notBelow-false (f .m) (f .b) e, some-notBelow-false (f .m) (f .c) g)
-      (λ p. (p .0 .0, p .0 .1, p .1), λ p. ((p .0, p .1), p .2))
+  entries-pass = Iff·trans (someRow-false f 0 _) (
+    λ all i h. below (rowAt f i) .0 (all i (omega arith) h),
+    λ all i l h. below (rowAt f i) .1 (all i h),
+  )
+    where
+      below : (row : Row) → ((notBelow (f .m) (row .a) || notBelow (f .m) (row .b) || notBelow (f .m) (row .c)) ≡ false) ↔ RowBelow (f .m) row
+      below row = simp (or-false, notBelow-false) (
+        λ p. record { aBelow = p .0 .0; bBelow = p .0 .1; cBelow = p .1 },
+        λ h. ((h .aBelow, h .bBelow), h .cBelow),
+      )
 
-  pub a-inverses-pass : (d : ℕ) → 0 < f .m → (aInverseTest f .holds ≡ false) ↔ Each (HasInverse (f .m)) (f .a) d
-  unfolding aInverseTest
-  a-inverses-pass d h = some-noInverse-false (f .m) (f .a) d h
+  module _ (pos : 0 < f .m) where
+    pub a-inverses-pass : (aInverseTest f .holds ≡ false) ↔ ((i : ℕ) → i < size f → HasInverse (f .m) (rowAt f i .a))
+    unfolding aInverseTest
+    a-inverses-pass = Iff·trans (someRow-false f 0 _) (
+      λ all i h. noInverse-false (f .m) (rowAt f i .a) pos .0 (all i (omega arith) h),
+      λ all i l h. noInverse-false (f .m) (rowAt f i .a) pos .1 (all i h),
+    )
 
-  pub c-inverses-pass : (d : ℕ) → 0 < f .m → (cInverseTest f .holds ≡ false) ↔ Each (HasInverse (f .m)) (f .c) d
-  unfolding cInverseTest
-  c-inverses-pass d h = some-noInverse-false (f .m) (f .c) d h
-
-  pub curve-length-passes : (u : List ℕ) → (curveLengthTest f u .holds ≡ false) ↔ (length u ≡ size f)
-  unfolding curveLengthTest
-  curve-length-passes u = differ-false (length u) (size f)
+    pub c-inverses-pass : (first : ℕ) → (cInverseTest first f .holds ≡ false)
+        ↔ ((i : ℕ) → first ≤ i → i < size f → HasInverse (f .m) (rowAt f i .c))
+    unfolding cInverseTest
+    c-inverses-pass first = Iff·trans (someRow-false f first _) (
+      λ all i l h. noInverse-false (f .m) (rowAt f i .c) pos .0 (all i l h),
+      λ all i l h. noInverse-false (f .m) (rowAt f i .c) pos .1 (all i l h),
+    )
 
   pub curve-entries-pass : (u : List ℕ) (d : ℕ) → (curveEntriesTest f u .holds ≡ false) ↔ Each (λ x. x < f .m) u d
   unfolding curveEntriesTest

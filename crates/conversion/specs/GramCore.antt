@@ -9,7 +9,7 @@ use lib.ListN.{length, getD, take, drop, replicate, drop-of-length-le}
 use lib.Seq.{take-all}
 use Rattle.definitions.specs.Answers.{answered}
 use Rattle.definitions.specs.Conversion.{decompose}
-use Rattle.definitions.specs.Family.{Family, Accepted, family, rowAt}
+use Rattle.definitions.specs.Family.{Family, Accepted, family, rowAt, rowOf}
 use Rattle.definitions.specs.Number.{HasInverse, inverse}
 use Rattle.definitions.specs.Orthogonality.{moments}
 use Rattle.definitions.specs.Refusals.{verdict, momentsTests}
@@ -17,7 +17,6 @@ use Rattle.definitions.specs.declared.Answer.{Answer}
 use Rattle.acceptance.specs.Acceptance as Acceptance
 use Rattle.numbers.specs.Lists.{getD-default, filled}
 use Rattle.plain.specs.Input.{closedRows, Holds, InversesOf}
-use Rattle.subproduct.specs.Leaf.{rowOf}
 use Rattle.tree.specs.Core.{Output}
 use Rattle.moment_way.specs.Input.{ClosedInput, LeadingInput, NormInput, MomentsInput, DecomposeInput}
 use Rattle.conversion.specs.Inverted as Inverted

@@ -3,12 +3,15 @@
 --   after v new old        what a lent list holds after the verdict v: new if finished, what it held if refused
 --   cleared work           the working list after an accepted call: 16,384 zeros and then what it held
 --   Converted              the promise of a call without a working list;  ConvertedIn  of a call with one
+--   PlainCall, TreeCall    of Expand, Adjoint and Decompose, by the plain way and by the tree way;  NormsCall, MomentsCall
 -- The scope paper, 'Who causes which refusal' and the working list of 'The definitions'. Assumes nothing.
 use mathlib.Core.Path.{_≡_}
 use mathlib.Core.List.{List, [], _∷_, _++_}
 use Prim.Native.Nat.{ℕ}
-use lib.ListN.{drop, replicate}
-use Rattle.definitions.specs.Refusals.{Test, Verdict, finished, refused, verdict, workLength}
+use lib.ListN.{length, drop, replicate}
+use Rattle.definitions.specs.Family.{Family}
+use Rattle.definitions.specs.Orthogonality.{moments, norms}
+use Rattle.definitions.specs.Refusals.{Test, Verdict, finished, refused, verdict, workLength, plainTests, treeTests, momentsTests, normsTests}
 use Rattle.definitions.specs.declared.Answer.{Answer}
 use Rattle.definitions.specs.declared.Valued.{Valued}
 
@@ -36,3 +39,18 @@ pub record ConvertedIn (tests : List Test) (result : List ℕ) (r : Answer) (out
   pub answer : answered r ≡ verdict tests []
   pub written : output′ ≡ after (answered r) result output
   pub wiped : work′ ≡ after (answered r) (cleared work) work
+
+-- the calls on a family f; convert is the definition of the conversion
+abbrev pub PlainCall : (Family → List ℕ → List ℕ) → Family → List ℕ → Answer → List ℕ → List ℕ → Type 0
+PlainCall convert f u r output output′ = Converted (plainTests f u (length output)) (convert f u) r output output′
+
+abbrev pub TreeCall : (Family → List ℕ → List ℕ) → Family → List ℕ → Answer → List ℕ → List ℕ → List ℕ → List ℕ → Type 0
+TreeCall convert f u r output output′ work work′ =
+    ConvertedIn (treeTests f u (length output) (length work)) (convert f u) r output output′ work work′
+
+abbrev pub NormsCall : Family → Answer → List ℕ → List ℕ → Type 0
+NormsCall f r output output′ = Converted (normsTests f (length output)) (norms f) r output output′
+
+abbrev pub MomentsCall : Family → Answer → List ℕ → List ℕ → List ℕ → List ℕ → Type 0
+MomentsCall f r output output′ work work′ =
+    ConvertedIn (momentsTests f (length output) (length work)) (moments f) r output output′ work work′

@@ -5,8 +5,8 @@
 --   F f j i        the coefficient of x^i in F_j; G f j i the same of G_j
 --   Accepted f     what the paper accepts;  Convertible f  the fewer inverses that the laws need
 --   Curve f u      u is a list of n numbers below m
--- Row i of the paper, i = 1 to r, stands at place i - 1. Rows r and higher read as the closing row, so that F_j is there for
--- every j. The scope paper, 'Channel, family, curve' and 'The definitions'. Assumes nothing.
+-- Row i of the paper, i = 1 to n, stands at place i - 1: the closing row is row n. Places n - 1 and higher read as the closing row, so
+-- that F_j is there for every j. The scope paper, 'Channel, family, curve' and 'The definitions'. Assumes nothing.
 use mathlib.Core.Path.{_≡_}
 use mathlib.Core.List.{List}
 use Prim.Native.Nat.{ℕ, zero, suc, _+_, _*_, _%_, _<_, _≤_}
@@ -28,6 +28,9 @@ pub record Row : Type 0 where
   pub b : ℕ
   pub c : ℕ
 
+abbrev pub rowOf : ℕ → ℕ → ℕ → Row
+rowOf a b c = record { a = a; b = b; c = c }
+
 pub record Family : Type 0 where
   pub m : ℕ
   pub a : List ℕ
@@ -35,9 +38,12 @@ pub record Family : Type 0 where
   pub c : List ℕ
   pub close : Row
 
--- the family of the three lists, closed by the paper's closing row 1 1 1
+-- the paper's closing row 1 1 1, and the family of three lists that it closes
+abbrev pub ones : Row
+ones = rowOf 1 1 1
+
 abbrev pub family : ℕ → List ℕ → List ℕ → List ℕ → Family
-family m a b c = record { m = m; a = a; b = b; c = c; close = record { a = 1; b = 1; c = 1 } }
+family m a b c = record { m = m; a = a; b = b; c = c; close = ones }
 
 -- r, and n = r + 1
 abbrev pub rows : Family → ℕ
@@ -69,21 +75,24 @@ F f j = term (f .m) (rowAt f) (suc j)
 unfoldable pub G : Family → ℕ → ℕ → ℕ
 G f j = term (f .m) (λ i. rowAt f (suc i)) (suc j)
 
-pub record AcceptedRow (m : ℕ) (row : Row) : Type 0 where
+pub record RowBelow (m : ℕ) (row : Row) : Type 0 where
   pub aBelow : row .a < m
   pub bBelow : row .b < m
   pub cBelow : row .c < m
-  pub aInverse : HasInverse m (row .a)
-  pub cInverse : HasInverse m (row .c)
 
--- 1 1 1 passes as a closing row for every modulus
+-- the place of the first row whose c must have an inverse
+abbrev pub firstC : ℕ
+firstC = 0
+
+-- the entries and the inverses are asked of rows 1 to n; 1 1 1 passes as row n for every modulus
 pub record Accepted (f : Family) : Type 0 where
   pub modulus : Modulus (f .m)
   pub bLength : length (f .b) ≡ rows f
   pub cLength : length (f .c) ≡ rows f
   pub rowCount : rows f ≤ mostRows
-  pub row : (i : ℕ) → i < rows f → AcceptedRow (f .m) (rowAt f i)
-  pub closing : AcceptedRow (f .m) (f .close)
+  pub below : (i : ℕ) → i < size f → RowBelow (f .m) (rowAt f i)
+  pub aInverse : (i : ℕ) → i < size f → HasInverse (f .m) (rowAt f i .a)
+  pub cInverse : (i : ℕ) → firstC ≤ i → i < size f → HasInverse (f .m) (rowAt f i .c)
 
 -- the a of rows 1 to n and the c of rows 2 to n have inverses; c_1 multiplies F_{-1} = 0 only
 pub record Convertible (f : Family) : Type 0 where

@@ -11,7 +11,7 @@ use Rattle.definitions.specs.Number.{sum, table, negative, inverseBelow,
 use Rattle.definitions.specs.Family.{Family, family, size, rowAt, timesX, term, F, G}
 use Rattle.definitions.specs.Conversion.{expand, adjoint, top, lessTop, decomposeBelow, decompose}
 use Rattle.definitions.specs.Orthogonality.{reversal, nextQuotient, quotient, momentCount, moments, signedProduct, norm, norms, product, momentTotal, normTotal}
-use Rattle.definitions.specs.Refusals.{Verdict, finished, refused, verdict, some, differ, notBelow, noInverse, workLength, modulusTest, lengthsTest, rowCountTest, curveLengthTest, outputTest, workTest, entriesTest, aInverseTest, cInverseTest, curveEntriesTest, numberTest, numberInverseTest, plainTests, momentsTests, normsTests, inverseTests}
+use Rattle.definitions.specs.Refusals.{Verdict, finished, refused, verdict, some, someFrom, someRow, differ, notBelow, noInverse, workLength, modulusTest, lengthsTest, rowCountTest, curveLengthTest, outputTest, workTest, entriesTest, aInverseTest, cInverseTest, curveEntriesTest, shapeTests, familyRows, numberTest, numberInverseTest, plainTests, momentsTests, normsTests, inverseTests}
 
 pub data Call : Type 0 where
   Expand : Family → List ℕ → Call
@@ -24,7 +24,7 @@ pub data Call : Type 0 where
 
 -- whoever unfolds it unfolds the definitions that it leads to
 unfoldable pub handed : Call → Verdict
-unfolding sum table negative inverseBelow inverse rowAt timesX term F G expand adjoint top lessTop decomposeBelow decompose reversal nextQuotient quotient moments signedProduct norm norms product momentTotal normTotal verdict some differ notBelow noInverse modulusTest lengthsTest rowCountTest curveLengthTest outputTest workTest entriesTest aInverseTest cInverseTest curveEntriesTest numberTest numberInverseTest plainTests momentsTests normsTests inverseTests
+unfolding sum table negative inverseBelow inverse rowAt timesX term F G expand adjoint top lessTop decomposeBelow decompose reversal nextQuotient quotient moments signedProduct norm norms product momentTotal normTotal verdict some differ notBelow noInverse someFrom someRow modulusTest lengthsTest rowCountTest curveLengthTest outputTest workTest entriesTest aInverseTest cInverseTest curveEntriesTest shapeTests familyRows numberTest numberInverseTest plainTests momentsTests normsTests inverseTests
 handed (Expand f u) = verdict (plainTests f u (size f)) (expand f u)
 handed (Adjoint f u) = verdict (plainTests f u (size f)) (adjoint f u)
 handed (Decompose f p) = verdict (plainTests f p (size f)) (decompose f p)
@@ -68,7 +68,7 @@ figures =
     ∷ []
 
 -- our own: the four-row family both ways; factors that are zero, that equal m and that share a factor with m; two faults at once; the
--- greatest modulus, with no row, since an inverse is searched for by as many steps as the modulus says
+-- greatest modulus, which passes 3, with no curve, so that 6 is given before an inverse is searched for by as many steps as it says
 abbrev pub examples : List Figure
 examples =
     Expand four (1 ∷ 2 ∷ 3 ∷ 4 ∷ 5 ∷ []) gives finished (6 ∷ 31 ∷ 7 ∷ 1 ∷ 20 ∷ [])
@@ -86,8 +86,8 @@ examples =
     ∷ Norms (family 15 (1 ∷ 1 ∷ []) (0 ∷ 0 ∷ []) (1 ∷ 6 ∷ [])) gives refused 11
     ∷ Expand (family 15 (1 ∷ []) (0 ∷ []) (0 ∷ [])) (15 ∷ 15 ∷ []) gives refused 11
     ∷ Expand (family 15 (1 ∷ []) (0 ∷ []) (1 ∷ [])) (15 ∷ 15 ∷ []) gives refused 12
-    ∷ Expand (family 2147483647 [] [] []) (2147483646 ∷ []) gives finished (2147483646 ∷ [])
-    ∷ Expand (family 2147483648 [] [] []) (2147483646 ∷ []) gives refused 3
+    ∷ Expand (family 2147483647 [] [] []) [] gives refused 6
+    ∷ Expand (family 2147483648 [] [] []) [] gives refused 3
     ∷ []
 
 -- a table holds: each call hands out what stands beside it
@@ -101,3 +101,7 @@ figures-hold = refl
 pub examples-hold : Hold examples
 unfolding handed
 examples-hold = refl
+
+pub greatest-expanded : expand (family 2147483647 [] [] []) (2147483646 ∷ []) ≡ 2147483646 ∷ []
+unfolding handed
+greatest-expanded = refl

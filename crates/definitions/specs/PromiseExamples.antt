@@ -8,8 +8,8 @@ use mathlib.Core.List.{List, [], _∷_, _++_}
 use Prim.Native.Nat.{ℕ}
 use lib.ListN.{length, drop, replicate}
 use Rattle.definitions.specs.Conversion.{expand}
-use Rattle.definitions.specs.Refusals.{finished, refused, plainTests, treeTests}
-use Rattle.definitions.specs.Answers.{answered, valued, after, cleared, Converted, ConvertedIn}
+use Rattle.definitions.specs.Refusals.{finished, refused, treeTests}
+use Rattle.definitions.specs.Answers.{answered, valued, after, cleared, PlainCall, TreeCall}
 use Rattle.definitions.specs.Figures.{handed, R}
 use Rattle.definitions.specs.Text.{bytes}
 use Rattle.definitions.specs.TextCall.{reply, TextConverted}
@@ -34,34 +34,33 @@ work = replicate 16384 3 ++ (8 ∷ 9 ∷ [])
 abbrev pub wiped : List ℕ
 wiped = replicate 16384 0 ++ (8 ∷ 9 ∷ [])
 
-pub plain-outcome : Converted (plainTests R curve 3) (expand R curve) Answer.Finished output (1 ∷ 3 ∷ 2 ∷ [])
+pub plain-outcome : PlainCall expand R curve Answer.Finished output (1 ∷ 3 ∷ 2 ∷ [])
 unfolding handed
 plain-outcome = record { answer = refl; written = refl }
 
-pub plain-refusal : Converted (plainTests R past 3) (expand R past) (Answer.Refused 12) output output
+pub plain-refusal : PlainCall expand R past (Answer.Refused 12) output output
 unfolding handed
 plain-refusal = record { answer = refl; written = refl }
 
-pub plain-outcome-only : (r : Answer) (output′ : List ℕ) → Converted (plainTests R curve 3) (expand R curve) r output output′
+pub plain-outcome-only : (r : Answer) (output′ : List ℕ) → PlainCall expand R curve r output output′
     → (answered r ≡ finished []) × (output′ ≡ 1 ∷ 3 ∷ 2 ∷ [])
 unfolding handed
 plain-outcome-only r output′ p = (p .answer, p .written ∙ ap (λ v. after v (expand R curve) output) (p .answer))
 
-pub plain-refusal-only : (r : Answer) (output′ : List ℕ) → Converted (plainTests R past 3) (expand R past) r output output′
+pub plain-refusal-only : (r : Answer) (output′ : List ℕ) → PlainCall expand R past r output output′
     → (answered r ≡ refused 12) × (output′ ≡ output)
 unfolding handed
 plain-refusal-only r output′ p = (p .answer, p .written ∙ ap (λ v. after v (expand R past) output) (p .answer))
 
-pub tree-outcome : ConvertedIn (treeTests R curve 3 (length work)) (expand R curve) Answer.Finished output (1 ∷ 3 ∷ 2 ∷ []) work wiped
+pub tree-outcome : TreeCall expand R curve Answer.Finished output (1 ∷ 3 ∷ 2 ∷ []) work wiped
 unfolding handed treeTests cleared
 tree-outcome = record { answer = refl; written = refl; wiped = refl }
 
-pub tree-refusal : ConvertedIn (treeTests R past 3 (length work)) (expand R past) (Answer.Refused 12) output output work work
+pub tree-refusal : TreeCall expand R past (Answer.Refused 12) output output work work
 unfolding handed treeTests
 tree-refusal = record { answer = refl; written = refl; wiped = refl }
 
-pub tree-outcome-only : (r : Answer) (output′ work′ : List ℕ)
-    → ConvertedIn (treeTests R curve 3 (length work)) (expand R curve) r output output′ work work′
+pub tree-outcome-only : (r : Answer) (output′ work′ : List ℕ) → TreeCall expand R curve r output output′ work work′
     → (answered r ≡ finished []) × (output′ ≡ 1 ∷ 3 ∷ 2 ∷ []) × (work′ ≡ wiped)
 unfolding handed treeTests cleared
 tree-outcome-only r output′ work′ p = (
@@ -70,8 +69,7 @@ tree-outcome-only r output′ work′ p = (
   p .wiped ∙ ap (λ v. after v (cleared work) work) (p .answer),
 )
 
-pub tree-refusal-only : (r : Answer) (output′ work′ : List ℕ)
-    → ConvertedIn (treeTests R past 3 (length work)) (expand R past) r output output′ work work′
+pub tree-refusal-only : (r : Answer) (output′ work′ : List ℕ) → TreeCall expand R past r output output′ work work′
     → (answered r ≡ refused 12) × (output′ ≡ output) × (work′ ≡ work)
 unfolding handed treeTests
 tree-refusal-only r output′ work′ p = (

@@ -104,11 +104,11 @@ pub curves-asked : (askedOf [] ≡ 6 ∷ 6 ∷ 6 ∷ 0 ∷ 0 ∷ []) × (askedOf
 unfolding verdictOn jobText
 curves-asked = (refl, refl)
 
--- no rows, and so no search for an inverse
+-- no curve, so that 6 is given before an inverse is searched for
 abbrev pub ofModulus : String → List ℕ
-ofModulus m = bytes "mod=" ++ (bytes m ++ bytes "\na=\nb=\nc=\nop=expand\nv=2147483646\n")
+ofModulus m = bytes "mod=" ++ (bytes m ++ bytes "\na=\nb=\nc=\nop=expand\nv=\n")
 
-pub greatest-written : (verdictOn (ofModulus "2147483647") textOutputLength workLength ≡ finished (bytes "op=expand\nout=2147483646\n"))
+pub greatest-written : (verdictOn (ofModulus "2147483647") textOutputLength workLength ≡ refused 6)
     × (verdictOn (ofModulus "2147483648") textOutputLength workLength ≡ refused 3)
 unfolding verdictOn
 greatest-written = (refl, refl)

@@ -1,18 +1,19 @@
 -- Who causes which refusal: for each call one list of tests, in the order in which they are tested.
 --   Test             a refusal number, and whether its condition holds
 --   verdict ts vs    refused with the number of the first test that holds; finished with the values vs if none does
+--   familyShape f    the tests 3 4 5 of a family, and familyRows f its tests 9 10 11: each call on a family makes both
 --   plainTests       of Expand, Adjoint and Decompose by the plain way;  treeTests  by the tree way
 --   momentsTests, normsTests, inverseTests
--- So a number is given if its condition holds and none before it does, and otherwise not. The lengths of the output and of
--- the working list are numbers here. A call skips the tests on things that it is not lent.
+-- So a number is given if its condition holds and none before it does, and otherwise not. The lengths of lists are numbers here, but for
+-- those of the rows and of the curve. A call skips the tests on things that it is not lent.
 -- The scope paper, 'Who causes which refusal'. Assumes nothing.
 use mathlib.Core.Bool.{Bool, true, false, not, _||_}
-use mathlib.Core.List.{List, [], _∷_}
-use Prim.Native.Nat.{ℕ, _*_, _%_}
+use mathlib.Core.List.{List, [], _∷_, _++_}
+use Prim.Native.Nat.{ℕ, zero, suc, _*_, _-_, _%_}
 use lib.Dec.{eqb, ltb, leb}
 use lib.ListN.{length}
 use Rattle.definitions.specs.Number.{inverse}
-use Rattle.definitions.specs.Family.{Family, rows, size, greatestModulus, mostRows}
+use Rattle.definitions.specs.Family.{Row, Family, size, rowAt, firstC, greatestModulus, mostRows}
 use Rattle.definitions.specs.Orthogonality.{momentCount}
 
 pub record Test : Type 0 where
@@ -31,6 +32,15 @@ verdict (t ∷ ts) values = elim (t .holds) [ true ↦ refused (t .number) | fal
 unfoldable pub some : (ℕ → Bool) → List ℕ → Bool
 some passes [] = false
 some passes (x ∷ xs) = elim (passes x) [ true ↦ true | false ↦ some passes xs ]
+
+-- one of the count numbers from first on passes
+unfoldable pub someFrom : (ℕ → Bool) → ℕ → ℕ → Bool
+someFrom passes first zero = false
+someFrom passes first (suc count) = elim (passes first) [ true ↦ true | false ↦ someFrom passes (suc first) count ]
+
+-- a row passes, of those from place first on up to row n, the closing row
+unfoldable pub someRow : Family → ℕ → (Row → Bool) → Bool
+someRow f first passes = someFrom (λ i. passes (rowAt f i)) first (size f - first)
 
 unfoldable pub differ : ℕ → ℕ → Bool
 differ x y = not (eqb x y)
@@ -51,14 +61,14 @@ test number holds = record { number = number; holds = holds }
 unfoldable pub modulusTest : ℕ → Test
 modulusTest m = test 3 (ltb m 2 || ltb greatestModulus m)
 
-unfoldable pub lengthsTest : Family → Test
-lengthsTest f = test 4 (differ (length (f .b)) (rows f) || differ (length (f .c)) (rows f))
+unfoldable pub lengthsTest : ℕ → ℕ → ℕ → Test
+lengthsTest a b c = test 4 (differ b a || differ c a)
 
-unfoldable pub rowCountTest : Family → Test
-rowCountTest f = test 5 (ltb mostRows (rows f))
+unfoldable pub rowCountTest : ℕ → Test
+rowCountTest rows = test 5 (ltb mostRows rows)
 
-unfoldable pub curveLengthTest : Family → List ℕ → Test
-curveLengthTest f u = test 6 (differ (length u) (size f))
+unfoldable pub curveLengthTest : ℕ → ℕ → Test
+curveLengthTest wanted curve = test 6 (differ curve wanted)
 
 unfoldable pub outputTest : ℕ → ℕ → Test
 outputTest wanted output = test 7 (differ output wanted)
@@ -68,13 +78,14 @@ workTest work = test 8 (ltb work workLength)
 
 -- the maker of the element, who supplies the family
 unfoldable pub entriesTest : Family → Test
-entriesTest f = test 9 (some (notBelow (f .m)) (f .a) || some (notBelow (f .m)) (f .b) || some (notBelow (f .m)) (f .c))
+entriesTest f = test 9 (someRow f 0 (λ row. notBelow (f .m) (row .a) || notBelow (f .m) (row .b) || notBelow (f .m) (row .c)))
 
 unfoldable pub aInverseTest : Family → Test
-aInverseTest f = test 10 (some (noInverse (f .m)) (f .a))
+aInverseTest f = test 10 (someRow f 0 (λ row. noInverse (f .m) (row .a)))
 
-unfoldable pub cInverseTest : Family → Test
-cInverseTest f = test 11 (some (noInverse (f .m)) (f .c))
+-- the c from place first on
+unfoldable pub cInverseTest : ℕ → Family → Test
+cInverseTest first f = test 11 (someRow f first (λ row. noInverse (f .m) (row .c)))
 
 -- the sender of the curve
 unfoldable pub curveEntriesTest : Family → List ℕ → Test
@@ -86,22 +97,42 @@ numberTest m x = test 12 (notBelow m x)
 unfoldable pub numberInverseTest : ℕ → ℕ → Test
 numberInverseTest m x = test 13 (noInverse m x)
 
+-- the stages of a family: its shape, from the modulus and the lengths of its lists, and its rows
+unfoldable pub shapeTests : ℕ → ℕ → ℕ → ℕ → List Test
+shapeTests m a b c = modulusTest m ∷ lengthsTest a b c ∷ rowCountTest a ∷ []
+
+abbrev pub familyShape : Family → List Test
+familyShape f = shapeTests (f .m) (length (f .a)) (length (f .b)) (length (f .c))
+
+unfoldable pub familyRows : Family → List Test
+familyRows f = entriesTest f ∷ aInverseTest f ∷ cInverseTest firstC f ∷ []
+
 -- the calls
 unfoldable pub plainTests : Family → List ℕ → ℕ → List Test
-plainTests f u output = modulusTest (f .m) ∷ lengthsTest f ∷ rowCountTest f ∷ curveLengthTest f u ∷ outputTest (size f) output
-    ∷ entriesTest f ∷ aInverseTest f ∷ cInverseTest f ∷ curveEntriesTest f u ∷ []
+plainTests f u output =
+    familyShape f
+    ++ (curveLengthTest (size f) (length u) ∷ outputTest (size f) output
+    ∷ (familyRows f
+    ++ (curveEntriesTest f u ∷ [])))
 
 unfoldable pub treeTests : Family → List ℕ → ℕ → ℕ → List Test
-treeTests f u output work = modulusTest (f .m) ∷ lengthsTest f ∷ rowCountTest f ∷ curveLengthTest f u ∷ outputTest (size f) output
-    ∷ workTest work ∷ entriesTest f ∷ aInverseTest f ∷ cInverseTest f ∷ curveEntriesTest f u ∷ []
+treeTests f u output work =
+    familyShape f
+    ++ (curveLengthTest (size f) (length u) ∷ outputTest (size f) output ∷ workTest work
+    ∷ (familyRows f
+    ++ (curveEntriesTest f u ∷ [])))
 
 unfoldable pub momentsTests : Family → ℕ → ℕ → List Test
-momentsTests f output work = modulusTest (f .m) ∷ lengthsTest f ∷ rowCountTest f ∷ outputTest (momentCount f) output
-    ∷ workTest work ∷ entriesTest f ∷ aInverseTest f ∷ cInverseTest f ∷ []
+momentsTests f output work =
+    familyShape f
+    ++ (outputTest (momentCount f) output ∷ workTest work
+    ∷ familyRows f)
 
 unfoldable pub normsTests : Family → ℕ → List Test
-normsTests f output = modulusTest (f .m) ∷ lengthsTest f ∷ rowCountTest f ∷ outputTest (size f) output
-    ∷ entriesTest f ∷ aInverseTest f ∷ cInverseTest f ∷ []
+normsTests f output =
+    familyShape f
+    ++ (outputTest (size f) output
+    ∷ familyRows f)
 
 unfoldable pub inverseTests : ℕ → ℕ → List Test
 inverseTests m x = modulusTest m ∷ numberTest m x ∷ numberInverseTest m x ∷ []

@@ -9,13 +9,13 @@
 use mathlib.Core.Path.{_≡_}
 use mathlib.Core.Bool.{true, false}
 use mathlib.Core.List.{List, [], _∷_, _++_}
-use Prim.Native.Nat.{ℕ}
+use Prim.Native.Nat.{ℕ, suc}
 use lib.Dec.{ltb}
 use lib.ListN.{length, drop}
-use Rattle.definitions.specs.Family.{Family}
+use Rattle.definitions.specs.Family.{Family, rows}
 use Rattle.definitions.specs.Conversion.{expand, adjoint, decompose}
 use Rattle.definitions.specs.Orthogonality.{moments, norms}
-use Rattle.definitions.specs.Refusals.{Test, test, verdict, differ, modulusTest, lengthsTest, rowCountTest, curveLengthTest, workTest, entriesTest, aInverseTest, cInverseTest, curveEntriesTest}
+use Rattle.definitions.specs.Refusals.{Test, test, verdict, curveLengthTest, workTest, curveEntriesTest, familyShape, familyRows}
 use Rattle.definitions.specs.Answers.{valued, after, cleared}
 use Rattle.definitions.specs.Text.{Job, meant, answerText}
 use Rattle.definitions.specs.Reading.{Read, found, malformed, readJob}
@@ -32,24 +32,23 @@ textOutputLength = 4096
 unfoldable pub textLengthTest : List ℕ → Test
 textLengthTest t = test 1 (ltb mostBytes (length t))
 
--- the writer of the station's program, or the sender of the job text
-unfoldable pub emptyCurveTest : List ℕ → Test
-emptyCurveTest u = test 6 (differ (length u) 0)
-
-unfoldable pub curveTest : Operation → Family → List ℕ → Test
-curveTest Operation.Expand f u = curveLengthTest f u
-curveTest Operation.Adjoint f u = curveLengthTest f u
-curveTest Operation.Decompose f u = curveLengthTest f u
-curveTest Operation.Moments f u = emptyCurveTest u
-curveTest Operation.Norms f u = emptyCurveTest u
+-- how many numbers an operation takes beside a family of r rows
+unfoldable pub curveCount : Operation → ℕ → ℕ
+curveCount Operation.Expand r = suc r
+curveCount Operation.Adjoint r = suc r
+curveCount Operation.Decompose r = suc r
+curveCount Operation.Moments r = 0
+curveCount Operation.Norms r = 0
 
 unfoldable pub textOutputTest : ℕ → Test
 textOutputTest output = test 7 (ltb output textOutputLength)
 
 unfoldable pub jobTests : Job → ℕ → ℕ → List Test
-jobTests j output work = modulusTest (j .family .m) ∷ lengthsTest (j .family) ∷ rowCountTest (j .family)
-    ∷ curveTest (j .operation) (j .family) (j .curve) ∷ textOutputTest output ∷ workTest work
-    ∷ entriesTest (j .family) ∷ aInverseTest (j .family) ∷ cInverseTest (j .family) ∷ curveEntriesTest (j .family) (j .curve) ∷ []
+jobTests j output work =
+    familyShape (j .family)
+    ++ (curveLengthTest (curveCount (j .operation) (rows (j .family))) (length (j .curve)) ∷ textOutputTest output ∷ workTest work
+    ∷ (familyRows (j .family)
+    ++ (curveEntriesTest (j .family) (j .curve) ∷ [])))
 
 unfoldable pub formTests : Read → ℕ → ℕ → List Test
 formTests malformed output work = test 2 true ∷ []

@@ -14,10 +14,10 @@ use Rattle.definitions.specs.Number.{sum, table, negative, inverseBelow,
 use Rattle.definitions.specs.Family.{rowAt, timesX, term, F, G}
 use Rattle.definitions.specs.Conversion.{expand, adjoint, top, lessTop, decomposeBelow, decompose}
 use Rattle.definitions.specs.Orthogonality.{reversal, nextQuotient, quotient, moments, signedProduct, norm, norms}
-use Rattle.definitions.specs.Refusals.{Verdict, finished, refused, verdict, some, differ, notBelow, noInverse, workLength, modulusTest, lengthsTest, rowCountTest, curveLengthTest, workTest, entriesTest, aInverseTest, cInverseTest, curveEntriesTest}
+use Rattle.definitions.specs.Refusals.{Verdict, finished, refused, verdict, some, differ, notBelow, noInverse, someFrom, someRow, workLength, modulusTest, lengthsTest, rowCountTest, curveLengthTest, workTest, entriesTest, aInverseTest, cInverseTest, curveEntriesTest, shapeTests, familyRows}
 use Rattle.definitions.specs.Text.{bytes, decimalWithin, decimal, spaced, numbers, line, name, WrittenJob, jobText, answerText, refusalText}
 use Rattle.definitions.specs.Reading.{found, readKey, isDigit, readDigits, readNumber, readOn, readSome, readNumbers, readName, ended, readLine, readLines, readJob}
-use Rattle.definitions.specs.TextCall.{textOutputLength, textLengthTest, emptyCurveTest, curveTest, textOutputTest, jobTests, formTests, textTests, converted, result, replyTo, reply}
+use Rattle.definitions.specs.TextCall.{textOutputLength, textLengthTest, curveCount, textOutputTest, jobTests, formTests, textTests, converted, result, replyTo, reply}
 use Rattle.definitions.specs.Printing.{shown, printed}
 use Rattle.definitions.specs.declared.Operation.{Operation}
 
@@ -47,7 +47,7 @@ text gives hands = record { text = text; output = textOutputLength; work = workL
 
 -- whoever unfolds it unfolds the definitions that it leads to
 unfoldable pub verdictOn : List ℕ → ℕ → ℕ → Verdict
-unfolding sum table negative inverseBelow inverse rowAt timesX term F G expand adjoint top lessTop decomposeBelow decompose reversal nextQuotient quotient moments signedProduct norm norms verdict some differ notBelow noInverse modulusTest lengthsTest rowCountTest curveLengthTest workTest entriesTest aInverseTest cInverseTest curveEntriesTest decimalWithin decimal spaced numbers line name answerText readKey isDigit readDigits readNumber readOn readSome readNumbers readName ended readLine readLines readJob textLengthTest emptyCurveTest curveTest textOutputTest jobTests formTests textTests converted result replyTo reply
+unfolding sum table negative inverseBelow inverse rowAt timesX term F G expand adjoint top lessTop decomposeBelow decompose reversal nextQuotient quotient moments signedProduct norm norms verdict some differ notBelow noInverse someFrom someRow modulusTest lengthsTest rowCountTest curveLengthTest workTest entriesTest aInverseTest cInverseTest curveEntriesTest shapeTests familyRows decimalWithin decimal spaced numbers line name answerText readKey isDigit readDigits readNumber readOn readSome readNumbers readName ended readLine readLines readJob textLengthTest curveCount textOutputTest jobTests formTests textTests converted result replyTo reply
 verdictOn t output work = verdict (textTests t output work) (reply t)
 
 abbrev pub handed : Sample → Verdict

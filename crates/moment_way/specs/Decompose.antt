@@ -16,7 +16,7 @@ use lib.ListN.{length, getD, take, drop, set, replicate, length-append, length-r
 use lib.Seq.{length-take-le, getD-take, take-append-seam, drop-append-seam}
 use Rattle.definitions.specs.Answers.{cleared}
 use Rattle.definitions.specs.Conversion.{adjoint, decompose}
-use Rattle.definitions.specs.Family.{Family, Row, Convertible, Curve, size, rowAt}
+use Rattle.definitions.specs.Family.{Family, Row, Convertible, Curve, size, rowAt, rowOf}
 use Rattle.definitions.specs.Number.{sum, table, negative, HasInverse, inverse}
 use Rattle.definitions.specs.Orthogonality.{moments, norm}
 use Rattle.theory.specs.Alone.{decompose-alone}
@@ -33,7 +33,7 @@ use Rattle.tree_model.specs.TreeAdjoint.{tree-adjoint}
 use Rattle.lists.specs.Entries.{entry-inside, entry-past}
 use Rattle.plain.specs.Input.{closedRows}
 use Rattle.products.specs.Places.{ListInput}
-use Rattle.subproduct.specs.Leaf.{familyOf, rowOf}
+use Rattle.subproduct.specs.Leaf.{familyOf}
 use Rattle.tree.specs.Core.{Input, Output, alone-output}
 use Rattle.moment_way.specs.Input.{DecomposeInput}
 use Rattle.moment_way.specs.Moments.{entryOr, closed-inverts, front-entry, front-below}

@@ -12,12 +12,10 @@ use mathlib.Core.List.{List, _++_}
 use Prim.Native.Nat.{ℕ, suc, _*_, _-_, _%_, _≤_, _<_}
 use lib.ListN.{length, getD, drop}
 use Rattle.definitions.specs.Answers.{cleared}
-use Rattle.definitions.specs.Family.{Family, F, G}
+use Rattle.definitions.specs.Family.{Family, F, G, RowBelow, rowOf}
 use Rattle.definitions.specs.Number.{table}
 use Rattle.definitions.specs.Refusals.{workLength}
-use Rattle.tree_model.specs.TreeBelow.{RowBelow}
 use Rattle.plain.specs.Input.{Holds, Sizes, InversesOf}
-use Rattle.subproduct.specs.Leaf.{rowOf}
 
 pub record ClosedInput (m : ℕ) (a b c : List ℕ) (p q r n : ℕ) : Type 0 where
   pub sizes : Sizes m n

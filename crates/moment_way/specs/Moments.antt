@@ -11,7 +11,7 @@ use native.Mathlib.Numerals.{add-one}
 use native.Mathlib.Omega.{arith}
 use lib.ListN.{length, getD, take, drop, replicate, length-replicate, getD-replicate, List·getD-eq-default}
 use lib.Seq.{length-take-le}
-use Rattle.definitions.specs.Family.{Family, rowAt, F, G}
+use Rattle.definitions.specs.Family.{Family, rowAt, F, G, rowOf}
 use Rattle.definitions.specs.Number.{table}
 use Rattle.definitions.specs.Orthogonality.{reversal, quotient, moments}
 use Rattle.tree_model.specs.Extended.{F-below, G-below}
@@ -22,7 +22,6 @@ use Rattle.numbers.specs.Products.{Below}
 use Rattle.lists.specs.Entries.{entry-inside, entry-past}
 use Rattle.plain.specs.Input.{closedRows}
 use Rattle.series.specs.Division.{reversed, QuotientInput}
-use Rattle.subproduct.specs.Leaf.{rowOf}
 use Rattle.tree.specs.Core.{Output}
 use Rattle.moment_way.specs.Input.{LeadingInput, PolynomialsInput, Polynomials, MomentsInput}
 use Rattle.moment_way.specs.Polynomials.{closed-size, closed-modulus}

@@ -12,17 +12,16 @@ use native.Mathlib.Omega.{arith}
 use lib.ListN.{length, getD, take, drop, set, replicate, length-set, length-append, length-drop, length-replicate, getD-replicate}
 use lib.Seq.{take-all, length-take-le, getD-take, getD-drop, take-append-seam, drop-append-seam, take-suc-set}
 use Rattle.definitions.specs.Answers.{cleared}
-use Rattle.definitions.specs.Family.{Family, Row, Modulus, size, F, G}
+use Rattle.definitions.specs.Family.{Family, Row, Modulus, size, F, G, RowBelow, rowOf}
 use Rattle.definitions.specs.Number.{table}
 use Rattle.definitions.specs.Refusals.{workLength}
 use Rattle.theory.specs.Closing.{EqualLengths, closedBy}
 use Rattle.tree_model.specs.Extended.{extended, fromSecond, lastUnit, tree-F, tree-G}
 use Rattle.numbers.specs.Lists.{filled, filled-length, table-length, table-unique, getD-default, snoc-entry, snoc-last}
 use Rattle.tree_model.specs.Tree.{withTree, treeExpand}
-use Rattle.tree_model.specs.TreeBelow.{RowBelow}
 use Rattle.lists.specs.Entries.{entry-inside, entry-past}
 use Rattle.plain.specs.Input.{closedRows, Holds}
-use Rattle.subproduct.specs.Leaf.{familyOf, rowOf}
+use Rattle.subproduct.specs.Leaf.{familyOf}
 use Rattle.tree.specs.Core.{Input, Output}
 use Rattle.moment_way.specs.Input.{ClosedInput, PolynomialsInput, Polynomials}
 

@@ -4,6 +4,7 @@
 ghost use mathlib.Core.Path.{_≡_};
 ghost use Prim.Native.Nat.{suc, _*_, _-_, _≤_, _<_};
 ghost use lib.ListN.{length, take, replicate};
+ghost use Rattle.definitions.specs.Family.{rowOf};
 ghost use Rattle.definitions.specs.Conversion.{decompose};
 ghost use Rattle.definitions.specs.Orthogonality.{moments};
 ghost use Rattle.tree_model.specs.Extended.{lastUnit};
@@ -11,7 +12,7 @@ ghost use Rattle.numbers.specs.Lists.{filled};
 ghost use Rattle.numbers.specs.RunningProduct.{runningProduct};
 ghost use Rattle.tree_model.specs.Tree.{treeExpand};
 ghost use Rattle.plain.specs.Input.{closedRows};
-ghost use Rattle.subproduct.specs.Leaf.{familyOf, rowOf};
+ghost use Rattle.subproduct.specs.Leaf.{familyOf};
 ghost use Rattle.tree.specs.Core.{Output};
 ghost use Rattle.moment_way.specs.Decompose.{DivideInput, divided};
 ghost use Rattle.moment_way.specs.Input.{PolynomialsInput, Polynomials, MomentsInput, DecomposeInput};

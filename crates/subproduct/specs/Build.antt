@@ -9,13 +9,13 @@ use mathlib.Core.Logic.{inl}
 use Prim.Native.Nat.{ℕ, suc, _+_, _*_, _-_, _/_, _≤_, _<_}
 use native.Mathlib.Omega.{arith}
 use lib.ListN.{length, getD, take, length-append}
-use Rattle.definitions.specs.Family.{Family, greatestModulus, rowAt}
+use Rattle.definitions.specs.Family.{Family, greatestModulus, rowAt, RowBelow, rowOf}
 use Rattle.tree_model.specs.Level.{span, span-zero, span-suc, span-two}
 use Rattle.numbers.specs.Regions.{part, written, part-left, part-right, part-residues, part-written, written-length, written-then}
 use Rattle.tree_model.specs.Tree.{padded, leaf, join, node}
-use Rattle.tree_model.specs.TreeBelow.{RowBelow, node-below}
+use Rattle.tree_model.specs.TreeBelow.{node-below}
 use Rattle.subproduct.specs.Layout.{Level, Halves, treeSize, treeList, nodePlace, matrixList, matrixAt, level-halves, level-one, treeSize-suc, treeSize-node, treeList-length, nodeList-length, tree-node, tree-matrix, matrixList-below}
-use Rattle.subproduct.specs.Leaf.{familyOf, rowOf, LeafInput}
+use Rattle.subproduct.specs.Leaf.{familyOf, LeafInput}
 use Rattle.subproduct.specs.Join.{JoinPlaces}
 
 -- the columns a, b and c are long enough for r rows, and the rows are below m

@@ -16,13 +16,13 @@ use native.Mathlib.Decide.{le-ind}
 use native.Mathlib.Nat.{add-zero, le-refl, mul-suc, add-mul}
 use native.Mathlib.Omega.{arith}
 use lib.ListN.{length, length-append}
-use Rattle.definitions.specs.Family.{Family, rowAt}
+use Rattle.definitions.specs.Family.{Family, rowAt, RowBelow}
 use Rattle.tree_model.specs.Level.{span, span-zero, span-suc, span-two, span-power}
 use Rattle.numbers.specs.Regions.{part, Apart, KeptOutside, part-left, part-right, kept-part}
 use Rattle.numbers.specs.Products.{Below}
 use Rattle.tree_model.specs.Tree.{Matrix, Pair, node}
 use Rattle.tree_model.specs.TreeLengths.{MatrixLength, PairLength, node-length}
-use Rattle.tree_model.specs.TreeBelow.{RowBelow, MatrixBelow, PairBelow, node-below}
+use Rattle.tree_model.specs.TreeBelow.{MatrixBelow, PairBelow, node-below}
 
 unfoldable pub treeSize : ℕ → ℕ
 treeSize zero = 12

@@ -1,6 +1,5 @@
 -- The rows that are read, and the leaf of two of them.
 --   familyOf m r a b c    the family of the first r rows of the lent lists
---   rowOf a b c           a row of three numbers
 --   Residues, LeafInput   what is handed to a sum of two products, and to the leaf
 -- Proved: a row past the end reads as zero; a sum of two products of residues fits 64 bits; the leaf's lists are written one after the
 -- other. Assumes nothing.
@@ -11,16 +10,13 @@ use native.Mathlib.Nat.{add-zero, zero-add, mul-le-mul, mod-lt}
 use native.Mathlib.Omega.{arith}
 use lib.ListN.{length, getD, take, set, List·getD-eq-default}
 use lib.Seq.{getD-take, length-take-le}
-use Rattle.definitions.specs.Family.{Family, Row, family, greatestModulus}
+use Rattle.definitions.specs.Family.{Family, Row, family, greatestModulus, rowOf}
 use Rattle.numbers.specs.Regions.{written, written-one, written-more, written-then}
 use Rattle.tree_model.specs.Tree.{leaf}
 use Rattle.subproduct.specs.Layout.{matrixList}
 
 abbrev pub familyOf : ℕ → ℕ → List ℕ → List ℕ → List ℕ → Family
 familyOf m r a b c = family m (take r a) (take r b) (take r c)
-
-abbrev pub rowOf : ℕ → ℕ → ℕ → Row
-rowOf a b c = record { a = a; b = b; c = c }
 
 pub record Residues (m s x y u v : ℕ) : Type 0 where
   pub most : m ≤ greatestModulus

@@ -16,7 +16,7 @@ use native.Mathlib.Decide.{decLt}
 use native.Mathlib.Omega.{arith}
 use lib.ListN.{length, getD, take, drop, set, replicate, List·getD-eq-default}
 use lib.Seq.{length-take-le, getD-take, set-split}
-use Rattle.definitions.specs.Family.{Family, Modulus, rows, size, rowAt}
+use Rattle.definitions.specs.Family.{Family, Modulus, rows, size, rowAt, RowBelow, rowOf}
 use Rattle.definitions.specs.Refusals.{workLength}
 use Rattle.definitions.specs.Answers.{cleared}
 use Rattle.tree_model.specs.Level.{span, levelFor, level-covers, level-least, level-most}
@@ -25,9 +25,9 @@ use Rattle.numbers.specs.Products.{Below, plusProduct}
 use Rattle.tree_model.specs.Tree.{F₁, Pair, padded, up, expandAt, treeExpand, down, rootPair, adjointAt, treeAdjoint}
 use Rattle.tree_model.specs.TreeClauses.{treeExpand-tree, treeExpand-alone, treeAdjoint-tree, treeAdjoint-alone}
 use Rattle.tree_model.specs.TreeLengths.{PairLength, rootPair-length}
-use Rattle.tree_model.specs.TreeBelow.{RowBelow, rootPair-below}
+use Rattle.tree_model.specs.TreeBelow.{rootPair-below}
 use Rattle.subproduct.specs.Layout.{treeSize, treeList, pairList, pairAt, listsAt, treeSize-most, treeList-length, treeList-below, pairList-length, pairList-below, pair-reads}
-use Rattle.subproduct.specs.Leaf.{familyOf, rowOf}
+use Rattle.subproduct.specs.Leaf.{familyOf}
 use Rattle.subproduct.specs.Build.{RowsInput, BuildInput}
 use Rattle.subproduct.specs.Climb.{ClimbInput, ClimbOutput, climbed, climbed-up, climbed-length, climbed-below}
 use Rattle.subproduct.specs.Descend.{DescendInput, DescendOutput, descended-down}

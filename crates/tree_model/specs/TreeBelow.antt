@@ -1,6 +1,5 @@
 -- The entries of the tree's lists are below m.
 --   MatrixBelow m x, PairBelow m v   the entries of the matrix x, of the pair v, are below m
---   RowBelow m row                   the three numbers of a row are
 -- Most entries are remainders. A leaf copies entries of a row, the pair of a leaf copies entries of the curve and `down` those of
 -- its pair, so these must be below m to begin with.
 -- Assumes nothing.
@@ -9,15 +8,10 @@ use Prim.Native.Nat.{ℕ, zero, suc, _+_, _<_}
 use native.Mathlib.Nat.{mod-lt}
 use native.Mathlib.Omega.{arith}
 use lib.ListN.{take}
-use Rattle.definitions.specs.Family.{Family, Row, size, rowAt}
+use Rattle.definitions.specs.Family.{Family, Row, size, rowAt, RowBelow}
 use Rattle.tree_model.specs.Level.{span}
 use Rattle.numbers.specs.Products.{Below, plusProduct-below, plusProducts-below, transposed-below, transposedSum-below}
 use Rattle.tree_model.specs.Tree.{Matrix, Pair, F₀, F₁, leaf, join, node, expandPair, up, expandAt, firstTerms, adjointPair, down, rootPair, adjointAt}
-
-pub record RowBelow (m : ℕ) (row : Row) : Type 0 where
-  pub aBelow : row .a < m
-  pub bBelow : row .b < m
-  pub cBelow : row .c < m
 
 pub record MatrixBelow (m : ℕ) (x : Matrix) : Type 0 where
   pub b00 : Below m (x .e00)
