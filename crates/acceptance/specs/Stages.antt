@@ -39,3 +39,7 @@ stages-end stage left r is = is ∙ left .same []
 -- what a refusal leaves
 pub list-stays : (r : Answer) (k : ℕ) (new old : List ℕ) → r ≡ Answer.Refused k → old ≡ after (answered r) new old
 list-stays r k new old q = sym (ap (λ x. after (answered x) new old) q)
+
+-- what a call that finishes writes
+pub list-new : (tests : List Test) → None tests → (new old : List ℕ) → after (verdict tests []) new old ≡ new
+list-new tests none new old = ap (λ v. after v new old) (verdict-finished tests [] .1 none)

@@ -1,5 +1,5 @@
 -- `decompose_after_expand` meets its law: Decompose undoes Expand on the lists that the calls hand out. Assumes nothing.
-use Rattle.laws.specs.Returned.{first-refused, both-made, decompose-undoes-expand}
+use Rattle.laws.specs.RoundTrips.{first-refused, both-made, decompose-undoes-expand}
 use borrow.Author.Needs.{needs}
 use Rattle.laws.proofs.decompose_after_expand.Statement.{statement}
 use Rattle.laws.proofs.decompose_after_expand.Tie as tie

@@ -1,5 +1,5 @@
 -- `expand_after_decompose` meets its law: Expand undoes Decompose on the lists that the calls hand out. Assumes nothing.
-use Rattle.laws.specs.Returned.{first-refused, both-made, expand-undoes-decompose}
+use Rattle.laws.specs.RoundTrips.{first-refused, both-made, expand-undoes-decompose}
 use borrow.Author.Needs.{needs}
 use Rattle.laws.proofs.expand_after_decompose.Statement.{statement}
 use Rattle.laws.proofs.expand_after_decompose.Tie as tie
