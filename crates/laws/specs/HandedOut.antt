@@ -4,7 +4,7 @@ use mathlib.Core.Path.{_≡_, sym, _∙_, ap}
 use mathlib.Core.List.{List, []}
 use Prim.Native.Nat.{ℕ}
 use lib.ListN.{length}
-use Rattle.definitions.specs.Answers.{answered, after, cleared, Converted, ConvertedIn}
+use Rattle.definitions.specs.Answers.{answered, after, cleared, NormsCall, MomentsCall}
 use Rattle.definitions.specs.Conversion.{expand}
 use Rattle.definitions.specs.Family.{Family}
 use Rattle.definitions.specs.Orthogonality.{moments, norms}

@@ -9,7 +9,7 @@ use native.Mathlib.Omega.{arith}
 use lib.ListN.{length}
 use Rattle.definitions.specs.Answers.{answered, after}
 use Rattle.definitions.specs.Conversion.{expand, decompose}
-use Rattle.definitions.specs.Family.{Family, Accepted, Curve, family}
+use Rattle.definitions.specs.Family.{Family, Accepted, Curve}
 use Rattle.definitions.specs.Refusals.{Test, finished, verdict}
 use Rattle.definitions.specs.declared.Answer.{Answer}
 use Rattle.acceptance.specs.Acceptance.{accepted-convertible}

@@ -9,7 +9,7 @@ use native.Mathlib.Omega.{arith}
 use lib.ListN.{length}
 use Rattle.definitions.specs.Answers.{answered, cleared}
 use Rattle.definitions.specs.Conversion.{expand}
-use Rattle.definitions.specs.Family.{Family, Accepted, family}
+use Rattle.definitions.specs.Family.{Family, Accepted, rows}
 use Rattle.definitions.specs.Orthogonality.{moments, norms, momentTotal, normTotal, ProductLaw}
 use Rattle.definitions.specs.Refusals.{Test, finished, verdict, momentsTests, normsTests}
 use Rattle.definitions.specs.declared.Answer.{Answer}

@@ -4,8 +4,8 @@ use mathlib.Core.Path.{_≡_, sym, _∙_, ap}
 use mathlib.Core.List.{List, [], _++_}
 use Prim.Native.Nat.{ℕ}
 use lib.ListN.{length}
-use Rattle.definitions.specs.Answers.{answered, after, cleared, Converted, ConvertedIn}
-use Rattle.definitions.specs.Family.{Family, family}
+use Rattle.definitions.specs.Answers.{answered, after, cleared, PlainCall, TreeCall}
+use Rattle.definitions.specs.Family.{Family}
 use Rattle.definitions.specs.Refusals.{Test, finished, verdict, plainTests, treeTests}
 use Rattle.definitions.specs.declared.Answer.{Answer}
 use Rattle.acceptance.specs.Verdicts.{None, verdict-finished, none-append}

@@ -21,7 +21,7 @@ same-length-2 c = search needs
 
 returns : tie.Need-returns
 returns c =
-    first-refused decompose-undoes-expand _ _ _ _ _ _ _ _ _ _ _ _ _
+    first-refused decompose-undoes-expand _ _ _ _ _ _ _ _ _ _
     (c .before .before .before .before .before .before .expand-by .ensures) _
     (c .enum-told2 .given .1)
 
@@ -39,7 +39,7 @@ same-length-5 c = search needs
 
 returns-2 : tie.Need-returns-2
 returns-2 c =
-    both-made decompose-undoes-expand _ _ _ _ _ _ _ _ _ _ _ _ _
+    both-made decompose-undoes-expand _ _ _ _ _ _ _ _ _ _
     (c .before .before .before .before .before .before .before .before .before .before .before .before .before .before .expand-by .ensures)
     (c .before .before .before .before .before .before .before .before .enum-told .given .1) _ _ _
     (c .before .before .before .before .decompose-by .ensures)
