@@ -12,7 +12,8 @@ use Prim.Native.Nat.{ℕ, suc}
 use Prim.Native.String.{String}
 use lib.ListN.{replicate}
 use Rattle.definitions.specs.Family.{Family, family}
-use Rattle.definitions.specs.Refusals.{Test, Verdict, finished, refused, verdict, workLength, plainTests, treeTests, momentsTests, normsTests}
+use Rattle.definitions.specs.Refusals.{Test, Verdict, finished, refused, verdict, workLength}
+use Rattle.definitions.specs.Refusals.{plainTests, treeTests, momentsTests, normsTests}
 use Rattle.definitions.specs.Figures.{handed, R}
 use Rattle.definitions.specs.Text.{bytes, WrittenJob, jobText}
 use Rattle.definitions.specs.TextCall.{textOutputLength, textTests}
