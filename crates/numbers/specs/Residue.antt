@@ -12,7 +12,8 @@ use Prim.Native.Nat.{ℕ, _*_, _-_, _%_, _<_}
 use native.Mathlib.Nat.{mod-mod}
 use lib.ListN.{length, getD}
 use lib.Seq.{ext-getD}
-use Rattle.algebra.specs.Residues.{Zmod, res, res-zero, res-one, res-add, res-mul, res-mod, res-neg, res-sum, res-injective, inverse-of-unit}
+use Rattle.algebra.specs.Residues.{Zmod, res, res-zero, res-one, res-add, res-mul, res-mod}
+use Rattle.algebra.specs.Residues.{res-neg, res-sum, res-injective, inverse-of-unit}
 use Rattle.algebra.specs.Sum as Sum
 use Rattle.algebra.specs.Unit.{IsUnit}
 use Rattle.definitions.specs.Number.{sum, negative, HasInverse, inverse}
