@@ -23,6 +23,12 @@ use Rattle.numbers.specs.Lists.{table-entry}
 use Rattle.theory.specs.Recurrence.{Rows, later, term, term-step}
 use Rattle.numbers.specs.Residue.{residue-sum}
 
+-- a further term of the recurrence over the numbers
+pub term-further : (m : ℕ) (row : ℕ → Row) (k i : ℕ) → Family.term m row (suc (suc k)) i
+    ≡ (row k .a * timesX (Family.term m row (suc k)) i + row k .b * Family.term m row (suc k) i + row k .c * Family.term m row k i) % m
+unfolding Family.term
+term-further m row k i = refl
+
 module _ (m : ℕ) (pos : 0 < m) where
   abbrev R : CommRing
   R = Zmod m pos
@@ -43,11 +49,6 @@ module _ (m : ℕ) (pos : 0 < m) where
   res-timesX p (suc i) = refl
 
   -- ---- the recurrence
-  number-step : (row : ℕ → Row) (k i : ℕ)
-      → Family.term m row (suc (suc k)) i ≡ (row k .a * timesX (Family.term m row (suc k)) i + row k .b * Family.term m row (suc k) i + row k .c * Family.term m row k i) % m
-  unfolding Family.term
-  number-step row k i = refl
-
   res-term-first : (row : ℕ → Row) (i : ℕ) → res m pos (Family.term m row 1 i) ≡ term R (ringRows row) 1 i
   unfolding Family.term term
   res-term-first row zero = res-one m pos
@@ -60,7 +61,8 @@ module _ (m : ℕ) (pos : 0 < m) where
   pub res-term : (row : ℕ → Row) (k i : ℕ) → res m pos (Family.term m row k i) ≡ term R (ringRows row) k i
   res-term row zero i = res-term-none row i
   res-term row (suc zero) i = res-term-first row i
-  res-term row (suc (suc k)) i = simp (number-step, res-mod m pos, res-add m pos, res-mul m pos, res-timesX, term-step R, res-term row (suc k), res-term row k)
+  res-term row (suc (suc k)) i =
+      simp (term-further m, res-mod m pos, res-add m pos, res-mul m pos, res-timesX, term-step R, res-term row (suc k), res-term row k)
 
 -- ---- a family
 module _ (f : Family) (pos : 0 < f .m) where

@@ -18,7 +18,7 @@ use Rattle.algebra.specs.Residues.{Zmod, res, res-mod, res-mul, res-injective, 
 use Rattle.definitions.specs.Number.{sum}
 use Rattle.definitions.specs.Orthogonality.{momentTotal}
 use Rattle.theory.specs.Bridge.{entries}
-use Rattle.theory.specs.Form.{form, form-rows}
+use Rattle.theory.specs.BilinearForm.{form, form-rows}
 use Rattle.theory.specs.ProductLaw.{res-momentTotal}
 use Rattle.numbers.specs.Residue.{residue-sum}
 
