@@ -1,6 +1,6 @@
 -- Lists as sequences of residues, zero past their end (entries, of `theory`, Bridge).
 --   Holding m pos s now before   the two lists of the state s have the residues now and before
--- Proves what the entries of a table, of zeros and past the end of a list are, and that a curve has a zero where its residue is one.
+-- Proves what the entries of a table and of zeros are, and that a curve has a zero where its residue is one.
 -- The plain models' lists are tables of n entries, and their proofs speak of all places. Assumes nothing.
 use mathlib.Core.Path.{_≡_, sym, _∙_, ap}
 use mathlib.Core.List.{List}
@@ -19,9 +19,6 @@ use Rattle.plain_model.specs.PlainModels.{State, zeros, zeros-entry}
 
 module _ (m : ℕ) (pos : 0 < m) where
   open CommRing (Zmod m pos) using (Car, zero as 𝟘)
-
-  pub entries-past : (u : List ℕ) (i : ℕ) → length u ≤ i → entries m pos u i ≡ 𝟘
-  entries-past u i h = ap (res m pos) (List·getD-eq-default u 0 h) ∙ res-zero m pos
 
   pub entries-zeros : (n i : ℕ) → entries m pos (zeros n) i ≡ 𝟘
   entries-zeros n i = ap (res m pos) (zeros-entry n i) ∙ res-zero m pos

@@ -18,9 +18,9 @@ use Rattle.algebra.specs.Variable.{shift}
 use Rattle.definitions.specs.Conversion.{expand, decompose}
 use Rattle.definitions.specs.Family.{Family, Curve, rows, size, rowAt, timesX}
 use Rattle.definitions.specs.Number.{HasInverse}
-use Rattle.theory.specs.Bridge.{entries, rowsOf, entries-expand, expand-curve}
+use Rattle.theory.specs.Bridge.{entries, entries-past, rowsOf, entries-expand, expand-curve}
 use Rattle.theory.specs.Combination.{combination, combination-last, combination-cong}
-use Rattle.plain_model.specs.Entries.{entries-past, entries-zeros, entries-table, entry-zero}
+use Rattle.plain_model.specs.Entries.{entries-zeros, entries-table, entry-zero}
 use Rattle.plain_model.specs.Horner.{timesVariable, timesVariable-ends, horner-combination}
 use Rattle.plain_model.specs.PlainModels.{constant, divide, decomposeEntry, decomposeStep}
 use Rattle.plain_model.specs.PlainModels.{decomposeState, plainDecompose, decomposeState-curve}

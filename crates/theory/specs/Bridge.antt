@@ -7,9 +7,9 @@
 -- pos, that m is not zero, is all that is needed: no inverse, and nothing of the rows or of the curve. Assumes nothing.
 use mathlib.Core.Path.{_≡_, refl, _∙_, ap}
 use mathlib.Core.List.{List}
-use Prim.Native.Nat.{ℕ, zero, suc, _+_, _*_, _%_, _<_}
+use Prim.Native.Nat.{ℕ, zero, suc, _+_, _*_, _%_, _<_, _≤_}
 use native.Mathlib.Nat.{mod-lt}
-use lib.ListN.{getD}
+use lib.ListN.{length, getD, List·getD-eq-default}
 use Rattle.algebra.specs.Residues.{Zmod, res, res-zero, res-one, res-add, res-mul, res-mod}
 use Rattle.algebra.specs.Ring.{CommRing}
 use Rattle.algebra.specs.Sum as Sum
@@ -39,6 +39,9 @@ module _ (m : ℕ) (pos : 0 < m) where
   infixl 70 _⊗_
   abbrev pub entries : List ℕ → ℕ → Car
   entries u i = res m pos (getD u i 0)
+
+  pub entries-past : (u : List ℕ) (i : ℕ) → length u ≤ i → entries u i ≡ R .zero
+  entries-past u i h = ap (res m pos) (List·getD-eq-default u 0 h) ∙ res-zero m pos
 
   abbrev pub ringRows : (ℕ → Row) → Rows R
   ringRows row = record { a = λ i. res m pos (row i .a); b = λ i. res m pos (row i .b); c = λ i. res m pos (row i .c) }
