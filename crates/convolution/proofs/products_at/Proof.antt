@@ -67,8 +67,13 @@ wrapping-add-u64-requires c κs = search needs
 
 wraps-after-requires : tie.Need-wraps-after-requires Inv-loop μ-loop
 wraps-after-requires c κs =
-    omega
-    (arith, c .before .before .before .before .before .before .before .loop .inv .total .few, c .before .before .before .before .before .before .before .loop .inv .ends .second, c .before .before .before .before .before .before .before .before .before .before .before .before .before .before .good)
+    let loop = c .before .before .before .before .before .before .before in
+    omega (
+      arith,
+      loop .loop .inv .total .few,
+      loop .loop .inv .ends .second,
+      loop .before .before .before .before .before .before .before .good,
+    )
 
 add-i : tie.Need-add-i Inv-loop μ-loop
 add-i c = omega arith
