@@ -40,8 +40,8 @@ order-eq (i ∷ m) (j ∷ n) = choose (λ o. IsEq o → i ∷ m ≡ j ∷ n) (co
     (λ e t. ap₂ _∷_ (compare-eq i j e) (order-eq m n t)) absurd
 
 module _ (R : CommRing) where
-  open CommRing R using
-      (Car, zero as 𝟘, one as 𝟙, add as _⊕_, mul as _⊗_, neg as ⊖_, add-assoc, add-comm, add-zero, add-neg, mul-assoc, mul-one, mul-add)
+  open CommRing R using (Car, zero as 𝟘, one as 𝟙, add as _⊕_, mul as _⊗_, neg as ⊖_)
+  open CommRing R using (add-assoc, add-comm, add-zero, add-neg, mul-assoc, mul-one, mul-add)
 
   infixl 65 _⊕_
   infixl 70 _⊗_

@@ -80,8 +80,8 @@ module _ (m : ℕ) (pos : 0 < m) (x : ℕ) where
       (search reify depth 20) tt))
 
   -- what t lacks to m
-  opposite-inverse : (t y : ℕ) → y + t ≡ m → (1 + t * x) % m ≡ 0 % m → x * y % m ≡ 1 % m
-  opposite-inverse t y e first = mod-of-res m pos (x * y) 1 (simp bridge
+  negative-inverse : (t y : ℕ) → y + t ≡ m → (1 + t * x) % m ≡ 0 % m → x * y % m ≡ 1 % m
+  negative-inverse t y e first = mod-of-res m pos (x * y) 1 (simp bridge
       (linear R (ι x ∷ ι t ∷ ι y ∷ [])
       (both R (scaled R (ι x) (simp bridge at (zero-form (y + t) (ap (λ z. z % m) e ∙ mod-self m ∙ sym (zero-mod m)))))
       (scaled R (R .neg (R .one)) (simp bridge at (zero-form (1 + t * x) first)))) (search reify depth 20) tt))
@@ -186,7 +186,7 @@ module _ (m x : ℕ) (two : 2 ≤ m) where
     found-end e =
         let l = at-most e in
         let f : (1 + t * x) % m ≡ 0 % m = rw (← e) (h .first) in
-        is-inverse (m - t) (less (h .first)) (opposite-inverse m (omega arith) x t (m - t) (omega arith) f ∙ mod-eq-of-lt (omega arith))
+        is-inverse (m - t) (less (h .first)) (negative-inverse m (omega arith) x t (m - t) (omega arith) f ∙ mod-eq-of-lt (omega arith))
       where
         less : (r + t * x) % m ≡ 0 % m → m - t < m
         less f = by t f
