@@ -12,10 +12,10 @@ use native.Mathlib.Nat.{add-assoc, add-zero, mul-one, mul-zero, zero-add, zero-m
 use native.Mathlib.Omega.{arith}
 use lib.ListN.{length, getD, List·getD-eq-default}
 use Rattle.definitions.specs.Number.{sum}
-use Rattle.reduction.specs.Reciprocal.{word}
-use Rattle.reduction.specs.Wrapping.{Reducible, WrapsAfter}
 use Rattle.numbers.specs.Products.{Below, productAt, transposedAt}
 use Rattle.numbers.specs.Sums.{sum-zero, sum-both}
+use Rattle.reduction.specs.Reciprocal.{word}
+use Rattle.reduction.specs.Wrapping.{Reducible, WrapsAfter}
 use Rattle.convolution.specs.Totals.{Lesser, SmallNumbers, Totalling, pair-fits, totalling-starts, totalling-next, totalling-ends}
 
 abbrev productTerm : List ℕ → List ℕ → ℕ → ℕ → ℕ

@@ -11,9 +11,9 @@ use native.Mathlib.Nat.{add-assoc, mul-le-mul}
 use native.Mathlib.Numerals.{add-one}
 use native.Mathlib.Omega.{arith}
 use Rattle.definitions.specs.Number.{sum}
+use Rattle.numbers.specs.Sums.{sum-zero, sum-cut}
 use Rattle.reduction.specs.Reciprocal.{word}
 use Rattle.reduction.specs.Wrapping.{WrapsAfter, wraps-next}
-use Rattle.numbers.specs.Sums.{sum-zero, sum-cut}
 
 pub record Lesser (x y r : ℕ) : Type 0 where
   pub first : r ≤ x

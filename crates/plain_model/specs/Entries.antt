@@ -13,8 +13,8 @@ use Rattle.algebra.specs.Residues.{Zmod, res, res-zero, res-injective}
 use Rattle.algebra.specs.Ring.{CommRing}
 use Rattle.definitions.specs.Family.{Family, Curve, size}
 use Rattle.definitions.specs.Number.{table}
-use Rattle.theory.specs.Bridge.{entries}
 use Rattle.numbers.specs.Lists.{table-entry, table-past}
+use Rattle.theory.specs.Bridge.{entries}
 use Rattle.plain_model.specs.PlainModels.{State, zeros, zeros-entry}
 
 module _ (m : ℕ) (pos : 0 < m) where

@@ -11,13 +11,13 @@ use Rattle.algebra.specs.Residues.{Zmod, res, res-add, res-mul, res-mod}
 use Rattle.algebra.specs.Ring.{CommRing}
 use Rattle.definitions.specs.Conversion.{adjoint}
 use Rattle.definitions.specs.Family.{Family, Curve, size}
-use Rattle.theory.specs.Bridge.{entries, entries-past, rowsOf, entries-adjoint, adjoint-curve}
-use Rattle.plain_model.specs.Entries.{Holding, entries-zeros, entries-table}
 use Rattle.numbers.specs.Lists.{table-entry}
+use Rattle.theory.specs.Bridge.{entries, entries-past, rowsOf, entries-adjoint, adjoint-curve}
 use Rattle.theory.specs.Operator.{pairing, pairing-start, pairing-none, pairing-past, pairing-follows, pairing-one}
-use Rattle.plain_model.specs.PlainModels.{State, adjointEntry, adjointStep, adjointState, plainAdjoint, adjointState-curves}
 use Rattle.theory.specs.Recurrence.{Rows, term}
 use Rattle.theory.specs.Curves.{table-curve, curves-equal-residues}
+use Rattle.plain_model.specs.Entries.{Holding, entries-zeros, entries-table}
+use Rattle.plain_model.specs.PlainModels.{State, adjointEntry, adjointStep, adjointState, plainAdjoint, adjointState-curves}
 
 module _ (f : Family) (pos : 0 < f .m) (u : List ℕ) (cu : Curve f u) where
   abbrev m : ℕ

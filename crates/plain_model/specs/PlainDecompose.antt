@@ -18,16 +18,16 @@ use Rattle.algebra.specs.Variable.{shift}
 use Rattle.definitions.specs.Conversion.{expand, decompose}
 use Rattle.definitions.specs.Family.{Family, Curve, rows, size, rowAt, timesX}
 use Rattle.definitions.specs.Number.{HasInverse}
+use Rattle.numbers.specs.Residue.{residue-negative, residue-product-one}
 use Rattle.theory.specs.Bridge.{entries, entries-past, rowsOf, entries-expand, expand-curve}
 use Rattle.theory.specs.Combination.{combination, combination-last, combination-cong}
+use Rattle.theory.specs.Recurrence.{Rows, term, degree}
+use Rattle.theory.specs.RoundTrip.{Decomposable, decompose-unique}
+use Rattle.theory.specs.Curves.{curves-equal-residues}
 use Rattle.plain_model.specs.Entries.{entries-zeros, entries-table, entry-zero}
 use Rattle.plain_model.specs.Horner.{timesVariable, timesVariable-ends, horner-combination}
 use Rattle.plain_model.specs.PlainModels.{constant, divide, decomposeEntry, decomposeStep}
 use Rattle.plain_model.specs.PlainModels.{decomposeState, plainDecompose, decomposeState-curve}
-use Rattle.theory.specs.Recurrence.{Rows, term, degree}
-use Rattle.numbers.specs.Residue.{residue-negative, residue-product-one}
-use Rattle.theory.specs.RoundTrip.{Decomposable, decompose-unique}
-use Rattle.theory.specs.Curves.{curves-equal-residues}
 
 pub record Inverts (f : Family) (d : List ℕ) : Type 0 where
   pub modulus : 2 ≤ f .m

@@ -21,11 +21,11 @@ use Rattle.definitions.specs.Conversion.{expand}
 use Rattle.definitions.specs.Family.{Family, rows, size, rowAt, timesX}
 use Rattle.theory.specs.Bridge.{entries, rowsOf, entries-expand, expand-curve}
 use Rattle.theory.specs.Combination.{combination}
+use Rattle.theory.specs.Recurrence.{Rows, poly, poly-zero, poly-one, poly-step, co-poly}
+use Rattle.theory.specs.Curves.{curves-equal-residues}
 use Rattle.plain_model.specs.Entries.{Holding, entries-zeros, entries-table, entry-zero}
 use Rattle.plain_model.specs.PlainModels.{State, zeros, constant, expandEntry, expandStep}
 use Rattle.plain_model.specs.PlainModels.{expandState, plainExpand, expandState-curves}
-use Rattle.theory.specs.Recurrence.{Rows, poly, poly-zero, poly-one, poly-step, co-poly}
-use Rattle.theory.specs.Curves.{curves-equal-residues}
 
 module _ (R : CommRing) (ρ : Rows R) (u : ℕ → R .Car) where
   open CommRing R using (Car, zero as 𝟘)

@@ -12,13 +12,13 @@ use native.Mathlib.Nat.{mul-add, add-mul, mul-assoc, mul-comm, mul-left-comm, mu
 use native.Mathlib.Nat.{mul-le-mul-left, div-add-mod', dvd-mod-iff, dvd-refl, dvd-zero, mod-lt, mod-self}
 use native.Mathlib.Nat.{mod-eq-of-lt, one-mul, mul-one, zero-mul, mul-zero, add-zero, zero-mod}
 use native.Mathlib.Omega.{arith}
-use Rattle.algebra.specs.Residues.{Zmod, res, res-of-mod, mod-of-res, res-mul}
+use Rattle.algebra.specs.Residues.{Zmod, res, res-of-mod, mod-of-res}
 use Rattle.algebra.specs.Ring.{CommRing}
 use Rattle.algebra.specs.Solver.{linear, scaled, both, reify}
 use Rattle.definitions.specs.Number.{HasInverse}
 use Rattle.numbers.specs.Euclid.{GreatestFactor, has-inverse-greatest}
 use Rattle.numbers.specs.Inverse.{inverse-unique}
-use Rattle.numbers.specs.Residue.{bridge}
+use Rattle.numbers.specs.Residue.{bridge, residue-multiple}
 use Rattle.residue.specs.Inversion.{IsInverse, SharesFactor}
 
 abbrev Common : ℕ → ℕ → ℕ → ℕ → Type 0
@@ -58,9 +58,6 @@ module _ (m : ℕ) (pos : 0 < m) (x : ℕ) where
   abbrev ι : ℕ → R .Car
   ι = res m pos
 
-  ring-form : (y z : ℕ) → y % m ≡ z * x % m → ι y ≡ R .mul (ι z) (ι x)
-  ring-form y z e = res-of-mod m pos y (z * x) e ∙ res-mul m pos z x
-
   zero-form : (y : ℕ) → y % m ≡ 0 % m → ι y ≡ ι 0
   zero-form y e = res-of-mod m pos y 0 e
 
@@ -69,14 +66,16 @@ module _ (m : ℕ) (pos : 0 < m) (x : ℕ) where
   first-half q ρ r s t u whole first second = mod-of-res m pos (ρ + (t + q * u) * x) 0 (simp bridge
       (linear R (ι x ∷ ι q ∷ ι ρ ∷ ι r ∷ ι s ∷ ι t ∷ ι u ∷ [])
       (both R (scaled R (R .one) (simp bridge at (ap ι whole)))
-      (both R (scaled R (R .one) (simp bridge at (zero-form (r + t * x) first))) (scaled R (R .neg (ι q)) (ring-form s u second))))
+      (both R (scaled R (R .one) (simp bridge at (zero-form (r + t * x) first)))
+      (scaled R (R .neg (ι q)) (residue-multiple m pos x s u second))))
       (search reify depth 20) tt))
 
   second-half : (q σ s r t u : ℕ) → q * r + σ ≡ s → (r + t * x) % m ≡ 0 % m → s % m ≡ u * x % m → σ % m ≡ (u + q * t) * x % m
   second-half q σ s r t u whole first second = mod-of-res m pos σ ((u + q * t) * x) (simp bridge
       (linear R (ι x ∷ ι q ∷ ι σ ∷ ι r ∷ ι s ∷ ι t ∷ ι u ∷ [])
       (both R (scaled R (R .one) (simp bridge at (ap ι whole)))
-      (both R (scaled R (R .one) (ring-form s u second)) (scaled R (R .neg (ι q)) (simp bridge at (zero-form (r + t * x) first)))))
+      (both R (scaled R (R .one) (residue-multiple m pos x s u second))
+      (scaled R (R .neg (ι q)) (simp bridge at (zero-form (r + t * x) first)))))
       (search reify depth 20) tt))
 
   -- what t lacks to m

@@ -21,10 +21,10 @@ use Rattle.definitions.specs.Orthogonality.{reversal, nextQuotient, quotient}
 use Rattle.numbers.specs.Inverse.{inverse-unique}
 use Rattle.numbers.specs.Lists.{Filling, filled, table-entries, filling-start, filling-next, filling-stop, filling-below}
 use Rattle.numbers.specs.Products.{Below, transposedAt}
-use Rattle.theory.specs.Quotient.{quotient-length, quotient-entry, quotient-next, quotient-below}
 use Rattle.numbers.specs.Regions.{part, part-length, part-entry, part-slice, part-below}
 use Rattle.numbers.specs.Residue.{negative-mod}
 use Rattle.numbers.specs.Sums.{sum-equal, sum-between}
+use Rattle.theory.specs.Quotient.{quotient-length, quotient-entry, quotient-next, quotient-below}
 use Rattle.reduction.specs.Reciprocal.{Reciprocal}
 use Rattle.convolution.specs.Coefficients.{TransposedInput}
 

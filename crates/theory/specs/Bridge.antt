@@ -18,10 +18,10 @@ use Rattle.definitions.specs.Conversion.{expand, adjoint}
 use Rattle.definitions.specs.Family as Family
 use Rattle.definitions.specs.Family.{Family, Row, Curve, size, rowAt, timesX, F, G}
 use Rattle.definitions.specs.Number.{sum}
-use Rattle.theory.specs.Curves.{table-curve}
 use Rattle.numbers.specs.Lists.{table-entry}
-use Rattle.theory.specs.Recurrence.{Rows, later, term, term-step}
 use Rattle.numbers.specs.Residue.{residue-sum}
+use Rattle.theory.specs.Curves.{table-curve}
+use Rattle.theory.specs.Recurrence.{Rows, later, term, term-step}
 
 -- a further term of the recurrence over the numbers
 pub term-further : (m : ℕ) (row : ℕ → Row) (k i : ℕ) → Family.term m row (suc (suc k)) i

@@ -16,14 +16,14 @@ use Rattle.definitions.specs.Conversion.{expand, adjoint, decompose}
 use Rattle.definitions.specs.Family.{Family, Convertible, Curve, size}
 use Rattle.definitions.specs.Number.{sum, table, inverse}
 use Rattle.definitions.specs.Orthogonality.{moments, norm, norms}
+use Rattle.numbers.specs.Lists.{table-entry}
+use Rattle.numbers.specs.Residue.{residue-sum, residue-inverse}
 use Rattle.theory.specs.Bridge.{entries, rowsOf, entries-expand, entries-adjoint}
 use Rattle.theory.specs.Curves.{table-curve, curves-equal-residues}
 use Rattle.theory.specs.BilinearForm.{form, form-rows, form-cong}
-use Rattle.numbers.specs.Lists.{table-entry}
 use Rattle.theory.specs.Moments.{norms-entry, convertible-moments, convertible-norms, norms-have-inverses}
 use Rattle.theory.specs.Orthogonal.{form-row}
 use Rattle.theory.specs.Recurrence.{Rows, term}
-use Rattle.numbers.specs.Residue.{residue-sum, residue-inverse}
 use Rattle.theory.specs.RoundTrip.{convertible-decomposable, decompose-curve, expand-decompose}
 
 unfoldable pub hankelProduct : Family → List ℕ → List ℕ

@@ -15,8 +15,8 @@ use Rattle.algebra.specs.Sum.{sum, sum-cong, sum-add, sum-mul-left}
 use Rattle.definitions.specs.Conversion.{expand, adjoint, decompose}
 use Rattle.definitions.specs.Family.{Family, Curve, size}
 use Rattle.definitions.specs.Number.{table}
-use Rattle.theory.specs.Bridge.{entries, rowsOf, entries-expand, entries-adjoint, expand-curve, adjoint-curve}
 use Rattle.numbers.specs.Lists.{table-entry}
+use Rattle.theory.specs.Bridge.{entries, rowsOf, entries-expand, entries-adjoint, expand-curve, adjoint-curve}
 use Rattle.theory.specs.Recurrence.{term}
 use Rattle.theory.specs.RoundTrip.{Decomposable, expand-decompose, decompose-unique}
 use Rattle.theory.specs.Curves.{table-curve, curves-equal-residues}

@@ -17,15 +17,15 @@ use Rattle.definitions.specs.Family.{Family, Convertible, Curve, rows, size, ro
 use Rattle.definitions.specs.Number.{HasInverse, inverse}
 use Rattle.definitions.specs.Orthogonality as Orthogonality
 use Rattle.definitions.specs.Orthogonality.{momentCount, moments, norm, norms}
+use Rattle.numbers.specs.Lists.{table-entry}
+use Rattle.numbers.specs.Residue.{residue-negative, residue-inverse, residue-unit}
 use Rattle.theory.specs.Bridge.{entries, rowsOf, res-F, res-G}
 use Rattle.theory.specs.Curves.{table-curve}
 use Rattle.theory.specs.Determinant.{signedProduct}
 use Rattle.theory.specs.Favard.{Regular, Moments}
-use Rattle.numbers.specs.Lists.{table-entry}
 use Rattle.theory.specs.Orthogonal.{Norms, norm-unit}
 use Rattle.theory.specs.Quotient.{quotient-length, quotient-below, quotient-mul}
 use Rattle.theory.specs.Recurrence.{Rows, later, term}
-use Rattle.numbers.specs.Residue.{residue-negative, residue-inverse, residue-unit}
 use Rattle.theory.specs.Reversal.{reversal, reversed}
 use Rattle.theory.specs.RoundTrip.{leading-product}
 

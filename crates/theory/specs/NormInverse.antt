@@ -16,8 +16,8 @@ use Rattle.definitions.specs.Number.{negative, HasInverse, inverse}
 use Rattle.definitions.specs.Orthogonality.{signedProduct, norm}
 use Rattle.numbers.specs.Inverse.{inverse-unique}
 use Rattle.numbers.specs.Residue.{residue-negative, residue-product-one, residue-inverse}
-use Rattle.theory.specs.RoundTrip.{leading-product}
 use Rattle.numbers.specs.RunningProduct.{runningProduct}
+use Rattle.theory.specs.RoundTrip.{leading-product}
 
 unfoldable pub signedInverse : ℕ → (ℕ → ℕ) → ℕ → ℕ
 signedInverse m w zero = 1
@@ -44,6 +44,10 @@ module _ (f : Family) (two : 2 ≤ f .m) where
   product-one : (x y : ℕ) → ι x ⊗ ι y ≡ 𝟙 → x * y % m ≡ 1
   product-one x y e = mod-of-res m pos (x * y) 1 (res-mul m pos x y ∙ e ∙ sym (res-one m pos)) ∙ mod-eq-of-lt two
 
+  inverses-multiply : (p x q y : Car) → p ⊗ q ≡ 𝟙 → x ⊗ y ≡ 𝟙 → p ⊗ x ⊗ (q ⊗ y) ≡ 𝟙
+  inverses-multiply p x q y d e =
+      linear Q (p ∷ x ∷ q ∷ y ∷ []) (both Q (scaled Q (x ⊗ y) d) (scaled Q 𝟙 e)) (search reify depth 20) tt
+
   -- ---- a_1 .. a_k
   module _ (v : ℕ → ℕ) where
     leading-residue : (k : ℕ) → ((i : ℕ) → i < k → rowAt f i .a * v i % m ≡ 1)
@@ -53,11 +57,8 @@ module _ (f : Family) (two : 2 ≤ f .m) where
     leading-residue (suc k) h =
         ap (λ t. t ⊗ ι (runningProduct m v k * v k % m)) (product-last Q k (λ i. ι (rowAt f i .a)))
         ∙ simp (res-mod m pos, res-mul m pos)
-        (step (product Q k (λ i. ι (rowAt f i .a))) (ι (rowAt f k .a)) (ι (runningProduct m v k)) (ι (v k))
+        (inverses-multiply (product Q k (λ i. ι (rowAt f i .a))) (ι (rowAt f k .a)) (ι (runningProduct m v k)) (ι (v k))
         (leading-residue k (λ i l. h i (omega arith))) (residue-product-one m pos (rowAt f k .a) (v k) (h k (omega arith))))
-      where
-        step : (p x q y : Car) → p ⊗ q ≡ 𝟙 → x ⊗ y ≡ 𝟙 → p ⊗ x ⊗ (q ⊗ y) ≡ 𝟙
-        step p x q y d e = linear Q (p ∷ x ∷ q ∷ y ∷ []) (both Q (scaled Q (x ⊗ y) d) (scaled Q 𝟙 e)) (search reify depth 20) tt
 
     pub leading-inverse : (k : ℕ) → ((i : ℕ) → i < k → rowAt f i .a * v i % m ≡ 1) → F f k k * runningProduct m v k % m ≡ 1
     leading-inverse k h = product-one (F f k k) (runningProduct m v k)
@@ -83,8 +84,5 @@ module _ (f : Family) (two : 2 ≤ f .m) where
     norm-inverse i u h = inverse-unique m (norm f i) (signedInverse m w i * rowAt f i .a % m) two (mod-lt _ pos)
         (product-one (norm f i) (signedInverse m w i * rowAt f i .a % m)
         (simp (res-mod m pos, res-mul m pos)
-        (step (ι (signedProduct f i)) (ι (inverse m (rowAt f i .a))) (ι (signedInverse m w i)) (ι (rowAt f i .a))
-        (signed-residue i h) (residue-inverse m pos (rowAt f i .a) u))))
-      where
-        step : (p x q y : Car) → p ⊗ q ≡ 𝟙 → y ⊗ x ≡ 𝟙 → p ⊗ x ⊗ (q ⊗ y) ≡ 𝟙
-        step p x q y d e = linear Q (p ∷ x ∷ q ∷ y ∷ []) (both Q (scaled Q (x ⊗ y) d) (scaled Q 𝟙 e)) (search reify depth 20) tt
+        (inverses-multiply (ι (signedProduct f i)) (ι (inverse m (rowAt f i .a))) (ι (signedInverse m w i)) (ι (rowAt f i .a))
+        (signed-residue i h) (Q .mul-comm _ _ ∙ residue-inverse m pos (rowAt f i .a) u))))

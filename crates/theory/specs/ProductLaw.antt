@@ -15,11 +15,11 @@ use Rattle.algebra.specs.Sum as Sum
 use Rattle.definitions.specs.Conversion.{expand}
 use Rattle.definitions.specs.Family.{Family, Convertible, size}
 use Rattle.definitions.specs.Orthogonality.{moments, norms, product, momentTotal, normTotal, ProductLaw}
+use Rattle.numbers.specs.Residue.{residue-sum}
 use Rattle.theory.specs.Bridge.{entries, entries-expand}
 use Rattle.theory.specs.BilinearForm.{placed, form, form-cong, form-product}
 use Rattle.theory.specs.Moments.{convertible-moments, convertible-norms, norms-have-inverses}
 use Rattle.theory.specs.Orthogonal.{form-combination}
-use Rattle.numbers.specs.Residue.{residue-sum}
 
 -- ---- the two totals as residues
 module _ (m : ℕ) (pos : 0 < m) where

@@ -18,9 +18,9 @@ use Rattle.algebra.specs.Sum as Sum
 use Rattle.algebra.specs.Unit.{IsUnit}
 use Rattle.definitions.specs.Number.{HasInverse, inverse}
 use Rattle.definitions.specs.Orthogonality.{nextQuotient, quotient}
-use Rattle.theory.specs.Bridge.{entries}
 use Rattle.numbers.specs.Lists.{snoc-length, snoc-entry, snoc-last}
 use Rattle.numbers.specs.Residue.{residue-sum, residue-negative, residue-inverse}
+use Rattle.theory.specs.Bridge.{entries}
 
 module _ (m : ℕ) (g d : List ℕ) where
   pub quotient-length : (k : ℕ) → length (quotient m g d k) ≡ k

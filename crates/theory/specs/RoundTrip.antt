@@ -19,11 +19,11 @@ use Rattle.algebra.specs.Unit.{IsUnit}
 use Rattle.definitions.specs.Conversion.{expand, top, lessTop, decomposeBelow, decompose}
 use Rattle.definitions.specs.Family.{Family, Convertible, Curve, rows, size, rowAt, F}
 use Rattle.definitions.specs.Number.{negative, HasInverse, inverse}
+use Rattle.numbers.specs.Lists.{snoc-length, snoc-entry, snoc-last, table-entry}
+use Rattle.numbers.specs.Residue.{residue-negative, residue-inverse, residue-unit}
 use Rattle.theory.specs.Bridge.{entries, rowsOf, res-F, entries-expand, expand-curve}
 use Rattle.theory.specs.Combination.{combination, combination-last, combination-cong, combination-top, combination-injective}
-use Rattle.numbers.specs.Lists.{snoc-length, snoc-entry, snoc-last, table-entry}
 use Rattle.theory.specs.Recurrence.{Rows, term, leading}
-use Rattle.numbers.specs.Residue.{residue-negative, residue-inverse, residue-unit}
 use Rattle.theory.specs.Curves.{curves-equal-residues}
 
 pub record Decomposable (f : Family) : Type 0 where

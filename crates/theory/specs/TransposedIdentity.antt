@@ -14,9 +14,9 @@ use Rattle.algebra.specs.Sum.{sum-cong, sum-exchange, sum-mul-left, sum-mul-rig
 use Rattle.definitions.specs.Conversion.{expand, adjoint}
 use Rattle.definitions.specs.Family.{Family, size}
 use Rattle.definitions.specs.Number.{sum}
+use Rattle.numbers.specs.Residue.{residue-sum}
 use Rattle.theory.specs.Bridge.{entries, rowsOf, entries-expand, entries-adjoint}
 use Rattle.theory.specs.Recurrence.{term}
-use Rattle.numbers.specs.Residue.{residue-sum}
 
 -- φ j i is the coefficient of x^i in the j-th polynomial of a basis
 module _ (R : CommRing) (φ : ℕ → ℕ → R .Car) where

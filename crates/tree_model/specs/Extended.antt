@@ -15,9 +15,9 @@ use lib.Seq.{getD-at}
 use Rattle.definitions.specs.Conversion.{expand}
 use Rattle.definitions.specs.Family.{Family, Row, rows, size, rowAt, term, F, G}
 use Rattle.definitions.specs.Number.{sum, table}
-use Rattle.theory.specs.Closing.{EqualLengths}
 use Rattle.numbers.specs.Lists.{snoc-length, table-equal}
 use Rattle.numbers.specs.Sums.{sum-zero}
+use Rattle.theory.specs.Closing.{EqualLengths}
 use Rattle.tree_model.specs.Tree.{treeExpand}
 use Rattle.tree_model.specs.TreeExpand.{tree-expand}
 

@@ -13,10 +13,10 @@ use Rattle.algebra.specs.Solver.{ring, reify}
 use Rattle.algebra.specs.Sum.{sum, sum-empty, sum-first, sum-cong}
 use Rattle.algebra.specs.Variable.{C, X}
 use Rattle.numbers.specs.Lists.{table-entry}
-use Rattle.tree_model.specs.ListSeries.{series, series-nil, series-cons}
-use Rattle.tree_model.specs.Pairing.{pairing, pairing-zero, pairing-add, pairing-scale, pairing-X}
 use Rattle.numbers.specs.Products.{transposedAt, transposed, transposedSum}
 use Rattle.numbers.specs.Residue.{residue-sum}
+use Rattle.tree_model.specs.ListSeries.{series, series-nil, series-cons}
+use Rattle.tree_model.specs.Pairing.{pairing, pairing-zero, pairing-add, pairing-scale, pairing-X}
 
 module _ (m : ℕ) (pos : 0 < m) (n : ℕ) (u : ℕ → CommRing.Car (Zmod m pos)) (past : (i : ℕ) → n ≤ i → u i ≡ CommRing.zero (Zmod m pos)) where
   abbrev R : CommRing

@@ -11,9 +11,9 @@ use mathlib.Core.List.{List, [], _∷_, _++_}
 use Prim.Native.Nat.{ℕ, zero, suc, _+_, _*_, _%_}
 use lib.ListN.{getD, take}
 use Rattle.definitions.specs.Family.{Family, Row, rows, size, rowAt}
+use Rattle.numbers.specs.Products.{plusProduct, plusProducts, transposed, transposedSum}
 use Rattle.theory.specs.Closing.{closedBy}
 use Rattle.tree_model.specs.Level.{span, levelFor}
-use Rattle.numbers.specs.Products.{plusProduct, plusProducts, transposed, transposedSum}
 
 abbrev pub padded : Family → Family
 padded f = closedBy (record { a = 0; b = 0; c = 0 }) f

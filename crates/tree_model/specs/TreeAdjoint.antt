@@ -19,16 +19,16 @@ use Rattle.algebra.specs.Series.{Ser}
 use Rattle.algebra.specs.Sum.{sum-cong}
 use Rattle.definitions.specs.Conversion.{adjoint}
 use Rattle.definitions.specs.Family.{Family, Accepted, Curve, size}
+use Rattle.numbers.specs.Products.{transposed, transposedSum}
 use Rattle.theory.specs.Alone.{adjoint-alone}
 use Rattle.theory.specs.Bridge.{entries, entries-past, rowsOf, entries-adjoint, adjoint-curve}
 use Rattle.theory.specs.Closing.{EqualLengths, accepted-lengths, adjoint-close}
 use Rattle.theory.specs.Curves.{curves-equal-residues}
+use Rattle.theory.specs.Recurrence.{co-poly}
 use Rattle.tree_model.specs.Level.{span, levelFor, level-covers}
 use Rattle.tree_model.specs.ListPairing.{transposed-pairing, transposedSum-pairing}
 use Rattle.tree_model.specs.ListSeries.{series}
 use Rattle.tree_model.specs.Pairing.{pairing, pairing-here, pairing-one}
-use Rattle.numbers.specs.Products.{transposed, transposedSum}
-use Rattle.theory.specs.Recurrence.{co-poly}
 use Rattle.tree_model.specs.Tree.{padded, F₀, F₁, Matrix, Pair, node, firstTerms, adjointPair}
 use Rattle.tree_model.specs.Tree.{leftPair, rightPair, down, rootPair, adjointAt, treeAdjoint}
 use Rattle.tree_model.specs.TreeBelow.{adjointAt-below}

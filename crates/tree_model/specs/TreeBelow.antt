@@ -9,8 +9,8 @@ use native.Mathlib.Nat.{mod-lt}
 use native.Mathlib.Omega.{arith}
 use lib.ListN.{take}
 use Rattle.definitions.specs.Family.{Family, Row, size, rowAt, RowBelow}
-use Rattle.tree_model.specs.Level.{span}
 use Rattle.numbers.specs.Products.{Below, plusProduct-below, plusProducts-below, transposed-below, transposedSum-below}
+use Rattle.tree_model.specs.Level.{span}
 use Rattle.tree_model.specs.Tree.{Matrix, Pair, F₀, F₁, leaf, join, node, expandPair, up, expandAt}
 use Rattle.tree_model.specs.Tree.{firstTerms, adjointPair, leftPair, rightPair, down, rootPair, adjointAt}
 

@@ -14,9 +14,9 @@ use Rattle.definitions.specs.Number.{sum, table}
 use Rattle.definitions.specs.Family.{Family, family, rowAt, timesX, term, F}
 use Rattle.definitions.specs.Conversion.{expand, adjoint}
 use Rattle.definitions.specs.Figures.{four}
+use Rattle.numbers.specs.Products.{productAt, plusProduct, plusProducts, transposedAt, transposed, transposedSum}
 use Rattle.tree_model.specs.Extended.{extended, fromSecond, lastUnit}
 use Rattle.tree_model.specs.Level.{span, levelFrom, levelFor}
-use Rattle.numbers.specs.Products.{productAt, plusProduct, plusProducts, transposedAt, transposed, transposedSum}
 use Rattle.tree_model.specs.Tree.{withTree, leaf, join, node, expandPair, up, expandAt, treeExpand}
 use Rattle.tree_model.specs.Tree.{firstTerms, adjointPair, down, rootPair, adjointAt, treeAdjoint}
 

@@ -23,9 +23,9 @@ use Rattle.theory.specs.Alone.{expand-alone}
 use Rattle.theory.specs.Bridge.{entries, entries-past, rowsOf, entries-expand, expand-curve}
 use Rattle.theory.specs.Closing.{EqualLengths, accepted-lengths, expand-close}
 use Rattle.theory.specs.Curves.{curves-equal-residues}
+use Rattle.theory.specs.Recurrence.{term, co-poly, poly-one}
 use Rattle.tree_model.specs.Level.{span, levelFor, level-covers}
 use Rattle.tree_model.specs.ListSeries.{series, series-one-zero, series-plusProducts, co-plusProduct}
-use Rattle.theory.specs.Recurrence.{term, co-poly, poly-one}
 use Rattle.tree_model.specs.Tree.{padded, F₁, Matrix, Pair, node, expandPair, up, expandAt, treeExpand}
 use Rattle.tree_model.specs.TreeBelow.{expandAt-below}
 use Rattle.tree_model.specs.TreeClauses.{withTree-cases}

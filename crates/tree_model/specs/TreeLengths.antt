@@ -9,8 +9,8 @@ use native.Mathlib.Omega.{arith}
 use lib.ListN.{length, length-append}
 use lib.Seq.{length-take-le}
 use Rattle.definitions.specs.Family.{Family, Row, size, rowAt}
-use Rattle.tree_model.specs.Level.{span}
 use Rattle.numbers.specs.Products.{plusProduct-length, plusProducts-length, transposed-length, transposedSum-length}
+use Rattle.tree_model.specs.Level.{span}
 use Rattle.tree_model.specs.Tree.{Matrix, Pair, F₀, F₁, leaf, join, node, expandPair, up, expandAt}
 use Rattle.tree_model.specs.Tree.{adjointPair, leftPair, rightPair, down, rootPair, adjointAt}
 

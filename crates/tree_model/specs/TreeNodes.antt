@@ -14,11 +14,11 @@ use Rattle.algebra.specs.Series.{Ser}
 use Rattle.algebra.specs.Solver.{ring, reify}
 use Rattle.algebra.specs.Variable.{C, X, C-zero, C-one, C-add, C-mul}
 use Rattle.definitions.specs.Family.{Family, Row, rowAt}
+use Rattle.numbers.specs.Products.{plusProducts}
 use Rattle.theory.specs.Bridge.{rowsOf}
+use Rattle.theory.specs.Recurrence.{poly, poly-zero, poly-one, poly-step}
 use Rattle.tree_model.specs.Level.{span}
 use Rattle.tree_model.specs.ListSeries.{series, series-cons, series-one, series-products}
-use Rattle.numbers.specs.Products.{plusProducts}
-use Rattle.theory.specs.Recurrence.{poly, poly-zero, poly-one, poly-step}
 use Rattle.tree_model.specs.Tree.{F₀, F₁, Matrix, leaf, join, node}
 use Rattle.tree_model.specs.TreeLengths.{MatrixLength, node-length}
 
