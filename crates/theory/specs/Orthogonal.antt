@@ -52,6 +52,7 @@ module _ {R : CommRing} {r : ℕ} {ρ : Rows R} {s : ℕ → R .Car} (w : Moment
   infixl 65 _⊕_
   infixl 70 _⊗_ _*_
   infix 75 ⊖_ -_
+  -- the coefficients of F_i, and the form of the moments
   abbrev F : ℕ → ℕ → Car
   F i = term R ρ (suc i)
 

@@ -77,6 +77,7 @@ module _ (f : Family) (pos : 0 < f .m) where
   abbrev pub F : ℕ → Series
   F j = poly Q (rowsOf f pos) (suc j)
 
+  -- a number as a constant
   abbrev κ : ℕ → Series
   κ = K (f .m) pos
 
