@@ -58,9 +58,10 @@ loop-less c = omega arith
 
 loop-again : tie.Need-loop-again Inv-loop μ-loop
 loop-again c =
-    transposing-next _ _ _ _ (c .before .before .before .before .before .before .before .before .before .before .before .pre) _ _ _ _ _
-    (c .before .before .before .before .before .before .loop .inv) (c .before .before .before .before .before .loop-test .taken) _ _ _
-    (c .before .before .pair .ensures) (c .before .wrapping-add-u64 .ensures) (c .wraps-after .ensures)
+    let loop = c .before .before .before .before .before .before in
+    transposing-next _ _ _ _ (loop .before .before .before .before .before .pre) _ _ _ _ _ (loop .loop .inv)
+    (c .before .before .before .before .before .loop-test .taken) _ _ _ (c .before .before .pair .ensures)
+    (c .before .wrapping-add-u64 .ensures) (c .wraps-after .ensures)
 
 remainder-of-sum-requires : tie.Need-remainder-of-sum-requires Inv-loop μ-loop
 remainder-of-sum-requires c κs = c .before .before .before .before .before .before .pre .reducible

@@ -56,9 +56,8 @@ shared-slice-read-pair-4 c =
 
 pair-requires : tie.Need-pair-requires Inv-loop μ-loop
 pair-requires c κs =
-    transposing-both-small _ _ _ _ _ _
-    (c .before .before .before .before .before .before .before .before .before .before .before .before .pre) _ _ _ _ _
-    (c .before .before .before .before .before .loop .inv)
+    let loop = c .before .before .before .before .before in
+    transposing-both-small _ _ _ _ _ _ (loop .before .before .before .before .before .before .before .pre) _ _ _ _ _ (loop .loop .inv)
 
 wrapping-add-u64-requires : tie.Need-wrapping-add-u64-requires Inv-loop μ-loop
 wrapping-add-u64-requires c κs = search needs
@@ -81,9 +80,8 @@ loop-less c = omega arith
 
 loop-again : tie.Need-loop-again Inv-loop μ-loop
 loop-again c =
-    transposing-both-next _ _ _ _ _ _
-    (c .before .before .before .before .before .before .before .before .before .before .before .before .before .before .before .pre) _ _
-    _ _ _ (c .before .before .before .before .before .before .before .before .loop .inv)
+    let loop = c .before .before .before .before .before .before .before .before in
+    transposing-both-next _ _ _ _ _ _ (loop .before .before .before .before .before .before .before .pre) _ _ _ _ _ (loop .loop .inv)
     (c .before .before .before .before .before .before .before .loop-test .taken) _ _ _ (c .before .before .pair .ensures)
     (c .before .wrapping-add-u64 .ensures) (c .wraps-after .ensures)
 
