@@ -14,7 +14,8 @@ use Prim.Native.Nat.{ℕ, suc}
 use Prim.Native.String.{String}
 use lib.ListN.{replicate}
 use Rattle.definitions.specs.Family.{Row, Family, family, rowOf}
-use Rattle.definitions.specs.Refusals.{Test, Verdict, finished, refused, verdict, workLength, cInverseTest, familyRows, plainTests, treeTests, momentsTests, normsTests}
+use Rattle.definitions.specs.Refusals.{Test, Verdict, finished, refused, verdict, workLength, cInverseTest, familyRows}
+use Rattle.definitions.specs.Refusals.{plainTests, treeTests, momentsTests, normsTests}
 use Rattle.definitions.specs.Figures.{handed, R}
 use Rattle.definitions.specs.Text.{bytes, WrittenJob, jobText}
 use Rattle.definitions.specs.TextCall.{textOutputLength, textTests}

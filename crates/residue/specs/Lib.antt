@@ -1,5 +1,6 @@
 -- What the contracts of `residue` cite beside `definitions`.
---   Inversion   what invert answers, on every input
+--   Inversion        what invert answers, on every input
+--   UnsignedEuclid   the algorithm by which it does
 -- Assumes nothing.
 pub mod Inversion
-pub mod Turning
+pub mod UnsignedEuclid
