@@ -4,7 +4,7 @@
 --   RowsStored                  the three lists by their counts, each at the front of a lent one
 --   RowsAt, RowsRead            what row_lines answers: three counts and the place after the lines, or that a line is missing
 --   FamilyAt, FamilyRead        what family_lines answers: the modulus besides
--- Proved: where the reading stops if a line is missing, and the lists if none is; what is read in steps is read in fewer (then-then).
+-- Proved: where the reading stops if a line is missing, and the lists if none is; reading by parts is reading on line by line (then-then).
 -- Assumes nothing.
 use mathlib.Core.Path.{_≡_, refl}
 use mathlib.Core.List.{List}
@@ -108,7 +108,7 @@ module _ (q : List ℕ) where
     family-at na nb nc j a a′ b b′ c c′ l =
         record { rows = l .rows; read = rw (lm .read, l .read); inside = l .inside; stored = l .stored }
 
--- ---- what is read in steps
+-- ---- reading by parts
 pub then-then : {A B C : Type 0} (f : Front A) (g : A → List ℕ → Front B) (h : B → List ℕ → Front C) (k : A → List ℕ → Front C)
     → ((x : A) (t : List ℕ) → k x t ≡ then (g x t) h) → then f k ≡ then (then f g) h
 then-then (got x t) g h k e = e x t

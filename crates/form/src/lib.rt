@@ -12,7 +12,7 @@ use reader::Number;
 use reader::Numbers;
 
 // How many numbers stand in the three lists of a family's rows, and the place after their lines, or none.
-pub enum RowLines {
+enum RowLines {
     Found {
         a: usize,
         b: usize,
@@ -35,7 +35,7 @@ pub enum FamilyLines {
 }
 
 // The operation of a job and how many numbers its curve has, if nothing follows them, or none.
-pub enum JobEnd {
+enum JobEnd {
     Found { operation: Operation, curve: usize },
     Wrong,
 }
