@@ -42,9 +42,4 @@ pub numbers-line-spec : {M : Type 1} → statement M
 numbers-line-spec =
     tie.close
     (tie.spec
-    has-key-requires
-    returns
-    add-load-numbers
-    load-numbers-requires
-    same-length
-    returns-2)
+    has-key-requires returns add-load-numbers load-numbers-requires same-length returns-2)
