@@ -61,5 +61,7 @@ module _ (m a b c : ℕ) (current₀ older₀ : List ℕ) (count : ℕ) where
 
   pub adjoint-row-ends : (current older : List ℕ) (i : ℕ) → count ≤ i → AdjoiningRow current older i
       → Stepped (adjointEntry m a b c current₀ older₀) count current₀ current older₀ older
-  adjoint-row-ends current older i l h =
-      record { currentIs = filling-stop (h .currentFilling) count (omega arith); olderIs = filling-stop (h .olderFilling) count (omega arith) }
+  adjoint-row-ends current older i l h = record {
+    currentIs = filling-stop (h .currentFilling) count (omega arith);
+    olderIs = filling-stop (h .olderFilling) count (omega arith);
+  }

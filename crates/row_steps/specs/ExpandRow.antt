@@ -71,5 +71,7 @@ module _ (m x a b c : ℕ) (current₀ older₀ : List ℕ) (count : ℕ) where
 
   pub expand-row-ends : (current older : List ℕ) (carried previous i : ℕ) → count ≤ i → ExpandingRow current older carried previous i
       → Stepped (expandEntry m x a b c current₀ older₀) count current₀ current older₀ older
-  expand-row-ends current older carried previous i l h =
-      record { currentIs = filling-stop (h .currentFilling) count (omega arith); olderIs = filling-stop (h .olderFilling) count (omega arith) }
+  expand-row-ends current older carried previous i l h = record {
+    currentIs = filling-stop (h .currentFilling) count (omega arith);
+    olderIs = filling-stop (h .olderFilling) count (omega arith);
+  }
