@@ -4,7 +4,7 @@
 -- Proved: a list whose first r entries all have inverses has r entries; a number of the rows, the closing row's from place r on, times the
 -- inverse beside it leaves 1; where the family is accepted, the inverses of its a and of its c are lent so.
 -- Assumes nothing.
-use mathlib.Core.Path.{_≡_, sym, _∙_, ap, ap₂}
+use mathlib.Core.Path.{_≡_, sym, _∙_, ap₂}
 use mathlib.Core.List.{List}
 use mathlib.Core.Logic.{by-cases}
 use Prim.Native.Nat.{ℕ, _*_, _%_, _≤_, _<_}
@@ -15,7 +15,6 @@ use lib.ListN.{length, getD, take, List·getD-eq-default}
 use Rattle.definitions.specs.Number.{inverse}
 use Rattle.definitions.specs.Family.{Row, Accepted, firstC}
 use Rattle.numbers.specs.Inverse.{inverse-right}
-use Rattle.numbers.specs.Lists.{filled, filled-below, filled-length}
 use Rattle.lists.specs.Entries.{entry-inside, entry-past}
 use Rattle.lists.specs.Lent.{Long, lent, accepted-a, accepted-c}
 
@@ -49,18 +48,14 @@ module _ (m r : ℕ) (a b c : List ℕ) (close : Row) (long : Long r a b c) (acc
   positive : 0 < m
   positive = let two : 2 ≤ m = accepted .modulus .least in omega arith
 
-  pub accepted-inverts-a : (inverses zeros : List ℕ) (closeInverse : ℕ) → r ≤ length zeros
-      → inverses ≡ filled (λ i. inverse m (getD a i 0)) r zeros → close .a * closeInverse % m ≡ 1
+  pub accepted-inverts-a : (inverses : List ℕ) (closeInverse : ℕ) → r ≤ length inverses
+      → ((i : ℕ) → i < r → getD inverses i 0 ≡ inverse m (getD a i 0)) → close .a * closeInverse % m ≡ 1
       → Inverts m 0 r a inverses (close .a) closeInverse
-  accepted-inverts-a inverses zeros closeInverse room e closes =
-      let same : length inverses ≡ length zeros = ap length e ∙ filled-length _ zeros r room in
-      let at : (i : ℕ) → i < r → getD inverses i 0 ≡ inverse m (getD a i 0) =
-      λ i l. ap (λ s. getD s i 0) e ∙ filled-below _ zeros r i 0 l in
-      record {
-        long = omega arith;
-        inverts = λ i _ l. rw (at i l) (inverse-right m (getD a i 0) positive (accepted-a m r a b c close long accepted i l));
-        closes = λ _. closes;
-      }
+  accepted-inverts-a inverses closeInverse room at closes = record {
+    long = room;
+    inverts = λ i _ l. rw (at i l) (inverse-right m (getD a i 0) positive (accepted-a m r a b c close long accepted i l));
+    closes = λ _. closes;
+  }
 
   pub accepted-inverts-c : (first : ℕ) (inverses : List ℕ) (closeInverse : ℕ) → firstC ≤ first → r ≤ length inverses
       → ((i : ℕ) → first ≤ i → i < r → getD inverses i 0 ≡ inverse m (getD c i 0)) → (first ≤ r → close .c * closeInverse % m ≡ 1)

@@ -17,17 +17,8 @@ use lib.Seq.{getD-take}
 use Rattle.definitions.specs.Conversion.{adjoint}
 use Rattle.definitions.specs.Family.{Family, ones, size, rowAt}
 use Rattle.definitions.specs.Number.{table}
-use Rattle.numbers.specs.Lists.{
-  Filling,
-  table-entry,
-  filled,
-  filled-below,
-  filled-from,
-  filled-length,
-  filling-start,
-  filling-next,
-  filling-stop,
-}
+use Rattle.numbers.specs.Lists.{table-entry, filled, filled-below, filled-from, filled-length}
+use Rattle.numbers.specs.Lists.{Filling, filling-start, filling-next, filling-stop}
 use Rattle.numbers.specs.Products.{Below}
 use Rattle.lists.specs.Lent.{lent}
 use Rattle.plain_model.specs.PlainAdjoint.{plainAdjoint-adjoint}

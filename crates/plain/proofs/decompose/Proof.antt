@@ -5,15 +5,8 @@ use Prim.Native.Nat.{_-_}
 use native.Mathlib.Omega.{arith}
 use borrow.Author.Needs.{needs}
 use lib.ListN.{length}
-use Rattle.plain.specs.Decomposing.{
-  Tables,
-  Decomposing,
-  tables-filled,
-  decomposing-starts,
-  decompose-step-input,
-  decompose-step,
-  decompose-ends,
-}
+use Rattle.plain.specs.Decomposing.{Tables, Decomposing, tables-filled, decomposing-starts}
+use Rattle.plain.specs.Decomposing.{decompose-step-input, decompose-step, decompose-ends}
 use Rattle.plain.proofs.decompose.Statement.{statement}
 use Rattle.plain.proofs.decompose.Tie as tie
 
