@@ -19,7 +19,7 @@ use Rattle.definitions.specs.declared.Valued.{Valued}
 use Rattle.acceptance.specs.Verdicts.{None, verdict-here, verdict-next, verdict-finished, verdict-stops, verdict-goes-on}
 use Rattle.operations.specs.Tests.{sizeTests, valueTests, sizesOf, job-tests, Fits, sizes-fit, curve-few}
 use Rattle.reader.specs.Storing.{Stored, kept-front}
-use Rattle.form.specs.Form.{JobAt}
+use Rattle.form.specs.JobForm.{JobAt}
 use Rattle.job.specs.Replies.{withLength, Ready, replyText, Replied}
 
 pub short-text : (t : List ℕ) (r : Answer) → answered r ≡ verdict (test 1 (ltb mostBytes (length t)) ∷ []) [] → r ≡ Answer.Finished

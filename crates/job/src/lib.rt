@@ -8,7 +8,7 @@ ghost use Rattle.job.specs.Replies.{withLength, Ready, Replied};
 use definitions::Answer;
 use definitions::Operation;
 use definitions::Valued;
-use form::Form;
+use form::JobForm;
 
 // An answer with a length in its finished kind.
 fn with_length(answer: Answer, length: u32) -> Valued
@@ -76,7 +76,7 @@ pub fn convert_text(text: &[u8], output: &mut [u8], work: &mut [u32]) -> Valued
     let mut ys = lists::zeros();
     let mut zs = lists::zeros();
     let mut us = lists::zeros();
-    let Form::Job {
+    let JobForm::Job {
         modulus,
         operation,
         a,
