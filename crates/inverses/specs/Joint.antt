@@ -26,17 +26,19 @@ pub record Shared (m : ℕ) (xs : List ℕ) (k p q : ℕ) : Type 0 where
   pub each : HasInverse m p → HasInverse m q → (i : ℕ) → i < k + k → HasInverse m (getD xs i 0)
 
 -- both factors of what is left of a product
-factors : (m x y r : ℕ) → r ≡ x * y % m → HasInverse m r → HasInverse m x × HasInverse m y
+pub factors : (m x y r : ℕ) → r ≡ x * y % m → HasInverse m r → HasInverse m x × HasInverse m y
 factors m x y r e h = product-has-inverse m x y .0 (has-inverse-remainder m r (x * y) (ap (λ t. t % m) e ∙ mod-mod (x * y) m) h)
 
 module _ (m : ℕ) (xs : List ℕ) where
   pub shared-starts : Shared m xs 0 1 1
   shared-starts = record { each = λ p q i l. absurd (omega arith) }
 
-  pub shared-next : (k p q p′ q′ : ℕ) → Shared m xs k p q → p′ ≡ p * getD xs (2 * k) 0 % m → q′ ≡ q * getD xs (2 * k + 1) 0 % m → Shared m xs (k + 1) p′ q′
+  pub shared-next : (k p q p′ q′ : ℕ) → Shared m xs k p q → p′ ≡ p * getD xs (2 * k) 0 % m → q′ ≡ q * getD xs (2 * k + 1) 0 % m
+      → Shared m xs (k + 1) p′ q′
   shared-next k p q p′ q′ h ep eq = record { each = λ hp hq i l. at hp hq i l (decLt i (k + k)) (ℕ-discrete i (2 * k)) }
     where
-      at : HasInverse m p′ → HasInverse m q′ → (i : ℕ) → i < k + 1 + (k + 1) → Dec (i < k + k) → Dec (i ≡ 2 * k) → HasInverse m (getD xs i 0)
+      at : HasInverse m p′ → HasInverse m q′ → (i : ℕ) → i < k + 1 + (k + 1) → Dec (i < k + k) → Dec (i ≡ 2 * k)
+          → HasInverse m (getD xs i 0)
       at hp hq i l (yes g) same = h .each (factors m p (getD xs (2 * k) 0) p′ ep hp .0) (factors m q (getD xs (2 * k + 1) 0) q′ eq hq .0) i g
       at hp hq i l (no g) (yes e) = rw e (factors m p (getD xs (2 * k) 0) p′ ep hp .1)
       at hp hq i l (no g) (no n) =
@@ -65,5 +67,6 @@ module _ (m : ℕ) (xs : List ℕ) where
       ap (λ ys. getD ys (i - 2 * k) 0) lent ∙ getD-drop (2 * k) xs (i - 2 * k) 0 ∙ ap (λ j. getD xs j 0) place in
       subst (HasInverse m) moved there)
 
-pub joint-of : (m : ℕ) (a c : List ℕ) (x y r : ℕ) → r ≡ x * y % m → (HasInverse m x → AllInvertible m a) → (HasInverse m y → AllInvertible m c) → Joint m a c r
+pub joint-of : (m : ℕ) (a c : List ℕ) (x y r : ℕ) → r ≡ x * y % m → (HasInverse m x → AllInvertible m a) → (HasInverse m y → AllInvertible m c)
+    → Joint m a c r
 joint-of m a c x y r e left right = record { settles = λ h. let both = factors m x y r e h in (left (both .0), right (both .1)) }

@@ -130,11 +130,13 @@ product-by-requires-9 : tie.Need-product-by-requires-9 Inv-loop μ-loop
 product-by-requires-9 c κs = search needs
 
 returns : tie.Need-returns Inv-loop μ-loop
-returns c = let ended = c .before .before .before .before .before .before .before .before .before in
+returns c =
+    let both = c .before .before .before .before .before .before .before .before in
+    let ended = both .before in
     let loop = ended .before in
     let fits = loop .before .pair-count .ensures in
     joint-of _ _ _ _ _ _ (c .product-by9 .ensures)
-    (shared-ends _ _ _ _ _ _ _ _ _ (omega arith) (loop .loop .inv .1) (fits .0) (c .before .before .before .before .before .before .before .before .product-by5 .ensures)
+    (shared-ends _ _ _ _ _ _ _ _ _ (omega arith) (loop .loop .inv .1) (fits .0) (both .product-by5 .ensures)
     (c .before .before .before .before .before .before .running-product .ensures) (c .before .before .before .before .before .product-by6 .ensures))
     (shared-ends _ _ _ _ _ _ _ _ _ (omega arith) (loop .loop .inv .2) (fits .1) (c .before .before .before .before .product-by7 .ensures)
     (c .before .before .running-product2 .ensures) (c .before .product-by8 .ensures))

@@ -45,8 +45,11 @@ loop-less : tie.Need-loop-less Inv-loop μ-loop
 loop-less c = omega arith
 
 loop-again : tie.Need-loop-again Inv-loop μ-loop
-loop-again c =
-    (omega arith, running-next _ _ _ _ _ (c .before .before .before .loop .inv .1) (c .product-by .ensures), filling-next (c .before .before .before .loop .inv .2) (omega arith) (c .before .before .before .loop .inv .1))
+loop-again c = let loop = c .before .before .before .loop in (
+  omega arith,
+  running-next _ _ _ _ _ (loop .inv .1) (c .product-by .ensures),
+  filling-next (loop .inv .2) (omega arith) (loop .inv .1),
+)
 
 same-length : tie.Need-same-length Inv-loop μ-loop
 same-length c = c .before .loop .inv .2 .sameLength
