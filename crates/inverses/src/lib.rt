@@ -1,5 +1,5 @@
-// The inverses of the entries of a list modulo m from a place on, from one inverse where the product of all has one; and one product by which
-// to tell whether all entries of two lists have inverses.
+// The inverses of the entries of a list modulo m from a place on, from one inverse where the product of all has one; and one product by
+// which to tell whether all entries of two lists have inverses, and two numbers more.
 ghost use mathlib.Core.Path.{_≡_};
 ghost use Prim.Native.Nat.{_+_, _<_, _≤_};
 ghost use lib.ListN.{length, getD};
@@ -108,17 +108,17 @@ fn pair_count(a: usize, c: usize) -> usize
     if a < c { a / 2 } else { c / 2 }
 }
 
-// A product of all entries of both lists, modulo m. Four products run side by side, each of every second entry of a list, since a product
-// waits for the one before it.
-pub fn joint_product(m: u32, a: &[u32], c: &[u32]) -> u32
+// A product of x and all entries of a, and of y and all entries of c, modulo m. Four products run side by side, each of every second
+// entry of a list, since a product waits for the one before it.
+pub fn joint_product(m: u32, a: &[u32], x: u32, c: &[u32], y: u32) -> u32
     requires { ⌜ 0 < m ⌝ }
-    ensures { λ r. ⌜ Joint m (now (a .entry)) (now (c .entry)) r ⌝ }
+    ensures { λ r. ⌜ Joint m (now (a .entry)) x (now (c .entry)) y r ⌝ }
 {
     let reciprocal = reduction::reciprocal(m);
     let pairs = pair_count(a.len(), c.len());
-    let mut p: u32 = 1;
+    let mut p = x;
     let mut q: u32 = 1;
-    let mut s: u32 = 1;
+    let mut s = y;
     let mut t: u32 = 1;
     let mut k: usize = 0;
     while k < pairs {
