@@ -158,11 +158,11 @@ module _ (m r : ℕ) (a c : List ℕ) (first count closeA closeC : ℕ) where
 
     pub a-refused : (AInverted → ⊥) → refused 10 ≡ whole
     unfolding inverseRows aInverseTest
-    a-refused n = refuses (aInverseTest f) a-inverted (cInverseTest first f ∷ []) n
+    a-refused n = refuses (aInverseTest f) a-inverted (cInverseTest first f ∷ []) [] n
 
     past-a : AInverted → verdict (cInverseTest first f ∷ []) [] ≡ whole
     unfolding inverseRows
-    past-a p = goes-on (aInverseTest f) a-inverted (cInverseTest first f ∷ []) p
+    past-a p = goes-on (aInverseTest f) a-inverted (cInverseTest first f ∷ []) [] p
 
     pub c-refused : AInverted → (CInverted → ⊥) → refused 11 ≡ whole
     unfolding cInverseTest

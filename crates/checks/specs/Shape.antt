@@ -1,10 +1,15 @@
 -- The shape of a family.
 --   Shaped m a b c   what the tests 3, 4 and 5 ask for, of the modulus and the lengths of the three lists
--- Proved: they pass if and only if the family is so. Assumes nothing.
+-- Proved: where they pass the family is so; a modulus that passes is no zero. Assumes nothing.
 use mathlib.Core.Path.{_≡_}
-use Prim.Native.Nat.{ℕ, _≤_}
+use mathlib.Core.List.{[], _∷_}
+use Prim.Native.Nat.{ℕ, _<_, _≤_}
+use native.Mathlib.Omega.{arith}
+use Rattle.definitions.specs.Answers.{answered}
 use Rattle.definitions.specs.Family.{Modulus, mostRows}
-use Rattle.definitions.specs.Refusals.{shapeTests}
+use Rattle.definitions.specs.Refusals.{verdict, modulusTest, shapeTests}
+use Rattle.definitions.specs.declared.Answer.{Answer}
+use Rattle.acceptance.specs.Stages.{stage-none}
 use Rattle.acceptance.specs.Verdicts.{None, modulus-passes, lengths-pass, row-count-passes}
 
 pub record Shaped (m a b c : ℕ) : Type 0 where
@@ -18,3 +23,9 @@ unfolding shapeTests
 shape-passes m a b c (e3, (e4, (e5, done))) =
     let equal = lengths-pass a b c .0 e4 in
     record { modulus = modulus-passes m .0 e3; bLength = equal .0; cLength = equal .1; few = row-count-passes a .0 e5 }
+
+pub shaped : (m a b c : ℕ) (r : Answer) → answered r ≡ verdict (shapeTests m a b c) [] → r ≡ Answer.Finished → Shaped m a b c
+shaped m a b c r is q = shape-passes m a b c (stage-none (shapeTests m a b c) r is q)
+
+pub modulus-positive : (m : ℕ) (r : Answer) → answered r ≡ verdict (modulusTest m ∷ []) [] → r ≡ Answer.Finished → 0 < m
+modulus-positive m r is q = let two : 2 ≤ m = modulus-passes m .0 (stage-none (modulusTest m ∷ []) r is q .0) .least in omega arith

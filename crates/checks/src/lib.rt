@@ -52,7 +52,7 @@ fn all_below(m: u32, list: &[u32]) -> bool
     all
 }
 
-pub fn entries_below(m: u32, list: &[u32]) -> Entries
+fn entries_below(m: u32, list: &[u32]) -> Entries
     ensures { λ r. ⌜ BelowAnswer m (now (list .entry)) r ⌝ }
 {
     if all_below(m, list) {
@@ -70,7 +70,7 @@ pub fn entries_below(m: u32, list: &[u32]) -> Entries
 }
 
 // One inverse settles it where the product of all has one; only if it has none are the entries looked at one by one.
-pub fn invertible(m: u32, list: &[u32]) -> Factors
+fn invertible(m: u32, list: &[u32]) -> Factors
     requires { ⌜ 0 < m ⌝ }
     ensures { λ r. ⌜ FactorAnswer m (now (list .entry)) r ⌝ }
 {
@@ -290,6 +290,16 @@ pub fn family_rows(
         return entries;
     };
     row_inverses(m, a, c, r, 0, close_a, close_c)
+}
+
+// 12: the entries of a curve.
+pub fn curve_entries(m: u32, curve: &[u32]) -> Answer
+    ensures { λ r. ⌜ answered r ≡ verdict (test 12 (some (notBelow m) (now (curve .entry))) ∷ []) [] ⌝ }
+{
+    let Entries::Residues = entries_below(m, curve) else {
+        return Answer::Refused(12);
+    };
+    Answer::Finished
 }
 
 // 12 of a number.

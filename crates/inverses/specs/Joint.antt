@@ -68,7 +68,10 @@ module _ (m : ℕ) (xs : List ℕ) (x : ℕ) where
       let h : Shared m xs x k p q = subst (λ j. Shared m xs x j p q) e shared in
       let outer = factors m both rest whole ew inverse in
       let inner = factors m p q both eb (outer .0) in
-      record { entries = λ i l. by-cases (decLt i (k + k)) (h .each (inner .0) (inner .1) i) (past (outer .1) i l); number = h .number (inner .0) }
+      record {
+        entries = λ i l. by-cases (decLt i (k + k)) (h .each (inner .0) (inner .1) i) (past (outer .1) i l);
+        number = h .number (inner .0);
+      }
     where
       past : HasInverse m rest → (i : ℕ) → i < length xs → (i < k + k → ⊥) → HasInverse m (getD xs i 0)
       past left i l g =

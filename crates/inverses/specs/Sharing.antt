@@ -86,8 +86,8 @@ unfolding filled
 filled-again f g n old output e = ap (λ list. table n f ++ list) (ap (drop n) e ∙ drop-at (table n g) (drop n old) n (table-length n g))
 
 pub sharable : (m : ℕ) (list : List ℕ) (n : ℕ) (old output : List ℕ) → 1 < m → n ≤ length list → n ≤ length old
-    → output ≡ filled (runningProduct m (λ i. getD list i 0)) n old → (whole y : ℕ) → whole ≡ runningProduct m (λ i. getD list i 0) n → IsInverse m whole y
-    → Sharable m list n y output
+    → output ≡ filled (runningProduct m (λ i. getD list i 0)) n old
+    → (whole y : ℕ) → whole ≡ runningProduct m (λ i. getD list i 0) n → IsInverse m whole y → Sharable m list n y output
 sharable m list n old output one entries room e whole y is found =
     let R = runningProduct m (λ i. getD list i 0) in
     record {

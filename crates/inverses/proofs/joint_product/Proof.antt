@@ -1,5 +1,5 @@
--- `joint_product` meets its contract: the loop's invariant is that the four products settle the entries that were passed (`Shared`); the measure
--- is what is left of the pairs. Assumes nothing.
+-- `joint_product` meets its contract: the loop's invariant is that the four products settle the entries that were passed (`Shared`); the
+-- measure is what is left of the pairs. Assumes nothing.
 use Prim.Native.Nat.{_-_, _≤_}
 use native.Mathlib.Omega.{arith}
 use borrow.Author.Needs.{needs}
@@ -137,7 +137,8 @@ returns c =
     let fits = loop .before .pair-count .ensures in
     joint-of _ _ _ _ _ _ _ _ (c .product-by9 .ensures)
     (shared-ends _ _ _ _ _ _ _ _ _ _ (omega arith) (loop .loop .inv .1) (fits .0) (both .product-by5 .ensures)
-    (c .before .before .before .before .before .before .running-product .ensures) (c .before .before .before .before .before .product-by6 .ensures))
+    (c .before .before .before .before .before .before .running-product .ensures)
+    (c .before .before .before .before .before .product-by6 .ensures))
     (shared-ends _ _ _ _ _ _ _ _ _ _ (omega arith) (loop .loop .inv .2) (fits .1) (c .before .before .before .before .product-by7 .ensures)
     (c .before .before .running-product2 .ensures) (c .before .product-by8 .ensures))
 

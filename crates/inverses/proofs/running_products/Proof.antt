@@ -1,5 +1,5 @@
--- `running_products` meets its contract: its loop fills the output from the front, with the product of the entries so far. The measure is what
--- is left of the count. Assumes nothing.
+-- `running_products` meets its contract: its loop fills the output from the front, with the product of the entries so far. The measure is
+-- what is left of the count. Assumes nothing.
 use mathlib.Core.Path.{_≡_, _∙_, ap}
 use Prim.Native.Nat.{_-_, _≤_}
 use native.Mathlib.Omega.{arith}
