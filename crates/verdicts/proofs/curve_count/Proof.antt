@@ -1,9 +1,9 @@
 -- `curve_count` is the count that the definition has. Assumes that there are at most 127 rows.
 use native.Mathlib.Numerals.{add-one}
-use Rattle.operations.specs.Tests.{curveCount}
+use Rattle.definitions.specs.TextCall.{curveCount}
 use borrow.Author.Needs.{needs}
-use Rattle.operations.proofs.curve_count.Statement.{statement}
-use Rattle.operations.proofs.curve_count.Tie as tie
+use Rattle.verdicts.proofs.curve_count.Statement.{statement}
+use Rattle.verdicts.proofs.curve_count.Tie as tie
 
 enum-told : tie.Need-enum-told
 enum-told c = search needs
