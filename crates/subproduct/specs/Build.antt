@@ -27,7 +27,7 @@ pub record BuildInput (m : ℕ) (a b c : List ℕ) (r : ℕ) (w : List ℕ) (at 
   pub room : at + treeSize level ≤ length w
   pub last : t + span level ≤ 256
 
-padded-below : {m r : ℕ} {a b c : List ℕ} → LentRows m r a b c → (i : ℕ) → RowBelow m (rowAt (padded (lent m r a b c ones)) i)
+pub padded-below : {m r : ℕ} {a b c : List ℕ} → LentRows m r a b c → (i : ℕ) → RowBelow m (rowAt (padded (lent m r a b c ones)) i)
 unfolding rowAt
 padded-below {m} {r} {a} {b} {c} h i =
     let positive : 0 < m = omega (arith, h .modulus .least) in
