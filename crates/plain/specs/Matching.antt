@@ -14,7 +14,7 @@ use lib.ListN.{length, getD, List·getD-eq-default}
 use Rattle.definitions.specs.Family.{Family, Curve, size}
 use Rattle.definitions.specs.Number.{table}
 use Rattle.numbers.specs.Lists.{table-entry, table-past, table-unique, filled, filled-below, filled-from}
-use Rattle.row_steps.specs.Row.{Below}
+use Rattle.numbers.specs.Products.{Below}
 
 abbrev pub Match : List ℕ → List ℕ → Type 0
 Match xs ys = (t : ℕ) → getD xs t 0 ≡ getD ys t 0
@@ -27,10 +27,12 @@ module _ (count : ℕ) (old : List ℕ) (past : ZeroFrom count old) where
   filled-zero g t h = filled-from g old count t 0 h ∙ past t h
 
   -- f is written below count, and has zeros from there to n
-  pub filled-matches : (f g : ℕ → ℕ) (n : ℕ) → count ≤ n → ((t : ℕ) → t < count → f t ≡ g t) → ((t : ℕ) → count ≤ t → t < n → g t ≡ 0) → Match (filled f count old) (table n g)
+  pub filled-matches : (f g : ℕ → ℕ) (n : ℕ) → count ≤ n → ((t : ℕ) → t < count → f t ≡ g t)
+      → ((t : ℕ) → count ≤ t → t < n → g t ≡ 0) → Match (filled f count old) (table n g)
   filled-matches f g n l same zero t = by-cases (decLt t count)
       (λ h. filled-below f old count t 0 h ∙ same t h ∙ sym (table-entry n g t 0 (omega arith)))
-      (λ h. filled-zero f t (omega arith) ∙ sym (by-cases (decLt t n) (λ k. table-entry n g t 0 k ∙ zero t (omega arith) k) (λ k. table-past n g t 0 (omega arith))))
+      (λ h. filled-zero f t (omega arith)
+      ∙ sym (by-cases (decLt t n) (λ k. table-entry n g t 0 k ∙ zero t (omega arith) k) (λ k. table-past n g t 0 (omega arith))))
 
   -- another list is written over, and has zeros from count on as well
   pub filled-copies : (xs : List ℕ) → ZeroFrom count xs → Match (filled (λ t. getD xs t 0) count old) xs

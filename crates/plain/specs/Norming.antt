@@ -2,25 +2,25 @@
 --   signedTo m c close i            (-1)^i c_2 .. c_{i+1}, where close stands past the end of c
 --   normBy m v c inverse close i    the same times the inverse of a_{i+1}, which is inverse past the end of v
 --   Norming                         the first i norms are written, and the product is up to there
--- Proved: these are the norms of every family that has these c and inverses of the a; how the loop starts, goes on and ends; and that a
--- number without an inverse has 0 for it.
+-- Proved: these are the norms of every family that has these c and inverses of the a; how the loop starts, goes on and ends.
 -- Assumes nothing.
 use mathlib.Core.Path.{_≡_, refl, sym, _∙_, ap, ap₂}
 use mathlib.Core.List.{List, _++_}
-use mathlib.Core.Logic.{by-cases}
 use Prim.Native.Nat.{ℕ, zero, suc, _+_, _*_, _-_, _%_, _≤_, _<_}
-use native.Mathlib.Decide.{decLt}
+use native.Mathlib.Nat.{mod-lt}
 use native.Mathlib.Numerals.{add-one}
 use native.Mathlib.Omega.{arith}
-use lib.ListN.{length, getD, set, take, drop}
+use lib.ListN.{getD, set, take, drop}
 use lib.Seq.{length-take-le}
-use Rattle.definitions.specs.Family.{Row, rowAt}
+use Rattle.algebra.specs.Residues.{mul-mod-mod}
+use Rattle.definitions.specs.Family.{Family, rowOf, size, rowAt}
 use Rattle.definitions.specs.Number.{table, negative, inverse}
 use Rattle.definitions.specs.Orthogonality.{signedProduct, norm, norms}
 use Rattle.numbers.specs.Inverse.{inverse-unique}
 use Rattle.numbers.specs.Lists.{Filling, table-equal, filled, filling-start, filling-next, filling-stop}
-use Rattle.lists.specs.Entries.{entry-inside, entry-past}
-use Rattle.plain.specs.Input.{closedRows, Holds, NormsInput, InversesOf, Closes}
+use Rattle.lists.specs.Inverses.{Inverts, inverts-long, inverts-at}
+use Rattle.lists.specs.Lent.{lent}
+use Rattle.plain.specs.Input.{NormsInput}
 
 unfoldable pub signedTo : ℕ → List ℕ → ℕ → ℕ → ℕ
 signedTo m c close zero = 1
@@ -30,30 +30,33 @@ unfoldable pub normBy : ℕ → List ℕ → List ℕ → ℕ → ℕ → ℕ �
 normBy m v c inverse close i = signedTo m c close i * getD v i inverse % m
 
 -- ---- these are the norms
-module _ (m n : ℕ) (a b c : List ℕ) (row : Row) where
-  signedTo-product : (i : ℕ) → signedTo m (take (n - 1) c) (row .c) i ≡ signedProduct (closedRows m n a b c row) i
-  unfolding signedTo signedProduct closedRows rowAt
+module _ (m n : ℕ) (a b c v : List ℕ) (closeA closeB closeC y : ℕ) (pos : 0 < m) (h : Inverts m 0 (n - 1) a v closeA y) where
+  abbrev f : Family
+  f = lent m (n - 1) a b c (rowOf closeA closeB closeC)
+
+  signedTo-product : (i : ℕ) → signedTo m (take (n - 1) c) closeC i ≡ signedProduct f i
+  unfolding signedTo signedProduct rowAt
   signedTo-product zero = refl
-  signedTo-product (suc i) = ap (λ s. s * negative m (getD (take (n - 1) c) (suc i) (row .c)) % m) (signedTo-product i)
+  signedTo-product (suc i) = ap (λ s. s * negative m (getD (take (n - 1) c) (suc i) closeC) % m) (signedTo-product i)
 
-  module _ (v : List ℕ) (y close : ℕ) (two : 2 ≤ m) (hold : Holds m (n - 1) v) (below : y < m) (inverses : InversesOf m (n - 1) v a) (closes : Closes m y close row) where
-    inverse-at : (i : ℕ) → getD (take (n - 1) v) i y ≡ inverse m (rowAt (closedRows m n a b c row) i .a)
-    unfolding closedRows rowAt
-    inverse-at i = by-cases (decLt i (n - 1))
-        (λ h. sym (entry-inside (n - 1) v (hold .long) i y h) ∙ inverse-unique m (getD a i 0) (getD v i 0) two (hold .below i h) (inverses .product i h)
-        ∙ ap (inverse m) (entry-inside (n - 1) a (inverses .long) i (row .a) h))
-        (λ h. sym (entry-past (n - 1) v (hold .long) i y (omega arith)) ∙ inverse-unique m (row .a) y two below (closes .product)
-        ∙ ap (inverse m) (entry-past (n - 1) a (inverses .long) i (row .a) (omega arith)))
+  inverse-at : (i : ℕ) → getD (take (n - 1) v) i y % m ≡ inverse m (rowAt f i .a)
+  unfolding rowAt
+  inverse-at i =
+      let two : 1 < m = omega (arith, h .closes (omega arith), mod-lt (closeA * y) pos) in
+      inverse-unique m _ (getD (take (n - 1) v) i y % m) two (mod-lt _ pos)
+      (mul-mod-mod (getD (take (n - 1) a) i closeA) (getD (take (n - 1) v) i y) m
+      ∙ inverts-at h (inverts-long h) (omega arith) i (omega arith))
 
-    normBy-norm : (i : ℕ) → normBy m (take (n - 1) v) (take (n - 1) c) y close i ≡ norm (closedRows m n a b c row) i
-    unfolding normBy norm closedRows
-    normBy-norm i = ap₂ (λ s t. s * t % m) (ap (λ t. signedTo m (take (n - 1) c) t i) (sym (closes .cIs)) ∙ signedTo-product i) (inverse-at i)
+  normBy-norm : (i : ℕ) → normBy m (take (n - 1) v) (take (n - 1) c) y closeC i ≡ norm f i
+  unfolding normBy norm
+  normBy-norm i = sym (mul-mod-mod (signedTo m (take (n - 1) c) closeC i) (getD (take (n - 1) v) i y) m)
+      ∙ ap₂ (λ s t. s * t % m) (signedTo-product i) (inverse-at i)
 
-    pub norms-by : 1 ≤ n → table n (normBy m (take (n - 1) v) (take (n - 1) c) y close) ≡ norms (closedRows m n a b c row)
-    unfolding norms closedRows
-    norms-by h =
-        let sized : suc (length (take (n - 1) a)) ≡ n = ap suc (length-take-le (n - 1) a (inverses .long)) ∙ omega arith in
-        ap (λ k. table k (normBy m (take (n - 1) v) (take (n - 1) c) y close)) (sym sized) ∙ table-equal (suc (length (take (n - 1) a))) _ _ (λ i l. normBy-norm i)
+  norms-by : 1 ≤ n → table n (normBy m (take (n - 1) v) (take (n - 1) c) y closeC) ≡ norms f
+  unfolding norms
+  norms-by some =
+      let sized : size f ≡ n = ap suc (length-take-le (n - 1) a (inverts-long h)) ∙ omega arith in
+      ap (λ k. table k (normBy m (take (n - 1) v) (take (n - 1) c) y closeC)) (sym sized) ∙ table-equal (size f) _ _ (λ i l. normBy-norm i)
 
 -- ---- the loop
 pub record Norming (m n : ℕ) (v c : List ℕ) (y close : ℕ) (output₀ output : List ℕ) (signed i : ℕ) : Type 0 where
@@ -66,9 +69,10 @@ module _ {m n : ℕ} {v c output₀ : List ℕ} {y close : ℕ} where
   unfolding signedTo
   norming-starts = record { reached = omega arith; signedIs = refl; written = filling-start }
 
-  module _ (input : NormsInput m v c y n output₀) where
+  module _ (input : NormsInput m v c n output₀) where
     pub norming-next : {output : List ℕ} {signed i p q r s t : ℕ} → i < n → Norming m n v c y close output₀ output signed i
-        → p ≡ getD (take (n - 1) v) i y → q ≡ signed * p % m → r ≡ getD (take (n - 1) c) (i + 1) close → s ≡ negative m r → t ≡ signed * s % m
+        → p ≡ getD (take (n - 1) v) i y → q ≡ signed * p % m
+        → r ≡ getD (take (n - 1) c) (i + 1) close → s ≡ negative m r → t ≡ signed * s % m
         → Norming m n v c y close output₀ (set output i q) t (i + 1)
     unfolding signedTo normBy
     norming-next {i = i} l h p q r s t = record {
@@ -78,7 +82,8 @@ module _ {m n : ℕ} {v c output₀ : List ℕ} {y close : ℕ} where
     }
 
     pub norming-ends : {output : List ℕ} {signed i : ℕ} → n ≤ i → Norming m n v c y close output₀ output signed i
-        → (a b : List ℕ) (row : Row) → InversesOf m (n - 1) v a → Closes m y close row → output ≡ norms (closedRows m n a b c row) ++ drop n output₀
+        → (a b : List ℕ) (closeA closeB : ℕ) → Inverts m 0 (n - 1) a v closeA y
+        → output ≡ norms (lent m (n - 1) a b c (rowOf closeA closeB close)) ++ drop n output₀
     unfolding filled
-    norming-ends l h a b row inverses closes = filling-stop (h .written) n (omega arith)
-        ∙ ap (λ s. s ++ drop n output₀) (norms-by m n a b c row v y close (input .sizes .modulus .least) (input .inversesHold) (input .inverseBelow) inverses closes (input .sizes .least))
+    norming-ends l h a b closeA closeB inverts = filling-stop (h .written) n (omega arith)
+        ∙ ap (λ s. s ++ drop n output₀) (norms-by m n a b c v closeA closeB close y (input .positive) inverts (input .least))

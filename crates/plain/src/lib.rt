@@ -1,16 +1,18 @@
-// The plain ways, on input that is already checked: row by row, one remainder for each coefficient and no division, in local arrays. Lists are
-// lent whole, with n: the first n - 1 entries of the rows' lists take part, the first n of the curve, and the first n of the
-// output are written.
+// The plain ways, on input that is already checked: row by row, one remainder for each coefficient and no division, in local arrays.
+// Lists are lent whole, with n: the first n - 1 entries of the rows' lists take part, the first n of the curve, and the first n of the
+// output are written. The 1 that stands for a row's number past these is the closing row's.
 ghost use mathlib.Core.Path.{_≡_};
 ghost use mathlib.Core.List.{List, _++_};
 ghost use Prim.Native.Nat.{ℕ, _-_, _<_, _≤_};
-ghost use lib.ListN.{length, getD, take, drop};
+ghost use lib.ListN.{length, take, drop};
 ghost use Rattle.definitions.specs.Conversion.{expand, adjoint, decompose};
-ghost use Rattle.definitions.specs.Family.{Row};
+ghost use Rattle.definitions.specs.Family.{rowOf, ones};
 ghost use Rattle.definitions.specs.Orthogonality.{norms};
+ghost use Rattle.lists.specs.Inverses.{Inverts};
+ghost use Rattle.lists.specs.Lent.{lent};
 ghost use Rattle.numbers.specs.Lists.{filled};
-ghost use Rattle.plain.specs.Decomposing.{oppositeProduct};
-ghost use Rattle.plain.specs.Input.{firstRows, closedRows, ConvertInput, InversesOf, NormsInput, Closes};
+ghost use Rattle.plain.specs.Decomposing.{negativeProduct};
+ghost use Rattle.plain.specs.Input.{ConvertInput, NormsInput};
 use lists::copy;
 use lists::row_entry;
 use lists::zeros;
@@ -24,7 +26,9 @@ use row_steps::expand_row;
 // B_{n-i+1}, where B_k = u_k + (a_{k+1} x + b_{k+1}) B_{k+1} + c_{k+2} B_{k+2}. The closing row multiplies zeros.
 pub fn expand(m: u32, a: &[u32], b: &[u32], c: &[u32], curve: &[u32], n: usize, output: &mut [u32])
     requires { ⌜ ConvertInput m (now a) (now b) (now c) (now curve) n (now output) ⌝ }
-    ensures { λ _. ⌜ now (output .exit) ≡ expand (firstRows m n (now (a .entry)) (now (b .entry)) (now (c .entry))) (take n (now (curve .entry))) ++ drop n (now (output .entry)) ⌝ }
+    ensures { λ _. ⌜ now (output .exit)
+        ≡ expand (lent m (n - 1) (now (a .entry)) (now (b .entry)) (now (c .entry)) ones) (take n (now (curve .entry)))
+        ++ drop n (now (output .entry)) ⌝ }
 {
     let rows = n - 1;
     let mut current = zeros();
@@ -46,7 +50,9 @@ pub fn expand(m: u32, a: &[u32], b: &[u32], c: &[u32], curve: &[u32], n: usize, 
 // n - j, and older the same of F_{j-1}. Entry j of the output is the first of them.
 pub fn adjoint(m: u32, a: &[u32], b: &[u32], c: &[u32], curve: &[u32], n: usize, output: &mut [u32])
     requires { ⌜ ConvertInput m (now a) (now b) (now c) (now curve) n (now output) ⌝ }
-    ensures { λ _. ⌜ now (output .exit) ≡ adjoint (firstRows m n (now (a .entry)) (now (b .entry)) (now (c .entry))) (take n (now (curve .entry))) ++ drop n (now (output .entry)) ⌝ }
+    ensures { λ _. ⌜ now (output .exit)
+        ≡ adjoint (lent m (n - 1) (now (a .entry)) (now (b .entry)) (now (c .entry)) ones) (take n (now (curve .entry)))
+        ++ drop n (now (output .entry)) ⌝ }
 {
     let rows = n - 1;
     let mut current = zeros();
@@ -63,10 +69,11 @@ pub fn adjoint(m: u32, a: &[u32], b: &[u32], c: &[u32], curve: &[u32], n: usize,
     }
 }
 
-// Each of the first count entries times the factor beside it, with the opposite sign.
-fn opposite_products(m: u32, list: &[u32], factors: &[u32], count: usize, output: &mut [u32])
+// Each of the first count entries times the factor beside it, with the negative sign.
+fn negative_products(m: u32, list: &[u32], factors: &[u32], count: usize, output: &mut [u32])
     requires { ⌜ (0 < m) × (count ≤ length (now list)) × (count ≤ length (now factors)) × (count ≤ length (now output)) ⌝ }
-    ensures { λ _. ⌜ now (output .exit) ≡ filled (oppositeProduct m (now (list .entry)) (now (factors .entry))) count (now (output .entry)) ⌝ }
+    ensures { λ _. ⌜ now (output .exit)
+        ≡ filled (negativeProduct m (now (list .entry)) (now (factors .entry))) count (now (output .entry)) ⌝ }
 {
     let reciprocal = reduction::reciprocal(m);
     let mut i: usize = 0;
@@ -78,27 +85,30 @@ fn opposite_products(m: u32, list: &[u32], factors: &[u32], count: usize, output
 
 // The curve of coefficients in powers of x, from the top power down (Horner in the basis F): after i steps current is the curve
 // of the i top powers, each lowered by n - i, and the next is x times that and a coefficient more. In the basis
-// x F_i = (F_{i+1} - b_{i+1} F_i - c_{i+1} F_{i-1}) / a_{i+1}; inverses[i] is the inverse of a_{i+1}.
+// x F_i = (F_{i+1} - b_{i+1} F_i - c_{i+1} F_{i-1}) / a_{i+1}; a_inverses[i] is the inverse of a_{i+1}.
 pub fn decompose(
     m: u32,
-    inverses: &[u32],
+    a_inverses: &[u32],
     b: &[u32],
     c: &[u32],
     coefficients: &[u32],
     n: usize,
     output: &mut [u32],
 )
-    requires { ⌜ ConvertInput m (now inverses) (now b) (now c) (now coefficients) n (now output) ⌝ }
-    ensures { λ _. ⌜ ((a : List ℕ) → InversesOf m (n - 1) (now (inverses .entry)) a → now (output .exit) ≡ decompose (firstRows m n a (now (b .entry)) (now (c .entry))) (take n (now (coefficients .entry))) ++ drop n (now (output .entry))) ⌝ }
+    requires { ⌜ ConvertInput m (now «a_inverses») (now b) (now c) (now coefficients) n (now output) ⌝ }
+    ensures { λ _. ⌜ ((a : List ℕ) → Inverts m 0 (n - 1) a (now («a_inverses» .entry)) 1 1
+        → now (output .exit)
+        ≡ decompose (lent m (n - 1) a (now (b .entry)) (now (c .entry)) ones) (take n (now (coefficients .entry)))
+        ++ drop n (now (output .entry))) ⌝ }
 {
     let rows = n - 1;
     let mut rise = zeros();
     let mut stay = zeros();
     let mut fall = zeros();
     let mut current = zeros();
-    copy(inverses, rows, &mut rise);
-    opposite_products(m, b, inverses, rows, &mut stay);
-    opposite_products(m, c, inverses, rows, &mut fall);
+    copy(a_inverses, rows, &mut rise);
+    negative_products(m, b, a_inverses, rows, &mut stay);
+    negative_products(m, c, a_inverses, rows, &mut fall);
     let mut i: usize = 0;
     while i < n {
         decompose_row(
@@ -115,28 +125,29 @@ pub fn decompose(
     copy(&current, n, output);
 }
 
-// The norms (-1)^i c_2 .. c_{i+1} / a_{i+1}; inverses[i] is the inverse of a_{i+1}. Of the closing row inverse is the inverse of its a,
-// and close its c.
+// The norms (-1)^i c_2 .. c_{i+1} / a_{i+1}; a_inverses[i] is the inverse of a_{i+1}. The closing row's numbers are handed in beside.
 pub fn norms(
     m: u32,
-    inverses: &[u32],
+    a_inverses: &[u32],
     c: &[u32],
-    inverse: u32,
-    close: u32,
+    close_a_inverse: u32,
+    close_c: u32,
     n: usize,
     output: &mut [u32],
 )
-    requires { ⌜ NormsInput m (now inverses) (now c) inverse n (now output) ⌝ }
-    ensures { λ _. ⌜ ((a b : List ℕ) (row : Row) → InversesOf m (n - 1) (now (inverses .entry)) a → Closes m inverse close row → now (output .exit) ≡ norms (closedRows m n a b (now (c .entry)) row) ++ drop n (now (output .entry))) ⌝ }
+    requires { ⌜ NormsInput m (now «a_inverses») (now c) n (now output) ⌝ }
+    ensures { λ _. ⌜ ((a b : List ℕ) (closeA closeB : ℕ) → Inverts m 0 (n - 1) a (now («a_inverses» .entry)) closeA «close_a_inverse»
+        → now (output .exit)
+        ≡ norms (lent m (n - 1) a b (now (c .entry)) (rowOf closeA closeB «close_c»)) ++ drop n (now (output .entry))) ⌝ }
 {
     let rows = n - 1;
     let reciprocal = reduction::reciprocal(m);
     let mut signed: u32 = 1;
     let mut i: usize = 0;
     while i < n {
-        let p = row_entry(inverses, rows, i, inverse);
+        let p = row_entry(a_inverses, rows, i, close_a_inverse);
         output[i] = product_by(m, reciprocal, signed, p);
-        let r = row_entry(c, rows, i + 1, close);
+        let r = row_entry(c, rows, i + 1, close_c);
         signed = product_by(m, reciprocal, signed, negative(m, reciprocal, r));
         i += 1;
     }

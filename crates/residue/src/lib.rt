@@ -1,5 +1,6 @@
 // Arithmetic modulo m on words of 32 bits, for every modulus from 1 on, and the inverse, for every modulus.
-// Arguments need not be below m; the results of sum and product are. In loops the reciprocal of m takes the place of divisions.
+// Arguments need not be below m, those of combine apart; the results of sum and product are. In loops the reciprocal of m takes the place
+// of divisions.
 ghost use mathlib.Core.Path.{_≡_};
 ghost use Prim.Native.Nat.{_+_, _*_, _%_, _<_};
 ghost use lib.ListN.{length, getD};
@@ -7,6 +8,7 @@ ghost use Rattle.definitions.specs.Number.{negative};
 ghost use Rattle.numbers.specs.RunningProduct.{runningProduct};
 ghost use Rattle.reduction.specs.Reciprocal.{Reciprocal};
 ghost use Rattle.residue.specs.Inversion.{Inverted};
+ghost use Rattle.residue.specs.Summands.{Summands};
 
 // The remainder of x, of 64 bits.
 fn remainder(m: u32, x: u64) -> u32
@@ -46,6 +48,28 @@ pub fn negative(m: u32, reciprocal: u64, x: u32) -> u32
     ensures { λ r. ⌜ r ≡ negative m x ⌝ }
 {
     m - reduction::remainder(m, reciprocal, x as u64)
+}
+
+// The remainder of s + a p + b q + c r: three products of residues and one more fit 64 bits.
+pub fn combine(
+    m: u32,
+    reciprocal: u64,
+    s: u32,
+    a: u32,
+    p: u32,
+    b: u32,
+    q: u32,
+    c: u32,
+    r: u32,
+) -> u32
+    requires { ⌜ Summands m s a p b q c r × Reciprocal m reciprocal ⌝ }
+    ensures { λ v. ⌜ v ≡ (s + a * p + b * q + c * r) % m ⌝ }
+{
+    reduction::remainder(
+        m,
+        reciprocal,
+        (s as u64) + (a as u64) * (p as u64) + (b as u64) * (q as u64) + (c as u64) * (r as u64),
+    )
 }
 
 // The remainder of the product of all entries, 1 if there is none.

@@ -9,9 +9,10 @@ use native.Mathlib.Nat.{zero-add}
 use native.Mathlib.Numerals.{add-one}
 use native.Mathlib.Omega.{arith}
 use lib.ListN.{getD, set}
-use Rattle.numbers.specs.Lists.{filled, Filling, filling-start, filling-next, filling-stop, filling-from}
+use Rattle.numbers.specs.Lists.{Filling, filling-start, filling-next, filling-stop, filling-from}
 use Rattle.plain_model.specs.PlainModels.{adjointEntry}
-use Rattle.row_steps.specs.Row.{Summands, RowInput}
+use Rattle.residue.specs.Summands.{Summands}
+use Rattle.row_steps.specs.Row.{RowInput, Stepped}
 
 module _ (m a b c : ℕ) (current₀ older₀ : List ℕ) (count : ℕ) where
   pub record AdjoiningRow (current older : List ℕ) (i : ℕ) : Type 0 where
@@ -59,6 +60,8 @@ module _ (m a b c : ℕ) (current₀ older₀ : List ℕ) (count : ℕ) where
       }
 
   pub adjoint-row-ends : (current older : List ℕ) (i : ℕ) → count ≤ i → AdjoiningRow current older i
-      → (current ≡ filled (adjointEntry m a b c current₀ older₀) count current₀) × (older ≡ filled (λ j. getD current₀ j 0) count older₀)
-  adjoint-row-ends current older i l h =
-      (filling-stop (h .currentFilling) count (omega arith), filling-stop (h .olderFilling) count (omega arith))
+      → Stepped (adjointEntry m a b c current₀ older₀) count current₀ current older₀ older
+  adjoint-row-ends current older i l h = record {
+    currentIs = filling-stop (h .currentFilling) count (omega arith);
+    olderIs = filling-stop (h .olderFilling) count (omega arith);
+  }

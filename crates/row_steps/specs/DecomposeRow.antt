@@ -1,7 +1,7 @@
 -- A step of Decompose: x times a list in the basis F, and a constant more. Multiplication by x in the basis is three lists,
 -- x F_i = rise_i F_{i+1} + stay_i F_i + fall_i F_{i-1}.
 --   DecomposeRowInput   the three lists and the one that the step moves on hold residues and have room for count entries
---   Multiplying   the step in progress: the first i entries are done
+--   Multiplying         the step in progress: the first i entries are done
 -- Proved: how the step starts, what it sums, how it goes on and how it ends.
 -- Assumes nothing.
 use mathlib.Core.Path.{_≡_, refl, sym, _∙_, ap}
@@ -12,9 +12,11 @@ use native.Mathlib.Omega.{arith}
 use lib.ListN.{length, getD, set}
 use Rattle.definitions.specs.Family.{greatestModulus, timesX}
 use Rattle.numbers.specs.Lists.{filled, Filling, filling-start, filling-next, filling-stop, filling-from}
+use Rattle.numbers.specs.Products.{Below}
 use Rattle.plain_model.specs.PlainBasis.{basisEntry}
 use Rattle.plain_model.specs.PlainModels.{constant}
-use Rattle.row_steps.specs.Row.{Below, Summands, constant-below}
+use Rattle.residue.specs.Summands.{Summands}
+use Rattle.row_steps.specs.Row.{constant-below}
 
 pub record DecomposeRowInput (m p : ℕ) (rise stay fall current : List ℕ) (count : ℕ) : Type 0 where
   pub most : m ≤ greatestModulus
@@ -75,7 +77,8 @@ module _ (m p : ℕ) (rise stay fall current₀ : List ℕ) (count : ℕ) where
         unfolding basisEntry constant timesX
         multiplying-next v e = record {
           reached = omega arith;
-          filling = filling-next (h .filling) (omega (arith, input .currentLong)) (e ∙ rw (h .carriedIs, h .behindIs, ef, en, next-is, here-is, add-one));
+          filling = filling-next (h .filling) (omega (arith, input .currentLong))
+              (e ∙ rw (h .carriedIs, h .behindIs, ef, en, next-is, here-is, add-one));
           carriedIs = sym (ap (constant p) (add-one i));
           behindIs = rw here-is (sym (ap (timesX (λ j. getD rise j 0 * getD current₀ j 0)) (add-one i)));
           leadBelow = input .riseBelow i;

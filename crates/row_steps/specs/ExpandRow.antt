@@ -9,9 +9,10 @@ use native.Mathlib.Numerals.{add-one}
 use native.Mathlib.Omega.{arith}
 use lib.ListN.{getD, set}
 use Rattle.definitions.specs.Family.{timesX}
-use Rattle.numbers.specs.Lists.{filled, Filling, filling-start, filling-next, filling-stop, filling-from}
+use Rattle.numbers.specs.Lists.{Filling, filling-start, filling-next, filling-stop, filling-from}
 use Rattle.plain_model.specs.PlainModels.{constant, expandEntry}
-use Rattle.row_steps.specs.Row.{Summands, RowInput, constant-below}
+use Rattle.residue.specs.Summands.{Summands}
+use Rattle.row_steps.specs.Row.{RowInput, Stepped, constant-below}
 
 module _ (m x a b c : ℕ) (current₀ older₀ : List ℕ) (count : ℕ) where
   pub record ExpandingRow (current older : List ℕ) (carried previous i : ℕ) : Type 0 where
@@ -61,13 +62,16 @@ module _ (m x a b c : ℕ) (current₀ older₀ : List ℕ) (count : ℕ) where
       unfolding expandEntry constant timesX
       expand-row-next v e = record {
         reached = omega arith;
-        currentFilling = filling-next (h .currentFilling) (omega (arith, input .currentLong)) (e ∙ rw (here-is, old-is, h .carriedIs, h .previousIs));
+        currentFilling = filling-next (h .currentFilling) (omega (arith, input .currentLong))
+            (e ∙ rw (here-is, old-is, h .carriedIs, h .previousIs));
         olderFilling = filling-next (h .olderFilling) (omega (arith, input .olderLong)) here-is;
         carriedIs = sym (ap (constant x) (add-one i));
         previousIs = here-is ∙ sym (ap (timesX (λ j. getD current₀ j 0)) (add-one i));
       }
 
   pub expand-row-ends : (current older : List ℕ) (carried previous i : ℕ) → count ≤ i → ExpandingRow current older carried previous i
-      → (current ≡ filled (expandEntry m x a b c current₀ older₀) count current₀) × (older ≡ filled (λ j. getD current₀ j 0) count older₀)
-  expand-row-ends current older carried previous i l h =
-      (filling-stop (h .currentFilling) count (omega arith), filling-stop (h .olderFilling) count (omega arith))
+      → Stepped (expandEntry m x a b c current₀ older₀) count current₀ current older₀ older
+  expand-row-ends current older carried previous i l h = record {
+    currentIs = filling-stop (h .currentFilling) count (omega arith);
+    olderIs = filling-stop (h .olderFilling) count (omega arith);
+  }

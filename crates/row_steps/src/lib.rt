@@ -1,28 +1,15 @@
 // Loops over lists of residues: one step of each plain way. Lists are lent whole, with a count of the entries that take part;
 // the entries past the count stay. Each stored coefficient costs one remainder, by the reciprocal of m.
 ghost use mathlib.Core.Path.{_≡_};
-ghost use Prim.Native.Nat.{_+_, _*_, _%_, _≤_, _<_};
-ghost use lib.ListN.{length, getD, replicate};
+ghost use Prim.Native.Nat.{_<_};
+ghost use lib.ListN.{length};
 ghost use Rattle.numbers.specs.Lists.{filled};
 ghost use Rattle.plain_model.specs.PlainBasis.{basisEntry};
 ghost use Rattle.plain_model.specs.PlainModels.{expandEntry, adjointEntry};
-ghost use Rattle.reduction.specs.Reciprocal.{Reciprocal};
 ghost use Rattle.row_steps.specs.DecomposeRow.{DecomposeRowInput};
-ghost use Rattle.row_steps.specs.Row.{Summands, RowInput};
+ghost use Rattle.row_steps.specs.Row.{RowInput, Stepped};
 use lists::entry;
-use reduction::remainder;
-
-// s + a p + b q + c r modulo m: three products of residues and one more fit 64 bits.
-fn combine(m: u32, reciprocal: u64, s: u32, a: u32, p: u32, b: u32, q: u32, c: u32, r: u32) -> u32
-    requires { ⌜ Summands m s a p b q c r × Reciprocal m reciprocal ⌝ }
-    ensures { λ v. ⌜ v ≡ (s + a * p + b * q + c * r) % m ⌝ }
-{
-    remainder(
-        m,
-        reciprocal,
-        (s as u64) + (a as u64) * (p as u64) + (b as u64) * (q as u64) + (c as u64) * (r as u64),
-    )
-}
+use residue::combine;
 
 // One row of Expand downwards: the first count entries of current become x + (a X + b) current + c older, and older what
 // current was.
@@ -37,7 +24,8 @@ pub fn expand_row(
     count: usize,
 )
     requires { ⌜ RowInput m x a b c (now current) (now older) count ⌝ }
-    ensures { λ _. ⌜ (now (current .exit) ≡ filled (expandEntry m x a b c (now (current .entry)) (now (older .entry))) count (now (current .entry))) × (now (older .exit) ≡ filled (λ i. getD (now (current .entry)) i 0) count (now (older .entry))) ⌝ }
+    ensures { λ _. ⌜ Stepped (expandEntry m x a b c (now (current .entry)) (now (older .entry))) count
+        (now (current .entry)) (now (current .exit)) (now (older .entry)) (now (older .exit)) ⌝ }
 {
     let reciprocal = reduction::reciprocal(m);
     let mut constant = x;
@@ -67,7 +55,8 @@ pub fn adjoint_row(
     count: usize,
 )
     requires { ⌜ RowInput m 0 a b c (now current) (now older) count × (count < length (now current)) ⌝ }
-    ensures { λ _. ⌜ (now (current .exit) ≡ filled (adjointEntry m a b c (now (current .entry)) (now (older .entry))) count (now (current .entry))) × (now (older .exit) ≡ filled (λ i. getD (now (current .entry)) i 0) count (now (older .entry))) ⌝ }
+    ensures { λ _. ⌜ Stepped (adjointEntry m a b c (now (current .entry)) (now (older .entry))) count
+        (now (current .entry)) (now (current .exit)) (now (older .entry)) (now (older .exit)) ⌝ }
 {
     let reciprocal = reduction::reciprocal(m);
     let mut i: usize = 0;
@@ -94,7 +83,9 @@ pub fn decompose_row(
     count: usize,
 )
     requires { ⌜ DecomposeRowInput m p (now rise) (now stay) (now fall) (now current) count ⌝ }
-    ensures { λ _. ⌜ now (current .exit) ≡ filled (basisEntry m p (now (rise .entry)) (now (stay .entry)) (now (fall .entry)) (now (current .entry))) count (now (current .entry)) ⌝ }
+    ensures { λ _. ⌜ now (current .exit)
+        ≡ filled (basisEntry m p (now (rise .entry)) (now (stay .entry)) (now (fall .entry)) (now (current .entry)))
+        count (now (current .entry)) ⌝ }
 {
     let reciprocal = reduction::reciprocal(m);
     let mut constant = p;

@@ -5,13 +5,15 @@ use Prim.Native.Nat.{_-_}
 use native.Mathlib.Omega.{arith}
 use borrow.Author.Needs.{needs}
 use lib.ListN.{length, take}
+use Rattle.definitions.specs.Family.{ones}
+use Rattle.lists.specs.Lent.{lent}
 use Rattle.plain.specs.Adjoining.{Adjoining, adjoint-starts, adjoint-step-input, adjoint-step, adjoint-ends}
-use Rattle.plain.specs.Input.{firstRows}
 use Rattle.plain.proofs.adjoint.Statement.{statement}
 use Rattle.plain.proofs.adjoint.Tie as tie
 
 abbrev Inv-loop : tie.InvT-loop
-Inv-loop m a b c curve n output₀ rows current₀ older₀ j₀ output current older j = Adjoining (firstRows m n a b c) (take n curve) n output₀ current older output j
+Inv-loop m a b c curve n output₀ rows current₀ older₀ j₀ output current older j =
+    Adjoining (lent m (n - 1) a b c ones) (take n curve) n output₀ current older output j
 
 abbrev μ-loop : tie.MeasureT-loop
 μ-loop m a b c curve n output₀ rows current₀ older₀ j₀ output current older j = n - j
@@ -32,7 +34,10 @@ copy-requires : tie.Need-copy-requires Inv-loop μ-loop
 copy-requires c κs = omega (arith, ap length (c .before .before .zeros .ensures))
 
 loop-holds : tie.Need-loop-holds Inv-loop μ-loop
-loop-holds c = adjoint-starts (c .before .before .before .before .before .before .before .before .before .before .pre) (c .before .before .before .before .zeros .ensures) (c .before .before .before .zeros2 .ensures) (c .before .copy .ensures)
+loop-holds c =
+    let arrays = c .before .before .before in
+    let input = arrays .before .before .before .before .before .before .before .pre in
+    adjoint-starts input (arrays .before .zeros .ensures) (arrays .zeros2 .ensures) (c .before .copy .ensures)
 
 array-read-output : tie.Need-array-read-output Inv-loop μ-loop
 array-read-output c = omega arith
@@ -62,7 +67,12 @@ sub-adjoint-row : tie.Need-sub-adjoint-row Inv-loop μ-loop
 sub-adjoint-row c = omega arith
 
 adjoint-row-requires : tie.Need-adjoint-row-requires Inv-loop μ-loop
-adjoint-row-requires c κs = adjoint-step-input (c .before .before .before .before .before .before .before .before .before .before .before .before .before .before .before .before .before .pre) (c .before .before .before .before .before .loop-test .taken) (c .before .before .before .before .before .before .loop .inv) (c .before .before .before .before .row-entry .ensures) (c .before .before .before .row-entry2 .ensures) (c .before .before .row-entry3 .ensures)
+adjoint-row-requires c κs =
+    let entries = c .before .before in
+    let loop = entries .before .before .before .before in
+    let input = loop .before .before .before .before .before .before .before .before .before .before .before .pre in
+    adjoint-step-input input (entries .before .before .before .loop-test .taken) (loop .loop .inv)
+    (entries .before .before .row-entry .ensures) (entries .before .row-entry2 .ensures) (entries .row-entry3 .ensures)
 
 add-j : tie.Need-add-j Inv-loop μ-loop
 add-j c = omega arith
@@ -71,13 +81,22 @@ loop-less : tie.Need-loop-less Inv-loop μ-loop
 loop-less c = omega arith
 
 loop-again : tie.Need-loop-again Inv-loop μ-loop
-loop-again c = adjoint-step (c .before .before .before .before .before .before .before .before .before .before .before .before .before .before .before .before .before .before .before .before .pre) (c .before .before .before .before .before .before .before .before .loop-test .taken) (c .before .before .before .before .before .before .before .before .before .loop .inv) (c .before .before .before .before .before .before .before .row-entry .ensures) (c .before .before .before .before .before .before .row-entry2 .ensures) (c .before .before .before .before .before .row-entry3 .ensures) (c .before .before .adjoint-row .ensures)
+loop-again c =
+    let entries = c .before .before .before .before .before in
+    let loop = entries .before .before .before .before in
+    let input = loop .before .before .before .before .before .before .before .before .before .before .before .pre in
+    adjoint-step input (entries .before .before .before .loop-test .taken) (loop .loop .inv)
+    (entries .before .before .row-entry .ensures) (entries .before .row-entry2 .ensures) (entries .row-entry3 .ensures)
+    (c .before .before .adjoint-row .ensures)
 
 same-length : tie.Need-same-length Inv-loop μ-loop
 same-length c = c .before .loop .inv .written .sameLength
 
 returns : tie.Need-returns Inv-loop μ-loop
-returns c = adjoint-ends (c .before .before .before .before .before .before .before .before .before .before .before .before .pre) (c .loop-test .left) (c .before .loop .inv)
+returns c =
+    let loop = c .before in
+    let input = loop .before .before .before .before .before .before .before .before .before .before .before .pre in
+    adjoint-ends input (c .loop-test .left) (loop .loop .inv)
 
 pub adjoint-spec : {M : Type 1} → statement M
 adjoint-spec =

@@ -4,13 +4,15 @@ use Prim.Native.Nat.{_-_}
 use native.Mathlib.Omega.{arith}
 use borrow.Author.Needs.{needs}
 use lib.ListN.{take}
+use Rattle.definitions.specs.Family.{ones}
+use Rattle.lists.specs.Lent.{lent}
 use Rattle.plain.specs.Expanding.{Expanding, expanding-starts, expand-step-input, expand-step, expand-ends}
-use Rattle.plain.specs.Input.{firstRows}
 use Rattle.plain.proofs.expand.Statement.{statement}
 use Rattle.plain.proofs.expand.Tie as tie
 
 abbrev Inv-loop : tie.InvT-loop
-Inv-loop m a b c curve n output rows current₀ older₀ i₀ current older i = Expanding (firstRows m n a b c) (take n curve) n current older i
+Inv-loop m a b c curve n output rows current₀ older₀ i₀ current older i =
+    Expanding (lent m (n - 1) a b c ones) (take n curve) n current older i
 
 abbrev μ-loop : tie.MeasureT-loop
 μ-loop m a b c curve n output rows current₀ older₀ i₀ current older i = n - i
@@ -58,7 +60,12 @@ add-expand-row : tie.Need-add-expand-row Inv-loop μ-loop
 add-expand-row c = omega arith
 
 expand-row-requires : tie.Need-expand-row-requires Inv-loop μ-loop
-expand-row-requires c κs = expand-step-input (c .before .before .before .before .before .before .before .before .before .before .before .before .before .before .before .pre) (c .before .before .before .before .before .before .loop-test .taken) (c .before .before .before .before .before .before .before .loop .inv) (c .before .before .before .before .row-entry .ensures) (c .before .before .before .row-entry2 .ensures) (c .before .before .row-entry3 .ensures)
+expand-row-requires c κs =
+    let entries = c .before .before in
+    let loop = entries .before .before .before .before .before in
+    let input = loop .before .before .before .before .before .before .before .before .pre in
+    expand-step-input input (entries .before .before .before .before .loop-test .taken) (loop .loop .inv)
+    (entries .before .before .row-entry .ensures) (entries .before .row-entry2 .ensures) (entries .row-entry3 .ensures)
 
 add-i : tie.Need-add-i Inv-loop μ-loop
 add-i c = omega arith
@@ -67,7 +74,13 @@ loop-less : tie.Need-loop-less Inv-loop μ-loop
 loop-less c = omega arith
 
 loop-again : tie.Need-loop-again Inv-loop μ-loop
-loop-again c = expand-step (c .before .before .before .before .before .before .before .before .before .before .before .before .before .before .before .before .before .before .pre) (c .before .before .before .before .before .before .before .before .before .loop-test .taken) (c .before .before .before .before .before .before .before .before .before .before .loop .inv) (c .before .before .before .before .before .before .before .row-entry .ensures) (c .before .before .before .before .before .before .row-entry2 .ensures) (c .before .before .before .before .before .row-entry3 .ensures) (c .before .before .expand-row .ensures)
+loop-again c =
+    let entries = c .before .before .before .before .before in
+    let loop = entries .before .before .before .before .before in
+    let input = loop .before .before .before .before .before .before .before .before .pre in
+    expand-step input (entries .before .before .before .before .loop-test .taken) (loop .loop .inv)
+    (entries .before .before .row-entry .ensures) (entries .before .row-entry2 .ensures) (entries .row-entry3 .ensures)
+    (c .before .before .expand-row .ensures)
 
 slice-aggregate-copy : tie.Need-slice-aggregate-copy Inv-loop μ-loop
 slice-aggregate-copy c = omega arith
@@ -79,7 +92,10 @@ same-length : tie.Need-same-length Inv-loop μ-loop
 same-length c = omega arith
 
 returns : tie.Need-returns Inv-loop μ-loop
-returns c = expand-ends (c .before .before .before .before .before .before .before .before .before .before .before .before .before .before .pre) (c .before .before .before .before .before .loop-test .left) (c .before .before .before .before .before .before .loop .inv) (c .before .before .copy .ensures)
+returns c =
+    let test = c .before .before .before .before .before in
+    let input = test .before .before .before .before .before .before .before .before .before .pre in
+    expand-ends input (test .loop-test .left) (test .before .loop .inv) (c .before .before .copy .ensures)
 
 pub expand-spec : {M : Type 1} → statement M
 expand-spec =

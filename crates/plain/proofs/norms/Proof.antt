@@ -8,11 +8,11 @@ use Rattle.plain.proofs.norms.Statement.{statement}
 use Rattle.plain.proofs.norms.Tie as tie
 
 abbrev Inv-loop : tie.InvT-loop
-Inv-loop m inverses c inverse close n output₀ rows reciprocal signed₀ i₀ output signed i =
-    Norming m n inverses c inverse close output₀ output signed i
+Inv-loop m a-inverses c close-a-inverse close-c n output₀ rows reciprocal signed₀ i₀ output signed i =
+    Norming m n a-inverses c close-a-inverse close-c output₀ output signed i
 
 abbrev μ-loop : tie.MeasureT-loop
-μ-loop m inverses c inverse close n output₀ rows reciprocal signed₀ i₀ output signed i = n - i
+μ-loop m a-inverses c close-a-inverse close-c n output₀ rows reciprocal signed₀ i₀ output signed i = n - i
 
 sub-rows : tie.Need-sub-rows Inv-loop μ-loop
 sub-rows c = omega arith
@@ -56,7 +56,8 @@ loop-less c = omega arith
 loop-again : tie.Need-loop-again Inv-loop μ-loop
 loop-again c =
     let loop = c .before .before .before .before .before .before in
-    norming-next (loop .before .before .before .before .before .pre) (c .before .before .before .before .before .loop-test .taken) (loop .loop .inv)
+    norming-next (loop .before .before .before .before .before .pre) (c .before .before .before .before .before .loop-test .taken)
+    (loop .loop .inv)
     (c .before .before .before .before .row-entry .ensures) (c .before .before .before .product-by .ensures)
     (c .before .before .row-entry2 .ensures) (c .before .negative .ensures) (c .product-by2 .ensures)
 

@@ -46,7 +46,12 @@ shared-slice-read-combine c = omega arith
 
 combine-requires : tie.Need-combine-requires Inv-loop μ-loop
 combine-requires c κs =
-    (multiplying-summands _ _ _ _ _ _ _ (c .before .before .before .before .before .before .before .before .before .before .before .before .pre) _ _ _ _ _ (c .before .before .before .before .before .loop-test .taken) (c .before .before .before .before .before .before .loop .inv) _ _ (c .before .entry2 .ensures) (c .before .before .entry .ensures), c .before .before .before .before .before .before .before .reciprocal .ensures)
+    let loop = c .before .before .before .before .before .before in (
+      multiplying-summands _ _ _ _ _ _ _ (loop .before .before .before .before .before .before .pre) _ _ _ _ _
+          (c .before .before .before .before .before .loop-test .taken) (loop .loop .inv) _ _
+          (c .before .entry2 .ensures) (c .before .before .entry .ensures),
+      loop .before .reciprocal .ensures,
+    )
 
 mul-current : tie.Need-mul-current Inv-loop μ-loop
 mul-current c = omega arith
@@ -68,11 +73,11 @@ loop-less c = omega arith
 
 loop-again : tie.Need-loop-again Inv-loop μ-loop
 loop-again c =
-    multiplying-next _ _ _ _ _ _ _
-    (c .before .before .before .before .before .before .before .before .before .before .before .before .before .before .pre) _ _ _ _ _
-    (c .before .before .before .before .before .before .before .loop-test .taken)
-    (c .before .before .before .before .before .before .before .before .loop .inv) _ _ (c .before .before .before .entry2 .ensures)
-    (c .before .before .before .before .entry .ensures) _ (c .before .combine .ensures)
+    let step = c .before .before .before in
+    let loop = step .before .before .before .before .before in
+    multiplying-next _ _ _ _ _ _ _ (loop .before .before .before .before .before .before .pre) _ _ _ _ _
+    (step .before .before .before .before .loop-test .taken) (loop .loop .inv) _ _
+    (step .entry2 .ensures) (step .before .entry .ensures) _ (c .before .combine .ensures)
 
 same-length : tie.Need-same-length Inv-loop μ-loop
 same-length c = c .before .loop .inv .filling .sameLength

@@ -33,7 +33,11 @@ slice-read-old c = omega arith
 
 combine-requires : tie.Need-combine-requires Inv-loop μ-loop
 combine-requires c κs =
-    (expand-row-summands _ _ _ _ _ _ _ _ (c .before .before .before .before .before .before .before .pre) _ _ _ _ _ (c .before .before .loop-test .taken) (c .before .before .before .loop .inv), c .before .before .before .before .reciprocal .ensures)
+    let loop = c .before .before .before in (
+      expand-row-summands _ _ _ _ _ _ _ _ (loop .before .before .before .before .pre) _ _ _ _ _
+          (c .before .before .loop-test .taken) (loop .loop .inv),
+      loop .before .reciprocal .ensures,
+    )
 
 mul-current : tie.Need-mul-current Inv-loop μ-loop
 mul-current c = omega arith
@@ -55,8 +59,9 @@ loop-less c = omega arith
 
 loop-again : tie.Need-loop-again Inv-loop μ-loop
 loop-again c =
-    expand-row-next _ _ _ _ _ _ _ _ (c .before .before .before .before .before .before .before .before .pre) _ _ _ _ _
-    (c .before .before .before .loop-test .taken) (c .before .before .before .before .loop .inv) _ (c .combine .ensures)
+    let loop = c .before .before .before .before in
+    expand-row-next _ _ _ _ _ _ _ _ (loop .before .before .before .before .pre) _ _ _ _ _
+    (c .before .before .before .loop-test .taken) (loop .loop .inv) _ (c .combine .ensures)
 
 same-length : tie.Need-same-length Inv-loop μ-loop
 same-length c = c .before .loop .inv .currentFilling .sameLength

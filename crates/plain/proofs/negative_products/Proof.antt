@@ -1,4 +1,4 @@
--- `opposite_products` meets its contract: its loop fills the output from the front. The measure is what is left of the count.
+-- `negative_products` meets its contract: its loop fills the output from the front. The measure is what is left of the count.
 -- Assumes nothing.
 use mathlib.Core.Path.{_∙_, ap}
 use Prim.Native.Nat.{_-_, _*_, _%_, _≤_}
@@ -6,12 +6,12 @@ use native.Mathlib.Omega.{arith}
 use lib.ListN.{getD}
 use Rattle.numbers.specs.Lists.{Filling, filling-start, filling-next, filling-stop}
 use borrow.Author.Needs.{needs}
-use Rattle.plain.specs.Decomposing.{oppositeProduct}
-use Rattle.plain.proofs.opposite_products.Statement.{statement}
-use Rattle.plain.proofs.opposite_products.Tie as tie
+use Rattle.plain.specs.Decomposing.{negativeProduct}
+use Rattle.plain.proofs.negative_products.Statement.{statement}
+use Rattle.plain.proofs.negative_products.Tie as tie
 
 abbrev Inv-loop : tie.InvT-loop
-Inv-loop m list factors count output₀ reciprocal i₀ output i = (i ≤ count) × Filling (oppositeProduct m list factors) i output₀ output
+Inv-loop m list factors count output₀ reciprocal i₀ output i = (i ≤ count) × Filling (negativeProduct m list factors) i output₀ output
 
 abbrev μ-loop : tie.MeasureT-loop
 μ-loop m list factors count output₀ reciprocal i₀ output i = count - i
@@ -53,13 +53,14 @@ loop-less : tie.Need-loop-less Inv-loop μ-loop
 loop-less c = omega arith
 
 loop-again : tie.Need-loop-again Inv-loop μ-loop
-unfolding oppositeProduct
+unfolding negativeProduct
 loop-again c =
     let loop = c .before .before .before .before .before in
     let start = loop .before .before .before .before .before in (
       omega arith,
       filling-next (loop .loop .inv .1) (omega arith)
-          (c .product-by .ensures ∙ ap (λ x. x * getD (start .args .factors .now) (loop .loop .i) 0 % start .args .m) (c .before .before .negative .ensures)),
+          (c .product-by .ensures
+          ∙ ap (λ x. x * getD (start .args .factors .now) (loop .loop .i) 0 % start .args .m) (c .before .before .negative .ensures)),
     )
 
 same-length : tie.Need-same-length Inv-loop μ-loop
@@ -68,8 +69,8 @@ same-length c = c .before .loop .inv .1 .sameLength
 returns : tie.Need-returns Inv-loop μ-loop
 returns c = filling-stop (c .before .loop .inv .1) _ (omega arith)
 
-pub opposite-products-spec : {M : Type 1} → statement M
-opposite-products-spec =
+pub negative-products-spec : {M : Type 1} → statement M
+negative-products-spec =
     tie.close
     (tie.spec
     Inv-loop

@@ -1,9 +1,9 @@
 -- `combine` meets its contract: three products of residues and a residue fit 64 bits. Assumes nothing.
 use native.Mathlib.Omega.{arith}
-use Rattle.row_steps.specs.Row.{products-small}
+use Rattle.residue.specs.Summands.{products-small}
 use borrow.Author.Needs.{needs}
-use Rattle.row_steps.proofs.combine.Statement.{statement}
-use Rattle.row_steps.proofs.combine.Tie as tie
+use Rattle.residue.proofs.combine.Statement.{statement}
+use Rattle.residue.proofs.combine.Tie as tie
 
 mul-remainder : tie.Need-mul-remainder
 mul-remainder c = let small = products-small _ _ _ _ _ _ _ _ (c .pre .0) in omega arith
