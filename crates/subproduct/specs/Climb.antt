@@ -206,7 +206,8 @@ module _ {m : ℕ} {curve : List ℕ} {n : ℕ} {w : List ℕ} {tree at level pa
               most = h .most;
               room = omega (arith, h .room, halved);
               reached = omega arith;
-              tAside = pair-aside left leftPair left-holds (climbed-below m w tree u (level - 1) t (h .curveBelow)) (omega arith) (omega arith);
+              tAside = pair-aside left leftPair left-holds
+                  (climbed-below m w tree u (level - 1) t (h .curveBelow)) (omega arith) (omega arith);
               rowAside = pair-aside right rightPair right-holds
                   (climbed-below m w (tree + size) u (level - 1) (t + pairs) (h .curveBelow)) (omega arith) (omega arith);
               matrixAside = record {

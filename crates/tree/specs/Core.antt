@@ -38,7 +38,7 @@ use Rattle.subproduct.specs.Descend.{DescendInput, DescendOutput, descended-dow
 use Rattle.tree.specs.Root.{LevelOf, RootInput, PairInput, rootLists}
 
 pub record Input (m : ℕ) (a b c curve : List ℕ) (n : ℕ) (output work : List ℕ) : Type 0 where
-  pub lentRows : LentRows m (n - 1) a b c
+  pub rows : LentRows m (n - 1) a b c
   pub curveHolds : Holds m n curve
   pub least : 1 ≤ n
   pub most : n ≤ 256
@@ -101,13 +101,13 @@ module _ {m : ℕ} {a b c curve : List ℕ} {n : ℕ} {output work : List ℕ} (
   u = take n curve
 
   positive : 0 < m
-  positive = omega (arith, h .lentRows .modulus .least)
+  positive = omega (arith, h .rows .modulus .least)
 
   curve-below : Below m u
   curve-below = held-below m n curve positive (h .curveHolds)
 
   size-is : size f ≡ n
-  size-is = let e : length (take (n - 1) a) ≡ n - 1 = length-take-le (n - 1) a (h .lentRows .aHolds .long) in omega (arith, h .least)
+  size-is = let e : length (take (n - 1) a) ≡ n - 1 = length-take-le (n - 1) a (h .rows .aHolds .long) in omega (arith, h .least)
 
   -- ---- the tree
   module _ (two : 2 ≤ n) {level : ℕ} (deep : LevelOf n level) {pairs : ℕ} (depth : Level level pairs) where
@@ -136,8 +136,8 @@ module _ {m : ℕ} {a b c curve : List ℕ} {n : ℕ} {output work : List ℕ} (
     first-is = ap₂ (λ x y. x ∷ y ∷ []) (getD-take (n - 1) b 0 0 (omega arith)) (getD-take (n - 1) a 0 0 (omega arith))
 
     first-below : Below m first
-    first-below zero = h .lentRows .bHolds .below 0 (omega arith)
-    first-below (suc zero) = h .lentRows .aHolds .below 0 (omega arith)
+    first-below zero = h .rows .bHolds .below 0 (omega arith)
+    first-below (suc zero) = h .rows .aHolds .below 0 (omega arith)
     first-below (suc (suc i)) = positive
 
     level-is : level ≡ levelFor (size f)
@@ -154,7 +154,7 @@ module _ {m : ℕ} {a b c curve : List ℕ} {n : ℕ} {output work : List ℕ} (
 
     pub core-build : BuildInput m a b c (n - 1) work 0 level pairs 0
     core-build = record {
-      input = h .lentRows;
+      input = h .rows;
       depth = depth;
       room = omega (arith, small, h .workLong);
       last = omega (arith, deep .few);
@@ -178,7 +178,7 @@ module _ {m : ℕ} {a b c curve : List ℕ} {n : ℕ} {output work : List ℕ} (
 
       tree-below : ResiduesIn m w₁ 0 (0 + treeSize level)
       tree-below =
-          part-residues m w₁ 0 (treeSize level) tree tree-holds (treeList-below (padded f) (padded-below (h .lentRows)) level 0)
+          part-residues m w₁ 0 (treeSize level) tree tree-holds (treeList-below (padded f) (padded-below (h .rows)) level 0)
 
       tree-kept : KeptOutside 0 workLength work w₁
       tree-kept = rw e₁ (wider (written-kept work 0 tree tree-room) (omega arith) (omega (arith, tree-long, small)))
@@ -190,7 +190,7 @@ module _ {m : ℕ} {a b c curve : List ℕ} {n : ℕ} {output work : List ℕ} (
       -- ---- Expand
       pub core-climb : ClimbInput m curve n w₁ 0 9212 level pairs 0
       core-climb = record {
-        most = h .lentRows .modulus .greatest;
+        most = h .rows .modulus .greatest;
         curveLong = h .curveHolds .long;
         curveBelow = curve-below;
         depth = depth;
@@ -215,7 +215,7 @@ module _ {m : ℕ} {a b c curve : List ℕ} {n : ℕ} {output work : List ℕ} (
 
         pub core-root : RootInput m w₂ 9212 width first n output
         core-root = record {
-          modulus = h .lentRows .modulus;
+          modulus = h .rows .modulus;
           inside = omega (arith, deep .few, h .workLong, tree-kept .long, climbs .kept .long);
           below = part-residues m w₂ 9212 (width + width) (pairList pair) pair-holds
               (pairList-below m _ (climbed-below m w₁ 0 u level 0 curve-below));
@@ -252,7 +252,7 @@ module _ {m : ℕ} {a b c curve : List ℕ} {n : ℕ} {output work : List ℕ} (
       -- ---- Adjoint
       pub core-pair : PairInput m first curve n w₁ 9212 width
       core-pair = record {
-        modulus = h .lentRows .modulus;
+        modulus = h .rows .modulus;
         firstBelow = first-below;
         curveHolds = h .curveHolds;
         room = omega (arith, deep .few, h .workLong, tree-kept .long);
@@ -304,7 +304,7 @@ module _ {m : ℕ} {a b c curve : List ℕ} {n : ℕ} {output work : List ℕ} (
         pub core-descend : DescendInput m w₂ 0 9212 second entries level pairs
         core-descend = record {
           least = positive;
-          most = h .lentRows .modulus .greatest;
+          most = h .rows .modulus .greatest;
           depth = depth;
           treeBefore = omega (arith, small);
           treeBelow = kept-residues 9212 workLength w₁ w₂ root-kept m 0 (treeSize level) tree-apart tree-below;
