@@ -1,19 +1,20 @@
-// The moments, and Decompose by the moments, on input that is already checked. Lists are lent whole, with n: the first n - 1 entries
-// of the rows' lists take part. The closing row is three numbers, p, q and r. The inverses are lent beside the rows, and none is
-// searched for.
+// The moments, and Decompose by the moments, on input that is already checked. The tree gives F_n and G_{n-1}, Expand of 0 .. 0 1 over the
+// rows with the closing row as one row more; the quotient of their reversals is the series of the moments. Decompose is by F^t H F = D with
+// the Hankel matrix H of the moments and the norms D: u = D^-1 F^t H p, a Hankel product, Adjoint, and the norms (the report, Figure 3).
+// Lists are lent whole, with n: the first n - 1 entries of the rows' lists take part, and close_a, close_b, close_c close them. The
+// inverses are lent beside the rows, and none is searched for.
 ghost use mathlib.Core.Path.{_≡_};
 ghost use Prim.Native.Nat.{suc, _*_, _-_, _≤_, _<_};
 ghost use lib.ListN.{length, take, replicate};
-ghost use Rattle.definitions.specs.Family.{rowOf};
+ghost use Rattle.definitions.specs.Family.{ones, rowOf};
 ghost use Rattle.definitions.specs.Conversion.{decompose};
 ghost use Rattle.definitions.specs.Orthogonality.{moments};
 ghost use Rattle.tree_model.specs.Extended.{lastUnit};
 ghost use Rattle.numbers.specs.Lists.{filled};
 ghost use Rattle.numbers.specs.RunningProduct.{runningProduct};
 ghost use Rattle.tree_model.specs.Tree.{treeExpand};
-ghost use Rattle.plain.specs.Input.{closedRows};
-ghost use Rattle.subproduct.specs.Leaf.{familyOf};
-ghost use Rattle.tree.specs.Core.{Output};
+ghost use Rattle.lists.specs.Held.{Output};
+ghost use Rattle.lists.specs.Lent.{lent};
 ghost use Rattle.moment_way.specs.Decompose.{DivideInput, divided};
 ghost use Rattle.moment_way.specs.Input.{PolynomialsInput, Polynomials, MomentsInput, DecomposeInput};
 ghost use Rattle.moment_way.specs.Moments.{entryOr};
@@ -58,7 +59,8 @@ fn last_polynomial(
     work: &mut [u32],
 )
     requires { ⌜ LastInput m (now a) (now b) (now c) r (now output) (now work) ⌝ }
-    ensures { λ _. ⌜ Output (treeExpand (familyOf m r (now (a .entry)) (now (b .entry)) (now (c .entry))) (lastUnit r)) (suc r) (now (output .entry)) (now (output .exit)) (now (work .entry)) (now (work .exit)) ⌝ }
+    ensures { λ _. ⌜ Output (treeExpand (lent m r (now (a .entry)) (now (b .entry)) (now (c .entry)) ones) (lastUnit r)) (suc r)
+        (now (output .entry)) (now (output .exit)) (now (work .entry)) (now (work .exit)) ⌝ }
 {
     let mut curve = blank();
     curve[r] = 1;
@@ -71,92 +73,111 @@ fn polynomials(
     a: &[u32],
     b: &[u32],
     c: &[u32],
-    p: u32,
-    q: u32,
-    r: u32,
+    close_a: u32,
+    close_b: u32,
+    close_c: u32,
     n: usize,
     divisor: &mut [u32],
     numerator: &mut [u32],
     work: &mut [u32],
 )
-    requires { ⌜ PolynomialsInput m (now a) (now b) (now c) p q r n (now divisor) (now numerator) (now work) ⌝ }
-    ensures { λ _. ⌜ Polynomials (closedRows m n (now (a .entry)) (now (b .entry)) (now (c .entry)) (rowOf p q r)) n (now (divisor .entry)) (now (divisor .exit)) (now (numerator .entry)) (now (numerator .exit)) (now (work .entry)) (now (work .exit)) ⌝ }
+    requires { ⌜ PolynomialsInput m (now a) (now b) (now c) (rowOf «close_a» «close_b» «close_c») n
+        (now divisor) (now numerator) (now work) ⌝ }
+    ensures { λ _. ⌜ Polynomials
+        (lent m (n - 1) (now (a .entry)) (now (b .entry)) (now (c .entry)) (rowOf «close_a» «close_b» «close_c»)) n
+        (now (divisor .entry)) (now (divisor .exit)) (now (numerator .entry)) (now (numerator .exit))
+        (now (work .entry)) (now (work .exit)) ⌝ }
 {
     let rows = n - 1;
-    let xs = extend(a, rows, p);
-    let ys = extend(b, rows, q);
-    let zs = extend(c, rows, r);
+    let xs = extend(a, rows, close_a);
+    let ys = extend(b, rows, close_b);
+    let zs = extend(c, rows, close_c);
     last_polynomial(m, &xs, &ys, &zs, n, divisor, work);
     last_polynomial(m, &xs[1..], &ys[1..], &zs[1..], rows, numerator, work);
 }
 
 // The product of the inverses of the a, that of the closing row too.
-fn leading_inverse(m: u32, inverses: &[u32], inverse: u32, n: usize) -> u32
-    requires { ⌜ (0 < m) × (1 ≤ n) × (n - 1 ≤ length (now inverses)) ⌝ }
-    ensures { λ v. ⌜ v ≡ runningProduct m (entryOr (now (inverses .entry)) (n - 1) inverse) n ⌝ }
+fn leading_inverse(m: u32, a_inverses: &[u32], close_a_inverse: u32, n: usize) -> u32
+    requires { ⌜ (0 < m) × (1 ≤ n) × (n - 1 ≤ length (now «a_inverses»)) ⌝ }
+    ensures { λ v. ⌜ v ≡ runningProduct m (entryOr (now («a_inverses» .entry)) (n - 1) «close_a_inverse») n ⌝ }
 {
     let rows = n - 1;
     let reciprocal = reduction::reciprocal(m);
     let mut result: u32 = 1;
     let mut i: usize = 0;
     while i < n {
-        let factor = row_entry(inverses, rows, i, inverse);
+        let factor = row_entry(a_inverses, rows, i, close_a_inverse);
         result = product_by(m, reciprocal, result, factor);
         i += 1;
     }
     result
 }
 
-// The 2 n - 1 moments of the family of the first n - 1 rows that p, q and r close; inverses[i] is the inverse of a_{i+1}, and inverse
-// that of p.
+// The 2 n - 1 moments of the family of the first n - 1 rows and the closing row; a_inverses[i] is the inverse of a_{i+1}.
 pub fn moments(
     m: u32,
     a: &[u32],
     b: &[u32],
     c: &[u32],
-    inverses: &[u32],
-    p: u32,
-    q: u32,
-    r: u32,
-    inverse: u32,
+    a_inverses: &[u32],
+    close_a: u32,
+    close_b: u32,
+    close_c: u32,
+    close_a_inverse: u32,
     n: usize,
     output: &mut [u32],
     work: &mut [u32],
 )
-    requires { ⌜ MomentsInput m (now a) (now b) (now c) (now inverses) p q r inverse n (now output) (now work) ⌝ }
-    ensures { λ _. ⌜ Output (moments (closedRows m n (now (a .entry)) (now (b .entry)) (now (c .entry)) (rowOf p q r))) (2 * n - 1) (now (output .entry)) (now (output .exit)) (now (work .entry)) (now (work .exit)) ⌝ }
+    requires { ⌜ MomentsInput m (now a) (now b) (now c) (now «a_inverses») (rowOf «close_a» «close_b» «close_c») «close_a_inverse» n
+        (now output) (now work) ⌝ }
+    ensures { λ _. ⌜ Output
+        (moments (lent m (n - 1) (now (a .entry)) (now (b .entry)) (now (c .entry)) (rowOf «close_a» «close_b» «close_c»))) (2 * n - 1)
+        (now (output .entry)) (now (output .exit)) (now (work .entry)) (now (work .exit)) ⌝ }
 {
     let mut divisor = blank();
     let mut numerator = blank();
-    polynomials(m, a, b, c, p, q, r, n, &mut divisor, &mut numerator, work);
-    let top = leading_inverse(m, inverses, inverse, n);
+    polynomials(
+        m,
+        a,
+        b,
+        c,
+        close_a,
+        close_b,
+        close_c,
+        n,
+        &mut divisor,
+        &mut numerator,
+        work,
+    );
+    let top = leading_inverse(m, a_inverses, close_a_inverse, n);
     quotient(m, &numerator, &divisor, n, top, 2 * n - 1, output);
 }
 
-// Each of the first n entries times the inverse of its norm, (-1)^i a_{i+1} / (c_2 .. c_{i+1}); reciprocals[i] is the inverse of c_{i+1}, and
-// reciprocal that of the closing row's c.
+// Each of the first n entries times the inverse of its norm, (-1)^i a_{i+1} / (c_2 .. c_{i+1}); c_inverses[i] is the inverse of c_{i+1}.
 fn divide_by_norms(
     m: u32,
     a: &[u32],
-    reciprocals: &[u32],
-    p: u32,
-    reciprocal: u32,
+    c_inverses: &[u32],
+    close_a: u32,
+    close_c_inverse: u32,
     n: usize,
     output: &mut [u32],
 )
-    requires { ⌜ DivideInput m (now a) (now reciprocals) n (now output) ⌝ }
-    ensures { λ _. ⌜ now (output .exit) ≡ filled (divided m (now (a .entry)) (now (reciprocals .entry)) p reciprocal n (now (output .entry))) n (now (output .entry)) ⌝ }
+    requires { ⌜ DivideInput m (now a) (now «c_inverses») n (now output) ⌝ }
+    ensures { λ _. ⌜ now (output .exit) ≡ filled
+        (divided m (now (a .entry)) (now («c_inverses» .entry)) «close_a» «close_c_inverse» n (now (output .entry))) n
+        (now (output .entry)) ⌝ }
 {
     let rows = n - 1;
-    let reciprocal_of_m = reduction::reciprocal(m);
+    let reciprocal = reduction::reciprocal(m);
     let mut signed: u32 = 1;
     let mut i: usize = 0;
     while i < n {
-        let x = row_entry(a, rows, i, p);
-        let y = product_by(m, reciprocal_of_m, signed, x);
-        output[i] = product_by(m, reciprocal_of_m, output[i], y);
-        let w = row_entry(reciprocals, rows, i + 1, reciprocal);
-        signed = product_by(m, reciprocal_of_m, signed, negative(m, reciprocal_of_m, w));
+        let x = row_entry(a, rows, i, close_a);
+        let y = product_by(m, reciprocal, signed, x);
+        output[i] = product_by(m, reciprocal, output[i], y);
+        let w = row_entry(c_inverses, rows, i + 1, close_c_inverse);
+        signed = product_by(m, reciprocal, signed, negative(m, reciprocal, w));
         i += 1;
     }
 }
@@ -167,50 +188,71 @@ fn decompose_tree(
     a: &[u32],
     b: &[u32],
     c: &[u32],
-    inverses: &[u32],
-    reciprocals: &[u32],
-    p: u32,
-    q: u32,
-    r: u32,
-    inverse: u32,
-    reciprocal: u32,
+    a_inverses: &[u32],
+    c_inverses: &[u32],
+    close_a: u32,
+    close_b: u32,
+    close_c: u32,
+    close_a_inverse: u32,
+    close_c_inverse: u32,
     coefficients: &[u32],
     n: usize,
     output: &mut [u32],
     work: &mut [u32],
 )
-    requires { ⌜ DecomposeInput m (now a) (now b) (now c) (now inverses) (now reciprocals) p q r inverse reciprocal (now coefficients) n (now output) (now work) × (2 ≤ n) ⌝ }
-    ensures { λ _. ⌜ Output (decompose (closedRows m n (now (a .entry)) (now (b .entry)) (now (c .entry)) (rowOf p q r)) (take n (now (coefficients .entry)))) n (now (output .entry)) (now (output .exit)) (now (work .entry)) (now (work .exit)) ⌝ }
+    requires { ⌜ DecomposeInput m (now a) (now b) (now c) (now «a_inverses») (now «c_inverses»)
+        (rowOf «close_a» «close_b» «close_c») «close_a_inverse» «close_c_inverse» (now coefficients) n (now output) (now work) × (2 ≤ n) ⌝ }
+    ensures { λ _. ⌜ Output
+        (decompose (lent m (n - 1) (now (a .entry)) (now (b .entry)) (now (c .entry)) (rowOf «close_a» «close_b» «close_c»))
+        (take n (now (coefficients .entry)))) n
+        (now (output .entry)) (now (output .exit)) (now (work .entry)) (now (work .exit)) ⌝ }
 {
     let mut moment = blank();
     let mut weighed = blank();
-    moments(m, a, b, c, inverses, p, q, r, inverse, n, &mut moment, work);
+    moments(
+        m,
+        a,
+        b,
+        c,
+        a_inverses,
+        close_a,
+        close_b,
+        close_c,
+        close_a_inverse,
+        n,
+        &mut moment,
+        work,
+    );
     transposed(m, &coefficients[..n], &moment, &mut weighed, 0, n);
     adjoint(m, a, b, c, &weighed, n, output, work);
-    divide_by_norms(m, a, reciprocals, p, reciprocal, n, output);
+    divide_by_norms(m, a, c_inverses, close_a, close_c_inverse, n, output);
 }
 
 // The curve of the first n coefficients in powers of x. With one coefficient there is no tree, and the answer is that of F_0.
-// inverses[i] is the inverse of a_{i+1}, reciprocals[i] that of c_{i+1} from i = 1 on, inverse and reciprocal those of p and r.
+// a_inverses[i] is the inverse of a_{i+1}, and c_inverses[i] that of c_{i+1} from i = 1 on.
 pub fn decompose(
     m: u32,
     a: &[u32],
     b: &[u32],
     c: &[u32],
-    inverses: &[u32],
-    reciprocals: &[u32],
-    p: u32,
-    q: u32,
-    r: u32,
-    inverse: u32,
-    reciprocal: u32,
+    a_inverses: &[u32],
+    c_inverses: &[u32],
+    close_a: u32,
+    close_b: u32,
+    close_c: u32,
+    close_a_inverse: u32,
+    close_c_inverse: u32,
     coefficients: &[u32],
     n: usize,
     output: &mut [u32],
     work: &mut [u32],
 )
-    requires { ⌜ DecomposeInput m (now a) (now b) (now c) (now inverses) (now reciprocals) p q r inverse reciprocal (now coefficients) n (now output) (now work) ⌝ }
-    ensures { λ _. ⌜ Output (decompose (closedRows m n (now (a .entry)) (now (b .entry)) (now (c .entry)) (rowOf p q r)) (take n (now (coefficients .entry)))) n (now (output .entry)) (now (output .exit)) (now (work .entry)) (now (work .exit)) ⌝ }
+    requires { ⌜ DecomposeInput m (now a) (now b) (now c) (now «a_inverses») (now «c_inverses»)
+        (rowOf «close_a» «close_b» «close_c») «close_a_inverse» «close_c_inverse» (now coefficients) n (now output) (now work) ⌝ }
+    ensures { λ _. ⌜ Output
+        (decompose (lent m (n - 1) (now (a .entry)) (now (b .entry)) (now (c .entry)) (rowOf «close_a» «close_b» «close_c»))
+        (take n (now (coefficients .entry)))) n
+        (now (output .entry)) (now (output .exit)) (now (work .entry)) (now (work .exit)) ⌝ }
 {
     if n == 1 {
         output[0] = coefficients[0] % m;
@@ -222,13 +264,13 @@ pub fn decompose(
         a,
         b,
         c,
-        inverses,
-        reciprocals,
-        p,
-        q,
-        r,
-        inverse,
-        reciprocal,
+        a_inverses,
+        c_inverses,
+        close_a,
+        close_b,
+        close_c,
+        close_a_inverse,
+        close_c_inverse,
         coefficients,
         n,
         output,

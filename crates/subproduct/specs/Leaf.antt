@@ -1,22 +1,16 @@
--- The rows that are read, and the leaf of two of them.
---   familyOf m r a b c    the family of the first r rows of the lent lists
+-- The leaf of two rows.
 --   Residues, LeafInput   what is handed to a sum of two products, and to the leaf
--- Proved: a row past the end reads as zero; a sum of two products of residues fits 64 bits; the leaf's lists are written one after the
--- other. Assumes nothing.
-use mathlib.Core.Path.{_≡_, refl, sym, _∙_, ap}
+-- Proved: a sum of two products of residues fits 64 bits; the leaf's lists are written one after the other. Assumes nothing.
+use mathlib.Core.Path.{_≡_, refl, _∙_, ap}
 use mathlib.Core.List.{List, [], _∷_, _++_}
 use Prim.Native.Nat.{ℕ, _+_, _*_, _%_, _≤_, _<_}
 use native.Mathlib.Nat.{add-zero, zero-add, mul-le-mul, mod-lt}
 use native.Mathlib.Omega.{arith}
-use lib.ListN.{length, getD, take, set, List·getD-eq-default}
-use lib.Seq.{getD-take, length-take-le}
-use Rattle.definitions.specs.Family.{Family, Row, family, greatestModulus, rowOf}
+use lib.ListN.{length, set}
+use Rattle.definitions.specs.Family.{greatestModulus, rowOf}
 use Rattle.numbers.specs.Regions.{written, written-one, written-more, written-then}
 use Rattle.tree_model.specs.Tree.{leaf}
 use Rattle.subproduct.specs.Layout.{matrixList}
-
-abbrev pub familyOf : ℕ → ℕ → List ℕ → List ℕ → List ℕ → Family
-familyOf m r a b c = family m (take r a) (take r b) (take r c)
 
 pub record Residues (m s x y u v : ℕ) : Type 0 where
   pub most : m ≤ greatestModulus
@@ -45,39 +39,51 @@ pub record SmallProducts (m s x y u v : ℕ) : Type 0 where
   pub second : u * v ≤ 4611686009837453316
   pub remainder : (t : ℕ) → t % m < m
 
-pub products-small : (m s x y u v : ℕ) → Residues m s x y u v → SmallProducts m s x y u v
-products-small m s x y u v h = record {
+pub products-small : {m s x y u v : ℕ} → Residues m s x y u v → SmallProducts m s x y u v
+products-small {m} {s} {x} {y} {u} {v} h = record {
   first = product-small m x y (h .most) (h .xBelow) (h .yBelow);
   second = product-small m u v (h .most) (h .uBelow) (h .vBelow);
   remainder = λ t. mod-lt t (omega (arith, h .sBelow));
 }
 
 -- ---- a leaf
-pub three-written : (w : List ℕ) (at x y z : ℕ) → at + 3 ≤ length w → set (set (set w at x) (at + 1) y) (at + 2) z ≡ written w at (x ∷ y ∷ z ∷ [])
+pub three-written : (w : List ℕ) (at x y z : ℕ) → at + 3 ≤ length w
+    → set (set (set w at x) (at + 1) y) (at + 2) z ≡ written w at (x ∷ y ∷ z ∷ [])
 three-written w at x y z h =
     ap (λ t. set (set t (at + 1) y) (at + 2) z) (written-one w at x (omega arith))
     ∙ ap (λ t. set t (at + 2) z) (written-more w at (x ∷ []) y (omega arith))
     ∙ written-more w at (x ∷ y ∷ []) z (omega arith)
 
 -- four lists of three numbers, one after the other
-three-more : (w : List ℕ) (at : ℕ) (xs : List ℕ) (p x y z : ℕ) (w₁ w₂ : List ℕ) → at + (length xs + 3) ≤ length w → p ≡ at + length xs
-    → w₁ ≡ written w at xs → w₂ ≡ written w₁ p (x ∷ y ∷ z ∷ []) → w₂ ≡ written w at (xs ++ x ∷ y ∷ z ∷ [])
-three-more w at xs p x y z w₁ w₂ room e one two = written-then w at xs p (x ∷ y ∷ z ∷ []) w₁ w₂ room e one two
-
-module _ (m : ℕ) (w : List ℕ) (at pa pb pc qa qb qc : ℕ) (input : LeafInput m w at pa pb pc qa qb qc) where
-  pub leaf-written : (b0 b1 c0 c1 c2 : ℕ) (w₁ w₂ w₃ w₄ : List ℕ)
+module _ {m : ℕ} {w : List ℕ} {at pa pb pc qa qb qc : ℕ} (input : LeafInput m w at pa pb pc qa qb qc) where
+  pub leaf-written : {b0 b1 c0 c1 c2 : ℕ} {w₁ w₂ w₃ w₄ : List ℕ}
       → b0 ≡ (0 + qb * pc + 0 * 0) % m → b1 ≡ (0 + qa * pc + 0 * 0) % m
       → c0 ≡ (qc + qb * pb + 0 * 0) % m → c1 ≡ (0 + qb * pa + qa * pb) % m → c2 ≡ (0 + qa * pa + 0 * 0) % m
       → w₁ ≡ written w at (pc ∷ 0 ∷ 0 ∷ []) → w₂ ≡ written w₁ (at + 3) (pb ∷ pa ∷ 0 ∷ [])
       → w₃ ≡ written w₂ (at + 6) (b0 ∷ b1 ∷ 0 ∷ []) → w₄ ≡ written w₃ (at + 9) (c0 ∷ c1 ∷ c2 ∷ [])
       → w₄ ≡ written w at (matrixList (leaf m (rowOf pa pb pc) (rowOf qa qb qc)))
   unfolding matrixList leaf
-  leaf-written b0 b1 c0 c1 c2 w₁ w₂ w₃ w₄ eb0 eb1 ec0 ec1 ec2 e₁ e₂ e₃ e₄ =
+  leaf-written {b0} {b1} {c0} {c1} {c2} eb0 eb1 ec0 ec1 ec2 e₁ e₂ e₃ e₄ =
       let room : at + 12 ≤ length w = input .room in
-      let two = three-more w at (pc ∷ 0 ∷ 0 ∷ []) (at + 3) pb pa 0 w₁ w₂ (omega arith) refl e₁ e₂ in
-      let three = three-more w at (pc ∷ 0 ∷ 0 ∷ pb ∷ pa ∷ 0 ∷ []) (at + 6) b0 b1 0 w₂ w₃ (omega arith) refl two e₃ in
-      let four = three-more w at (pc ∷ 0 ∷ 0 ∷ pb ∷ pa ∷ 0 ∷ b0 ∷ b1 ∷ 0 ∷ []) (at + 9) c0 c1 c2 w₃ w₄ (omega arith) refl three e₄ in
-      four ∙ rw (eb0, eb1, ec0, ec1, ec2, alone (qb * pc), alone (qa * pc), alone (qa * pa), add-zero (qc + qb * pb), zero-add (qb * pa))
+      let one = pc ∷ 0 ∷ 0 ∷ [] in
+      let two = pb ∷ pa ∷ 0 ∷ [] in
+      let three = b0 ∷ b1 ∷ 0 ∷ [] in
+      let four = c0 ∷ c1 ∷ c2 ∷ [] in
+      let first = written-then w at one (at + 3) two _ _ (omega arith) refl e₁ e₂ in
+      let second = written-then w at (one ++ two) (at + 6) three _ _ (omega arith) refl first e₃ in
+      let third = written-then w at (one ++ two ++ three) (at + 9) four _ _ (omega arith) refl second e₄ in
+      third ∙ rw (
+        eb0,
+        eb1,
+        ec0,
+        ec1,
+        ec2,
+        alone (qb * pc),
+        alone (qa * pc),
+        alone (qa * pa),
+        add-zero (qc + qb * pb),
+        zero-add (qb * pa),
+      )
     where
       alone : (x : ℕ) → 0 + x + 0 * 0 ≡ x
       alone x = omega arith

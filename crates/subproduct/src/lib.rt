@@ -2,13 +2,14 @@
 // (specs/Layout.antt). All recursions go by the number of pairs of rows, which is halved at each level.
 ghost use mathlib.Core.Path.{_≡_};
 ghost use mathlib.Core.List.{[], _∷_};
-ghost use Prim.Native.Nat.{_+_, _*_, _-_, _%_, _≤_, _<_};
+ghost use Prim.Native.Nat.{_+_, _*_, _-_, _%_, _≤_};
 ghost use lib.ListN.{length, getD, take};
-ghost use Rattle.definitions.specs.Family.{rowOf};
+ghost use Rattle.definitions.specs.Family.{ones, rowOf};
+ghost use Rattle.lists.specs.Lent.{lent};
 ghost use Rattle.numbers.specs.Regions.{written};
 ghost use Rattle.tree_model.specs.Tree.{padded, leaf, join, expandPair, adjointPair};
-ghost use Rattle.subproduct.specs.Layout.{Level, treeSize, treeList, matrixList, pairList, matrixAt, pairAt, listsAt};
-ghost use Rattle.subproduct.specs.Leaf.{familyOf, Residues, LeafInput};
+ghost use Rattle.subproduct.specs.Layout.{Level, Halved, treeList, matrixList, pairList, matrixAt, pairAt, listsAt};
+ghost use Rattle.subproduct.specs.Leaf.{Residues, LeafInput};
 ghost use Rattle.subproduct.specs.Join.{ExpandPlaces, JoinPlaces};
 ghost use Rattle.subproduct.specs.Build.{BuildInput};
 ghost use Rattle.subproduct.specs.Climb.{ClimbInput, ClimbOutput};
@@ -18,12 +19,12 @@ use lists::row_entry;
 use products::add_products;
 use products::transposed_sum;
 
-// The numbers that the stored tree over pairs pairs of rows takes.
-fn tree_size(level: usize, pairs: usize) -> usize
-    requires { ⌜ Level level pairs ⌝ }
-    ensures { λ r. ⌜ r ≡ treeSize level ⌝ }
+// The numbers that each half of the stored tree over pairs pairs of rows takes, where there are two pairs at least.
+fn half_size(level: usize, pairs: usize) -> usize
+    requires { ⌜ Level level pairs × (2 ≤ pairs) ⌝ }
+    ensures { λ r. ⌜ Halved level pairs r ⌝ }
 {
-    8 * pairs * (level + 2) - 4
+    4 * pairs * (level + 1) - 4
 }
 
 // s + x y + u v modulo m.
@@ -86,7 +87,8 @@ fn expand_pair(
     qn: usize,
 )
     requires { ⌜ ExpandPlaces m (now w) target n t tn row pn matrix qn ⌝ }
-    ensures { λ _. ⌜ now (w .exit) ≡ written (now (w .entry)) target (pairList (expandPair m n (pairAt (now (w .entry)) t tn) (pairAt (now (w .entry)) row pn) (matrixAt (now (w .entry)) matrix qn))) ⌝ }
+    ensures { λ _. ⌜ now (w .exit) ≡ written (now (w .entry)) target (pairList (expandPair m n
+        (pairAt (now (w .entry)) t tn) (pairAt (now (w .entry)) row pn) (matrixAt (now (w .entry)) matrix qn))) ⌝ }
 {
     let second = row + pn;
     let bottom = matrix + (qn + qn);
@@ -111,7 +113,8 @@ fn expand_pair(
 // numbers.
 fn join(m: u32, w: &mut [u32], target: usize, n: usize, right: usize, left: usize, k: usize)
     requires { ⌜ JoinPlaces m (now w) target n right left k ⌝ }
-    ensures { λ _. ⌜ now (w .exit) ≡ written (now (w .entry)) target (matrixList (join m n (matrixAt (now (w .entry)) right k) (matrixAt (now (w .entry)) left k))) ⌝ }
+    ensures { λ _. ⌜ now (w .exit) ≡ written (now (w .entry)) target (matrixList (join m n
+        (matrixAt (now (w .entry)) right k) (matrixAt (now (w .entry)) left k))) ⌝ }
 {
     expand_pair(m, w, target, n, left, 0, right, k, left, k);
     expand_pair(
@@ -131,7 +134,8 @@ fn join(m: u32, w: &mut [u32], target: usize, n: usize, right: usize, left: usiz
 // Writes the leaf over the rows t + 2 and t + 3 at place at.
 fn build_leaf(m: u32, a: &[u32], b: &[u32], c: &[u32], r: usize, w: &mut [u32], at: usize, t: usize)
     requires { ⌜ BuildInput m (now a) (now b) (now c) r (now w) at 0 1 t ⌝ }
-    ensures { λ _. ⌜ now (w .exit) ≡ written (now (w .entry)) at (treeList (padded (familyOf m r (now (a .entry)) (now (b .entry)) (now (c .entry)))) 0 t) ⌝ }
+    ensures { λ _. ⌜ now (w .exit) ≡ written (now (w .entry)) at
+        (treeList (padded (lent m r (now (a .entry)) (now (b .entry)) (now (c .entry)) ones)) 0 t) ⌝ }
 {
     let p = t + 1;
     let q = t + 2;
@@ -158,14 +162,15 @@ pub fn build(
     t: usize,
 )
     requires { ⌜ BuildInput m (now a) (now b) (now c) r (now w) at level pairs t ⌝ }
-    ensures { λ _. ⌜ now (w .exit) ≡ written (now (w .entry)) at (treeList (padded (familyOf m r (now (a .entry)) (now (b .entry)) (now (c .entry)))) level t) ⌝ }
+    ensures { λ _. ⌜ now (w .exit) ≡ written (now (w .entry)) at
+        (treeList (padded (lent m r (now (a .entry)) (now (b .entry)) (now (c .entry)) ones)) level t) ⌝ }
 {
     if pairs == 1 {
         build_leaf(m, a, b, c, r, w, at, t);
         return;
     }
     let half = pairs / 2;
-    let size = tree_size(level - 1, half);
+    let size = half_size(level, pairs);
     let right = at + size;
     let end = right + size;
     let k = pairs + 1;
@@ -212,7 +217,7 @@ pub fn climb(
         return;
     }
     let half = pairs / 2;
-    let size = tree_size(level - 1, half);
+    let size = half_size(level, pairs);
     let left = at + 4 * pairs;
     let right = left + 2 * pairs;
     let end = tree + size;
@@ -247,7 +252,8 @@ fn adjoint_pair(
     vn: usize,
 )
     requires { ⌜ AdjointPlaces m (now w) target n matrix qn first second vn ⌝ }
-    ensures { λ _. ⌜ now (w .exit) ≡ written (now (w .entry)) target (pairList (adjointPair m n (matrixAt (now (w .entry)) matrix qn) (listsAt (now (w .entry)) first second vn))) ⌝ }
+    ensures { λ _. ⌜ now (w .exit) ≡ written (now (w .entry)) target (pairList (adjointPair m n
+        (matrixAt (now (w .entry)) matrix qn) (listsAt (now (w .entry)) first second vn))) ⌝ }
 {
     let row = matrix + (qn + qn);
     transposed_sum(m, w, target, n, matrix, matrix + qn, qn, first, second, vn);
@@ -256,7 +262,8 @@ fn adjoint_pair(
 
 fn descend_leaf(w: &mut [u32], first: usize, second: usize, at: usize)
     requires { ⌜ LeafPlaces (length (now w)) first second at ⌝ }
-    ensures { λ _. ⌜ now (w .exit) ≡ written (now (w .entry)) at (getD (now (w .entry)) first 0 ∷ getD (now (w .entry)) second 0 ∷ []) ⌝ }
+    ensures { λ _. ⌜ now (w .exit) ≡ written (now (w .entry)) at
+        (getD (now (w .entry)) first 0 ∷ getD (now (w .entry)) second 0 ∷ []) ⌝ }
 {
     let x = w[first];
     let y = w[second];
@@ -285,7 +292,7 @@ pub fn descend(
         return;
     }
     let half = pairs / 2;
-    let size = tree_size(level - 1, half);
+    let size = half_size(level, pairs);
     let end = tree + size;
     let pair = at + 4 * pairs;
     let k = pairs + 1;

@@ -3,18 +3,19 @@
 ghost use mathlib.Core.Path.{_≡_};
 ghost use mathlib.Core.List.{_++_};
 ghost use Prim.Native.Nat.{_+_, _-_, _≤_};
-ghost use lib.ListN.{length, take, drop};
-ghost use Rattle.definitions.specs.Answers.{cleared};
-ghost use Rattle.tree_model.specs.Level.{span, levelFor};
+ghost use lib.ListN.{take, drop};
+ghost use Rattle.definitions.specs.Family.{ones};
+ghost use Rattle.lists.specs.Held.{Output};
+ghost use Rattle.lists.specs.Lent.{lent};
 ghost use Rattle.numbers.specs.Regions.{part, written};
 ghost use Rattle.numbers.specs.Products.{plusProduct};
 ghost use Rattle.tree_model.specs.Tree.{treeExpand, treeAdjoint};
-ghost use Rattle.subproduct.specs.Layout.{pairList};
-ghost use Rattle.subproduct.specs.Leaf.{familyOf};
-ghost use Rattle.tree.specs.Root.{RootInput, CoefficientInput, PairInput, rootEntry, rootLists};
-ghost use Rattle.tree.specs.Core.{Input, TreeOutput, Output, expandVectors, adjointVectors};
+ghost use Rattle.subproduct.specs.Layout.{Level, pairList};
+ghost use Rattle.tree.specs.Root.{LevelOf, RootInput, CoefficientInput, PairInput, rootEntry, rootLists};
+ghost use Rattle.tree.specs.Core.{Input, TreeOutput, expandVectors, adjointVectors};
 use convolution::products_at;
 use lists::clear;
+use lists::copy;
 use products::transposed;
 use subproduct::build;
 use subproduct::climb;
@@ -23,7 +24,7 @@ use subproduct::descend;
 // The level of the least tree that covers n rows.
 fn level_for(n: usize) -> usize
     requires { ⌜ (2 ≤ n) × (n ≤ 256) ⌝ }
-    ensures { λ r. ⌜ r ≡ levelFor n ⌝ }
+    ensures { λ r. ⌜ LevelOf n r ⌝ }
 {
     let top = (n - 1) as u32;
     (31 - u32::leading_zeros(top)) as usize
@@ -32,7 +33,7 @@ fn level_for(n: usize) -> usize
 // The pairs of rows that a tree of this level covers.
 fn pairs_for(level: usize) -> usize
     requires { ⌜ level ≤ 7 ⌝ }
-    ensures { λ r. ⌜ r + r ≡ span level ⌝ }
+    ensures { λ r. ⌜ Level level r ⌝ }
 {
     1 << level
 }
@@ -75,7 +76,8 @@ fn expand_root(
     output: &mut [u32],
 )
     requires { ⌜ RootInput m (now w) at span (now first) n (now output) ⌝ }
-    ensures { λ _. ⌜ now (output .exit) ≡ plusProduct m n (part (now (w .entry)) at span) (part (now (w .entry)) (at + span) span) (now (first .entry)) ++ drop n (now (output .entry)) ⌝ }
+    ensures { λ _. ⌜ now (output .exit) ≡ plusProduct m n (part (now (w .entry)) at span) (part (now (w .entry)) (at + span) span)
+        (now (first .entry)) ++ drop n (now (output .entry)) ⌝ }
 {
     let reciprocal = reduction::reciprocal(m);
     let mut k: usize = 0;
@@ -88,24 +90,12 @@ fn expand_root(
 // Writes the pair of the root: the transposed products of the curve with F_0 and F_1.
 fn root_pair(m: u32, first: &[u32], curve: &[u32], n: usize, w: &mut [u32], at: usize, span: usize)
     requires { ⌜ PairInput m (now first) (now curve) n (now w) at span ⌝ }
-    ensures { λ _. ⌜ now (w .exit) ≡ written (now (w .entry)) at (pairList (rootLists m span (now (first .entry)) (take n (now (curve .entry))))) ⌝ }
+    ensures { λ _. ⌜ now (w .exit) ≡ written (now (w .entry)) at
+        (pairList (rootLists m span (now (first .entry)) (take n (now (curve .entry))))) ⌝ }
 {
     let one = [1u32];
     transposed(m, &one, &curve[..n], w, at, span);
     transposed(m, first, &curve[..n], w, at + span, span);
-}
-
-// Copies the n numbers of w from place at on.
-fn copy_out(w: &[u32], at: usize, n: usize, output: &mut [u32])
-    requires { ⌜ (at + n ≤ length (now w)) × (n ≤ length (now output)) ⌝ }
-    ensures { λ _. ⌜ now (output .exit) ≡ part (now (w .entry)) at n ++ drop n (now (output .entry)) ⌝ }
-{
-    let mut i: usize = 0;
-    while i < n {
-        let place = at + i;
-        output[i] = w[place];
-        i += 1;
-    }
 }
 
 // Expand with two entries at least: the tree is stored, the pairs climb it to the root, and the root's pair gives the coefficients. The
@@ -121,7 +111,9 @@ fn expand_tree(
     work: &mut [u32],
 )
     requires { ⌜ Input m (now a) (now b) (now c) (now curve) n (now output) (now work) × (2 ≤ n) ⌝ }
-    ensures { λ _. ⌜ TreeOutput treeExpand expandVectors (familyOf m (n - 1) (now (a .entry)) (now (b .entry)) (now (c .entry))) (take n (now (curve .entry))) n (now (output .entry)) (now (output .exit)) (now (work .entry)) (now (work .exit)) ⌝ }
+    ensures { λ _. ⌜ TreeOutput treeExpand expandVectors
+        (lent m (n - 1) (now (a .entry)) (now (b .entry)) (now (c .entry)) ones) (take n (now (curve .entry))) n
+        (now (output .entry)) (now (output .exit)) (now (work .entry)) (now (work .exit)) ⌝ }
 {
     let level = level_for(n);
     let pairs = pairs_for(level);
@@ -144,7 +136,9 @@ fn adjoint_tree(
     work: &mut [u32],
 )
     requires { ⌜ Input m (now a) (now b) (now c) (now curve) n (now output) (now work) × (2 ≤ n) ⌝ }
-    ensures { λ _. ⌜ TreeOutput treeAdjoint adjointVectors (familyOf m (n - 1) (now (a .entry)) (now (b .entry)) (now (c .entry))) (take n (now (curve .entry))) n (now (output .entry)) (now (output .exit)) (now (work .entry)) (now (work .exit)) ⌝ }
+    ensures { λ _. ⌜ TreeOutput treeAdjoint adjointVectors
+        (lent m (n - 1) (now (a .entry)) (now (b .entry)) (now (c .entry)) ones) (take n (now (curve .entry))) n
+        (now (output .entry)) (now (output .exit)) (now (work .entry)) (now (work .exit)) ⌝ }
 {
     let level = level_for(n);
     let pairs = pairs_for(level);
@@ -154,7 +148,7 @@ fn adjoint_tree(
     build(m, a, b, c, n - 1, work, 0, level, pairs, 0);
     root_pair(m, &first, curve, n, work, 9212, pairs + pairs);
     descend(m, work, 0, 9212, second, at, level, pairs);
-    copy_out(work, at, n, output);
+    copy(&work[at..], n, output);
 }
 
 // Expand: the n first coefficients of the sum of the u_j F_j, from n - 1 rows and n entries of a curve. Up to n = 256 the tree fits.
@@ -169,7 +163,9 @@ pub fn expand(
     work: &mut [u32],
 )
     requires { ⌜ Input m (now a) (now b) (now c) (now curve) n (now output) (now work) ⌝ }
-    ensures { λ _. ⌜ Output (treeExpand (familyOf m (n - 1) (now (a .entry)) (now (b .entry)) (now (c .entry))) (take n (now (curve .entry)))) n (now (output .entry)) (now (output .exit)) (now (work .entry)) (now (work .exit)) ⌝ }
+    ensures { λ _. ⌜ Output
+        (treeExpand (lent m (n - 1) (now (a .entry)) (now (b .entry)) (now (c .entry)) ones) (take n (now (curve .entry)))) n
+        (now (output .entry)) (now (output .exit)) (now (work .entry)) (now (work .exit)) ⌝ }
 {
     if n == 1 {
         output[0] = curve[0] % m;
@@ -192,7 +188,9 @@ pub fn adjoint(
     work: &mut [u32],
 )
     requires { ⌜ Input m (now a) (now b) (now c) (now curve) n (now output) (now work) ⌝ }
-    ensures { λ _. ⌜ Output (treeAdjoint (familyOf m (n - 1) (now (a .entry)) (now (b .entry)) (now (c .entry))) (take n (now (curve .entry)))) n (now (output .entry)) (now (output .exit)) (now (work .entry)) (now (work .exit)) ⌝ }
+    ensures { λ _. ⌜ Output
+        (treeAdjoint (lent m (n - 1) (now (a .entry)) (now (b .entry)) (now (c .entry)) ones) (take n (now (curve .entry)))) n
+        (now (output .entry)) (now (output .exit)) (now (work .entry)) (now (work .exit)) ⌝ }
 {
     if n == 1 {
         output[0] = curve[0] % m;

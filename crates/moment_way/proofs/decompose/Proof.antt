@@ -24,7 +24,10 @@ same-length-2 : tie.Need-same-length-2
 same-length-2 c = search needs
 
 returns : tie.Need-returns
-returns c = decompose-one _ _ _ _ _ _ _ _ _ _ _ _ _ _ _ (c .before .before .before .before .before .before .before .before .before .before .before .before .before .before .pre) (c .before .before .before .before .before .if1 .taken) _ _ refl (c .before .before .clear .ensures)
+returns c =
+    let alone = c .before .before in
+    let start = alone .before .before .before .before .before .before .before .before .before .before .before .before in
+    decompose-one (start .pre) (alone .before .before .before .if1 .taken) refl (alone .clear .ensures)
 
 decompose-tree-requires : tie.Need-decompose-tree-requires
 decompose-tree-requires c κs = search needs

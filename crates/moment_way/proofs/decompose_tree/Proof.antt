@@ -19,7 +19,9 @@ moments-requires : tie.Need-moments-requires
 moments-requires c κs = search needs
 
 slice-aggregate-transposed : tie.Need-slice-aggregate-transposed
-slice-aggregate-transposed c = sym (decompose-length _ _ _ _ _ _ _ _ _ _ _ _ _ _ _ (c .before .before .before .before .before .before .before .before .before .before .before .before .before .before .before .before .before .pre .0))
+slice-aggregate-transposed c =
+    let moment = c .before .before .before .before .before .before .before in
+    sym (decompose-length (moment .before .before .before .before .before .before .before .before .before .before .pre .0))
 
 slice-aggregate-transposed-2 : tie.Need-slice-aggregate-transposed-2
 slice-aggregate-transposed-2 c = search needs
@@ -28,16 +30,34 @@ slice-aggregate-transposed-3 : tie.Need-slice-aggregate-transposed-3
 slice-aggregate-transposed-3 c = search needs
 
 transposed-requires : tie.Need-transposed-requires
-transposed-requires c κs = decompose-hankel _ _ _ _ _ _ _ _ _ _ _ _ _ _ _ (c .before .before .before .before .before .before .before .before .before .before .before .before .before .before .before .before .before .before .before .pre .0) _ _ (c .before .before .before .before .before .before .before .before .before .before .blank .ensures) (c .before .before .before .before .before .before .before .before .before .blank2 .ensures) _ _ (c .before .before .before .before .before .before .moments .ensures)
+transposed-requires c κs =
+    let moment = c .before .before .before .before .before .before in
+    let blanks = moment .before .before .before in
+    let start = blanks .before .before .before .before .before .before .before .before .before .before in
+    decompose-hankel (start .pre .0) (start .pre .1) (blanks .before .blank .ensures) (blanks .blank2 .ensures)
+    (moment .moments .ensures)
 
 slice-aggregate-adjoint : tie.Need-slice-aggregate-adjoint
 slice-aggregate-adjoint c = search needs
 
 adjoint-requires : tie.Need-adjoint-requires
-adjoint-requires c κs = decompose-adjoint _ _ _ _ _ _ _ _ _ _ _ _ _ _ _ (c .before .before .before .before .before .before .before .before .before .before .before .before .before .before .before .before .before .before .before .before .before .before .before .before .pre .0) _ _ (c .before .before .before .before .before .before .before .before .before .before .before .before .before .before .before .blank .ensures) (c .before .before .before .before .before .before .before .before .before .before .before .before .before .before .blank2 .ensures) _ _ (c .before .before .before .before .before .before .before .before .before .before .before .moments .ensures) _ (c .before .before .before .before .transposed .ensures)
+adjoint-requires c κs =
+    let hankel = c .before .before .before .before in
+    let moment = hankel .before .before .before .before .before .before .before in
+    let blanks = moment .before .before .before in
+    let start = blanks .before .before .before .before .before .before .before .before .before .before in
+    decompose-adjoint (start .pre .0) (start .pre .1) (blanks .before .blank .ensures) (blanks .blank2 .ensures)
+    (moment .moments .ensures) (hankel .transposed .ensures)
 
 divide-by-norms-requires : tie.Need-divide-by-norms-requires
-divide-by-norms-requires c κs = decompose-divide _ _ _ _ _ _ _ _ _ _ _ _ _ _ _ (c .before .before .before .before .before .before .before .before .before .before .before .before .before .before .before .before .before .before .before .before .before .before .before .before .before .before .before .before .before .before .pre .0) _ _ (c .before .before .before .before .before .before .before .before .before .before .before .before .before .before .before .before .before .before .before .before .before .blank .ensures) (c .before .before .before .before .before .before .before .before .before .before .before .before .before .before .before .before .before .before .before .before .blank2 .ensures) _ _ (c .before .before .before .before .before .before .before .before .before .before .before .before .before .before .before .before .before .moments .ensures) _ (c .before .before .before .before .before .before .before .before .before .before .transposed .ensures) _ _ (c .before .before .before .before .before .adjoint .ensures)
+divide-by-norms-requires c κs =
+    let entries = c .before .before .before .before .before in
+    let hankel = entries .before .before .before .before .before in
+    let moment = hankel .before .before .before .before .before .before .before in
+    let blanks = moment .before .before .before in
+    let start = blanks .before .before .before .before .before .before .before .before .before .before in
+    decompose-divide (start .pre .0) (start .pre .1) (blanks .before .blank .ensures) (blanks .blank2 .ensures)
+    (moment .moments .ensures) (hankel .transposed .ensures) (entries .adjoint .ensures)
 
 same-length : tie.Need-same-length
 same-length c = search needs
@@ -46,7 +66,15 @@ same-length-2 : tie.Need-same-length-2
 same-length-2 c = search needs
 
 returns : tie.Need-returns
-returns c = decompose-is _ _ _ _ _ _ _ _ _ _ _ _ _ _ _ (c .before .before .before .before .before .before .before .before .before .before .before .before .before .before .before .before .before .before .before .before .before .before .before .before .before .before .before .before .before .before .before .before .before .pre .0) _ _ (c .before .before .before .before .before .before .before .before .before .before .before .before .before .before .before .before .before .before .before .before .before .before .before .before .blank .ensures) (c .before .before .before .before .before .before .before .before .before .before .before .before .before .before .before .before .before .before .before .before .before .before .before .blank2 .ensures) _ _ (c .before .before .before .before .before .before .before .before .before .before .before .before .before .before .before .before .before .before .before .before .moments .ensures) _ (c .before .before .before .before .before .before .before .before .before .before .before .before .before .transposed .ensures) _ _ (c .before .before .before .before .before .before .before .before .adjoint .ensures) _ (c .before .before .divide-by-norms .ensures)
+returns c =
+    let done = c .before .before in
+    let entries = done .before .before .before .before .before .before in
+    let hankel = entries .before .before .before .before .before in
+    let moment = hankel .before .before .before .before .before .before .before in
+    let blanks = moment .before .before .before in
+    let start = blanks .before .before .before .before .before .before .before .before .before .before in
+    decompose-is (start .pre .0) (start .pre .1) (blanks .before .blank .ensures) (blanks .blank2 .ensures)
+    (moment .moments .ensures) (hankel .transposed .ensures) (entries .adjoint .ensures) (done .divide-by-norms .ensures)
 
 pub decompose-tree-spec : {M : Type 1} → statement M
 decompose-tree-spec =

@@ -8,11 +8,11 @@ use Rattle.moment_way.proofs.divide_by_norms.Statement.{statement}
 use Rattle.moment_way.proofs.divide_by_norms.Tie as tie
 
 abbrev Inv-loop : tie.InvT-loop
-Inv-loop m a reciprocals p reciprocal n output₀ rows reciprocal-of-m signed₀ i₀ output signed i =
-    Dividing m a reciprocals p reciprocal n output₀ output signed i
+Inv-loop m a c-inverses close-a close-c-inverse n output₀ rows reciprocal signed₀ i₀ output signed i =
+    Dividing m a c-inverses close-a close-c-inverse n output₀ output signed i
 
 abbrev μ-loop : tie.MeasureT-loop
-μ-loop m a reciprocals p reciprocal n output₀ rows reciprocal-of-m signed₀ i₀ output signed i = n - i
+μ-loop m a c-inverses close-a close-c-inverse n output₀ rows reciprocal signed₀ i₀ output signed i = n - i
 
 sub-rows : tie.Need-sub-rows Inv-loop μ-loop
 sub-rows c = omega arith
@@ -64,11 +64,12 @@ loop-less c = omega arith
 
 loop-again : tie.Need-loop-again Inv-loop μ-loop
 loop-again c =
-    let loop = c .before .before .before .before .before .before .before .before in
-    dividing-next (loop .before .before .before .before .before .pre) (loop .loop .inv) (c .before .before .before .before .before .before .before .loop-test .taken)
-    (c .before .before .before .before .before .before .row-entry .ensures) (c .before .before .before .before .before .product-by .ensures)
-    (c .before .before .before .product-by2 .ensures) (c .before .before .row-entry2 .ensures) (c .before .negative .ensures)
-    (c .product-by3 .ensures)
+    let sign = c .before .before in
+    let entry = sign .before .before .before in
+    let loop = entry .before .before .before in
+    dividing-next (loop .before .before .before .before .before .pre) (loop .loop .inv) (entry .before .before .loop-test .taken)
+    (entry .before .row-entry .ensures) (entry .product-by .ensures) (sign .before .product-by2 .ensures)
+    (sign .row-entry2 .ensures) (c .before .negative .ensures) (c .product-by3 .ensures)
 
 same-length : tie.Need-same-length Inv-loop μ-loop
 same-length c = c .before .loop .inv .written .sameLength

@@ -21,7 +21,10 @@ array-write-rows : tie.Need-array-write-rows
 array-write-rows c = search needs
 
 returns : tie.Need-returns
-returns c = extended-rows _ _ _ _ _ (c .before .before .before .before .before .pre .0) (c .before .before .before .before .before .pre .1) (c .before .before .before .zeros .ensures) (c .before .copy .ensures)
+returns c =
+    let blank = c .before .before .before in
+    let start = blank .before .before in
+    extended-rows (start .pre .0) (start .pre .1) (blank .zeros .ensures) (c .before .copy .ensures)
 
 pub extend-spec : {M : Type 1} → statement M
 extend-spec =

@@ -21,7 +21,9 @@ add-expand : tie.Need-add-expand
 add-expand c = search needs
 
 expand-requires : tie.Need-expand-requires
-expand-requires c κs = last-input _ _ (c .before .before .before .blank .ensures) (c .before .before .before .before .before .before .before .before .before .pre .most) _ _ _ _ _ _ (c .before .before .before .before .before .before .before .before .before .pre)
+expand-requires c κs =
+    let unit = c .before .before .before in
+    last-input (unit .blank .ensures) (unit .before .before .before .before .before .before .pre)
 
 same-length : tie.Need-same-length
 same-length c = search needs
@@ -30,7 +32,10 @@ same-length-2 : tie.Need-same-length-2
 same-length-2 c = search needs
 
 returns : tie.Need-returns
-returns c = last-output _ _ (c .before .before .before .before .before .before .before .before .blank .ensures) (c .before .before .before .before .before .before .before .before .before .before .before .before .before .before .pre .most) _ _ _ _ _ _ (c .before .before .before .before .before .before .before .before .before .before .before .before .before .before .pre) _ _ (c .before .before .before .before .expand .ensures)
+returns c =
+    let done = c .before .before .before .before in
+    let unit = done .before .before .before .before in
+    last-output (unit .blank .ensures) (unit .before .before .before .before .before .before .pre) (done .expand .ensures)
 
 pub last-polynomial-spec : {M : Type 1} → statement M
 last-polynomial-spec =

@@ -8,10 +8,10 @@ use Rattle.moment_way.proofs.leading_inverse.Statement.{statement}
 use Rattle.moment_way.proofs.leading_inverse.Tie as tie
 
 abbrev Inv-loop : tie.InvT-loop
-Inv-loop m inverses inverse n rows reciprocal result₀ i₀ result i = Multiplied m inverses inverse n result i
+Inv-loop m a-inverses close-a-inverse n rows reciprocal result₀ i₀ result i = Multiplied m a-inverses close-a-inverse n result i
 
 abbrev μ-loop : tie.MeasureT-loop
-μ-loop m inverses inverse n rows reciprocal result₀ i₀ result i = n - i
+μ-loop m a-inverses close-a-inverse n rows reciprocal result₀ i₀ result i = n - i
 
 sub-rows : tie.Need-sub-rows Inv-loop μ-loop
 sub-rows c = omega arith

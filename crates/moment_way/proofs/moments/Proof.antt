@@ -18,7 +18,10 @@ slice-aggregate-polynomials-2 : tie.Need-slice-aggregate-polynomials-2
 slice-aggregate-polynomials-2 c = search needs
 
 polynomials-requires : tie.Need-polynomials-requires
-polynomials-requires c κs = moments-polynomials _ _ _ _ _ _ _ _ _ _ _ _ (c .before .before .before .before .before .before .before .before .before .before .before .pre) _ _ (c .before .before .before .before .blank .ensures) (c .before .before .before .blank2 .ensures)
+polynomials-requires c κs =
+    let blanks = c .before .before .before in
+    moments-polynomials (blanks .before .before .before .before .before .before .before .before .pre)
+    (blanks .before .blank .ensures) (blanks .blank2 .ensures)
 
 leading-inverse-requires : tie.Need-leading-inverse-requires
 leading-inverse-requires c κs = search needs
@@ -36,7 +39,12 @@ sub-quotient : tie.Need-sub-quotient
 sub-quotient c = search needs
 
 quotient-requires : tie.Need-quotient-requires
-quotient-requires c κs = moments-quotient _ _ _ _ _ _ _ _ _ _ _ _ (c .before .before .before .before .before .before .before .before .before .before .before .before .before .before .before .before .before .before .before .before .pre) _ _ (c .before .before .before .before .before .before .before .before .before .before .before .before .before .blank .ensures) (c .before .before .before .before .before .before .before .before .before .before .before .before .blank2 .ensures) _ _ _ (c .before .before .before .before .before .before .before .before .polynomials .ensures) _ (c .before .before .before .leading-inverse .ensures)
+quotient-requires c κs =
+    let leading = c .before .before .before in
+    let polynomials = leading .before .before .before .before .before in
+    let blanks = polynomials .before .before .before .before in
+    moments-quotient (blanks .before .before .before .before .before .before .before .before .pre)
+    (blanks .before .blank .ensures) (blanks .blank2 .ensures) (polynomials .polynomials .ensures) (leading .leading-inverse .ensures)
 
 same-length : tie.Need-same-length
 same-length c = search needs
@@ -45,7 +53,12 @@ same-length-2 : tie.Need-same-length-2
 same-length-2 c = search needs
 
 returns : tie.Need-returns
-returns c = moments-are _ _ _ _ _ _ _ _ _ _ _ _ (c .before .before .before .before .before .before .before .before .before .before .before .before .before .before .before .before .before .before .before .before .before .before .before .pre) _ _ (c .before .before .before .before .before .before .before .before .before .before .before .before .before .before .before .before .blank .ensures) (c .before .before .before .before .before .before .before .before .before .before .before .before .before .before .before .blank2 .ensures) _ _ _ (c .before .before .before .before .before .before .before .before .before .before .before .polynomials .ensures) _ (c .before .before .quotient .ensures)
+returns c =
+    let done = c .before .before in
+    let polynomials = done .before .before .before .before .before .before .before .before .before in
+    let blanks = polynomials .before .before .before .before in
+    moments-are (blanks .before .before .before .before .before .before .before .before .pre)
+    (blanks .before .blank .ensures) (blanks .blank2 .ensures) (polynomials .polynomials .ensures) (done .quotient .ensures)
 
 pub moments-spec : {M : Type 1} → statement M
 moments-spec =

@@ -27,7 +27,11 @@ slice-aggregate-last-polynomial-3 : tie.Need-slice-aggregate-last-polynomial-3
 slice-aggregate-last-polynomial-3 c = search needs
 
 last-polynomial-requires : tie.Need-last-polynomial-requires
-last-polynomial-requires c κs = divisor-input _ _ _ _ _ _ _ _ (c .before .before .before .before .before .before .before .before .before .before .before .before .before .before .pre .closed) _ _ _ (c .before .before .before .before .before .before .before .extend .ensures) (c .before .before .before .before .before .before .extend2 .ensures) (c .before .before .before .before .before .extend3 .ensures) _ _ _ (c .before .before .before .before .before .before .before .before .before .before .before .before .before .before .pre)
+last-polynomial-requires c κs =
+    let rows = c .before .before .before .before .before in
+    let start = rows .before .before .before .before .before .before .before .before .before in
+    divisor-input (start .pre .closed) (rows .before .before .extend .ensures) (rows .before .extend2 .ensures)
+    (rows .extend3 .ensures) (start .pre)
 
 sub-last-polynomial : tie.Need-sub-last-polynomial
 sub-last-polynomial c = search needs
@@ -57,7 +61,12 @@ part-last-polynomial-end-3 : tie.Need-part-last-polynomial-end-3
 part-last-polynomial-end-3 c = search needs
 
 last-polynomial-requires-2 : tie.Need-last-polynomial-requires-2
-last-polynomial-requires-2 c κs = numerator-input _ _ _ _ _ _ _ _ (c .before .before .before .before .before .before .before .before .before .before .before .before .before .before .before .before .before .before .before .before .before .before .before .before .before .before .before .pre .closed) _ _ _ (c .before .before .before .before .before .before .before .before .before .before .before .before .before .before .before .before .before .before .before .before .extend .ensures) (c .before .before .before .before .before .before .before .before .before .before .before .before .before .before .before .before .before .before .before .extend2 .ensures) (c .before .before .before .before .before .before .before .before .before .before .before .before .before .before .before .before .before .before .extend3 .ensures) _ _ _ (c .before .before .before .before .before .before .before .before .before .before .before .before .before .before .before .before .before .before .before .before .before .before .before .before .before .before .before .pre) _ (c .before .before .before .before .before .before .before .before .before .before .before .before .last-polynomial .ensures .wiped)
+last-polynomial-requires-2 c κs =
+    let divisor = c .before .before .before .before .before .before .before .before .before .before .before .before in
+    let rows = divisor .before .before .before .before .before .before in
+    let start = rows .before .before .before .before .before .before .before .before .before in
+    numerator-input (start .pre .closed) (rows .before .before .extend .ensures) (rows .before .extend2 .ensures)
+    (rows .extend3 .ensures) (start .pre) (divisor .last-polynomial .ensures .wiped)
 
 same-length : tie.Need-same-length
 same-length c = search needs
@@ -69,7 +78,14 @@ same-length-3 : tie.Need-same-length-3
 same-length-3 c = search needs
 
 returns : tie.Need-returns
-returns c = polynomials-are _ _ _ _ _ _ _ _ (c .before .before .before .before .before .before .before .before .before .before .before .before .before .before .before .before .before .before .before .before .before .before .before .before .before .before .before .before .before .before .before .before .pre .closed) _ _ _ (c .before .before .before .before .before .before .before .before .before .before .before .before .before .before .before .before .before .before .before .before .before .before .before .before .before .extend .ensures) (c .before .before .before .before .before .before .before .before .before .before .before .before .before .before .before .before .before .before .before .before .before .before .before .before .extend2 .ensures) (c .before .before .before .before .before .before .before .before .before .before .before .before .before .before .before .before .before .before .before .before .before .before .before .extend3 .ensures) _ _ _ (c .before .before .before .before .before .before .before .before .before .before .before .before .before .before .before .before .before .before .before .before .before .before .before .before .before .before .before .before .before .before .before .before .pre) _ _ _ _ (c .before .before .before .before .before .before .before .before .before .before .before .before .before .before .before .before .before .last-polynomial .ensures) (c .before .before .before .before .last-polynomial2 .ensures)
+returns c =
+    let numerator = c .before .before .before .before in
+    let divisor = numerator .before .before .before .before .before .before .before .before .before .before .before .before .before in
+    let rows = divisor .before .before .before .before .before .before in
+    let start = rows .before .before .before .before .before .before .before .before .before in
+    polynomials-are (start .pre .closed) (rows .before .before .extend .ensures) (rows .before .extend2 .ensures)
+    (rows .extend3 .ensures) (start .pre)
+    (divisor .last-polynomial .ensures) (numerator .last-polynomial2 .ensures)
 
 pub polynomials-spec : {M : Type 1} → statement M
 polynomials-spec =

@@ -1,4 +1,5 @@
--- `subproduct::adjoint_pair` meets its contract: the two lists side by side are those of the pair, and what the second is made of is there still. Assumes nothing.
+-- `subproduct::adjoint_pair` meets its contract: the two lists side by side are those of the pair, and what the second is made of is
+-- there still. Assumes nothing.
 use Rattle.subproduct.specs.AdjointPair.{adjointPair-first, adjointPair-second, adjointPair-written}
 use borrow.Author.Needs.{needs}
 use Rattle.subproduct.proofs.adjoint_pair.Statement.{statement}
@@ -14,7 +15,7 @@ add-transposed-sum : tie.Need-add-transposed-sum
 add-transposed-sum c = search needs
 
 transposed-sum-requires : tie.Need-transposed-sum-requires
-transposed-sum-requires c κs = adjointPair-first _ _ _ _ _ _ _ _ _ (c .before .before .pre)
+transposed-sum-requires c κs = adjointPair-first (c .before .before .pre)
 
 add-transposed-sum-2 : tie.Need-add-transposed-sum-2
 add-transposed-sum-2 c = search needs
@@ -23,13 +24,18 @@ add-transposed-sum-3 : tie.Need-add-transposed-sum-3
 add-transposed-sum-3 c = search needs
 
 transposed-sum-requires-2 : tie.Need-transposed-sum-requires-2
-transposed-sum-requires-2 c κs = adjointPair-second _ _ _ _ _ _ _ _ _ (c .before .before .before .before .before .before .pre) _ (c .before .before .before .transposed-sum .ensures)
+transposed-sum-requires-2 c κs =
+    let first = c .before .before .before in
+    adjointPair-second (first .before .before .before .pre) (first .transposed-sum .ensures)
 
 same-length : tie.Need-same-length
 same-length c = search needs
 
 returns : tie.Need-returns
-returns c = adjointPair-written _ _ _ _ _ _ _ _ _ (c .before .before .before .before .before .before .before .before .before .pre) _ (c .before .before .before .before .before .before .transposed-sum .ensures) _ (c .before .before .transposed-sum2 .ensures)
+returns c =
+    let second = c .before .before in
+    let first = second .before .before .before .before in
+    adjointPair-written (first .before .before .before .pre) (first .transposed-sum .ensures) (second .transposed-sum2 .ensures)
 
 pub adjoint-pair-spec : {M : Type 1} → statement M
 adjoint-pair-spec =

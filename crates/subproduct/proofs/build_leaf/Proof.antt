@@ -29,13 +29,25 @@ row-entry-requires-6 : tie.Need-row-entry-requires-6
 row-entry-requires-6 c κs = search needs
 
 write-leaf-requires : tie.Need-write-leaf-requires
-write-leaf-requires c κs = leaf-input _ _ _ _ _ _ _ _ (c .before .before .before .before .before .before .before .before .before .before .before .pre) _ _ _ _ _ _ (c .before .before .before .before .before .before .row-entry .ensures) (c .before .before .before .before .before .row-entry2 .ensures) (c .before .before .before .before .row-entry3 .ensures) (c .before .before .before .row-entry4 .ensures) (c .before .before .row-entry5 .ensures) (c .before .row-entry6 .ensures)
+write-leaf-requires c κs =
+    let rows = c .before in
+    let second = rows .before .before .before in
+    leaf-input (second .before .before .before .before .before .before .before .pre)
+    (second .before .before .row-entry .ensures) (second .before .row-entry2 .ensures) (second .row-entry3 .ensures)
+    (rows .before .before .row-entry4 .ensures) (rows .before .row-entry5 .ensures) (rows .row-entry6 .ensures)
 
 same-length : tie.Need-same-length
 same-length c = search needs
 
 returns : tie.Need-returns
-returns c = leaf-stored _ _ _ _ _ _ _ _ (c .before .before .before .before .before .before .before .before .before .before .before .before .before .before .pre) _ _ _ _ _ _ (c .before .before .before .before .before .before .before .before .before .row-entry .ensures) (c .before .before .before .before .before .before .before .before .row-entry2 .ensures) (c .before .before .before .before .before .before .before .row-entry3 .ensures) (c .before .before .before .before .before .before .row-entry4 .ensures) (c .before .before .before .before .before .row-entry5 .ensures) (c .before .before .before .before .row-entry6 .ensures) _ (c .before .before .write-leaf .ensures)
+returns c =
+    let done = c .before .before in
+    let rows = done .before .before in
+    let second = rows .before .before .before in
+    leaf-stored (second .before .before .before .before .before .before .before .pre)
+    (second .before .before .row-entry .ensures) (second .before .row-entry2 .ensures) (second .row-entry3 .ensures)
+    (rows .before .before .row-entry4 .ensures) (rows .before .row-entry5 .ensures) (rows .row-entry6 .ensures)
+    (done .write-leaf .ensures)
 
 pub build-leaf-spec : {M : Type 1} → statement M
 build-leaf-spec =

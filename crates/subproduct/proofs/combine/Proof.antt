@@ -7,22 +7,22 @@ use Rattle.subproduct.proofs.combine.Statement.{statement}
 use Rattle.subproduct.proofs.combine.Tie as tie
 
 mul-result : tie.Need-mul-result
-mul-result c = omega (arith, products-small _ _ _ _ _ _ (c .pre))
+mul-result c = omega (arith, products-small (c .pre))
 
 add-result : tie.Need-add-result
-add-result c = omega (arith, products-small _ _ _ _ _ _ (c .pre))
+add-result c = omega (arith, products-small (c .pre))
 
 mul-result-2 : tie.Need-mul-result-2
-mul-result-2 c = omega (arith, products-small _ _ _ _ _ _ (c .pre))
+mul-result-2 c = omega (arith, products-small (c .pre))
 
 add-result-2 : tie.Need-add-result-2
-add-result-2 c = omega (arith, products-small _ _ _ _ _ _ (c .pre))
+add-result-2 c = omega (arith, products-small (c .pre))
 
 rem-result : tie.Need-rem-result
 rem-result c = search needs
 
 cast-result : tie.Need-cast-result
-cast-result c = omega (arith, products-small _ _ _ _ _ _ (c .pre) .remainder (c .args .s + c .args .x * c .args .y + c .args .u * c .args .v))
+cast-result c = omega (arith, products-small (c .pre) .remainder (c .args .s + c .args .x * c .args .y + c .args .u * c .args .v))
 
 returns : tie.Need-returns
 returns c = search needs

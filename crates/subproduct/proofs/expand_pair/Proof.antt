@@ -1,4 +1,5 @@
--- `subproduct::expand_pair` meets its contract: the two lists side by side are those of the pair, and what the second is made of is there still. Assumes nothing.
+-- `subproduct::expand_pair` meets its contract: the two lists side by side are those of the pair, and what the second is made of is
+-- there still. Assumes nothing.
 use Rattle.subproduct.specs.Join.{expandPair-first, expandPair-second, expandPair-written}
 use borrow.Author.Needs.{needs}
 use Rattle.subproduct.proofs.expand_pair.Statement.{statement}
@@ -14,7 +15,7 @@ add-bottom-2 : tie.Need-add-bottom-2
 add-bottom-2 c = search needs
 
 add-products-requires : tie.Need-add-products-requires
-add-products-requires c κs = expandPair-first _ _ _ _ _ _ _ _ _ _ (c .before .before .pre)
+add-products-requires c κs = expandPair-first (c .before .before .pre)
 
 add-add-products : tie.Need-add-add-products
 add-add-products c = search needs
@@ -29,13 +30,15 @@ add-add-products-4 : tie.Need-add-add-products-4
 add-add-products-4 c = search needs
 
 add-products-requires-2 : tie.Need-add-products-requires-2
-add-products-requires-2 c κs = expandPair-second _ _ _ _ _ _ _ _ _ _ (c .before .before .before .before .before .before .pre) _ (c .before .before .before .add-products .ensures)
+add-products-requires-2 c κs =
+    expandPair-second (c .before .before .before .before .before .before .pre) (c .before .before .before .add-products .ensures)
 
 same-length : tie.Need-same-length
 same-length c = search needs
 
 returns : tie.Need-returns
-returns c = expandPair-written _ _ _ _ _ _ _ _ _ _ (c .before .before .before .before .before .before .before .before .before .pre) _ (c .before .before .before .before .before .before .add-products .ensures) _ (c .before .before .add-products2 .ensures)
+returns c = expandPair-written (c .before .before .before .before .before .before .before .before .before .pre)
+    (c .before .before .before .before .before .before .add-products .ensures) (c .before .before .add-products2 .ensures)
 
 pub expand-pair-spec : {M : Type 1} → statement M
 expand-pair-spec =

@@ -1,11 +1,12 @@
--- `subproduct::join` meets its contract: each row of the right half's matrix times the left half's is a pair, and the two pairs are the node's lists. Assumes nothing.
+-- `subproduct::join` meets its contract: each row of the right half's matrix times the left half's is a pair, and the two pairs are
+-- the node's lists. Assumes nothing.
 use Rattle.subproduct.specs.Join.{join-first, join-second, join-written}
 use borrow.Author.Needs.{needs}
 use Rattle.subproduct.proofs.join.Statement.{statement}
 use Rattle.subproduct.proofs.join.Tie as tie
 
 expand-pair-requires : tie.Need-expand-pair-requires
-expand-pair-requires c κs = join-first _ _ _ _ _ _ _ (c .before .before .pre)
+expand-pair-requires c κs = join-first (c .before .before .pre)
 
 add-expand-pair : tie.Need-add-expand-pair
 add-expand-pair c = search needs
@@ -20,13 +21,18 @@ add-expand-pair-4 : tie.Need-add-expand-pair-4
 add-expand-pair-4 c = search needs
 
 expand-pair-requires-2 : tie.Need-expand-pair-requires-2
-expand-pair-requires-2 c κs = join-second _ _ _ _ _ _ _ (c .before .before .before .before .before .before .pre) _ (c .before .before .before .expand-pair .ensures)
+expand-pair-requires-2 c κs =
+    let first = c .before .before .before in
+    join-second (first .before .before .before .pre) (first .expand-pair .ensures)
 
 same-length : tie.Need-same-length
 same-length c = search needs
 
 returns : tie.Need-returns
-returns c = join-written _ _ _ _ _ _ _ (c .before .before .before .before .before .before .before .before .before .pre) _ (c .before .before .before .before .before .before .expand-pair .ensures) _ (c .before .before .expand-pair2 .ensures)
+returns c =
+    let second = c .before .before in
+    let first = second .before .before .before .before in
+    join-written (first .before .before .before .pre) (first .expand-pair .ensures) (second .expand-pair2 .ensures)
 
 pub join-spec : {M : Type 1} → statement M
 join-spec =

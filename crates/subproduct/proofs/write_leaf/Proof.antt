@@ -36,7 +36,10 @@ store-three-requires-3 : tie.Need-store-three-requires-3
 store-three-requires-3 c κs = search needs
 
 add-store-three-3 : tie.Need-add-store-three-3
-add-store-three-3 c = omega (arith, c .before .before .before .before .before .before .before .before .before .before .before .before .before .before .before .before .before .before .before .pre .room, c .before .before .before .before .before .before .before .before .before .before .before .before .before .before .before .before .before .before .before .good)
+add-store-three-3 c =
+    let sums = c .before .before .before .before .before .before .before .before .before .before .before .before in
+    let start = sums .before .before .before .before .before .before .before in
+    omega (arith, start .pre .room, start .good)
 
 store-three-requires-4 : tie.Need-store-three-requires-4
 store-three-requires-4 c κs = search needs
@@ -45,7 +48,16 @@ same-length : tie.Need-same-length
 same-length c = search needs
 
 returns : tie.Need-returns
-returns c = leaf-written _ _ _ _ _ _ _ _ _ (c .before .before .before .before .before .before .before .before .before .before .before .before .before .before .before .before .before .before .before .before .before .before .pre) _ _ _ _ _ _ _ _ _ (c .before .before .before .before .before .before .before .before .before .before .before .before .before .before .before .before .before .before .before .before .combine .ensures) (c .before .before .before .before .before .before .before .before .before .before .before .before .before .before .before .before .before .before .before .combine2 .ensures) (c .before .before .before .before .before .before .before .before .before .before .before .before .before .before .before .before .before .before .combine3 .ensures) (c .before .before .before .before .before .before .before .before .before .before .before .before .before .before .before .before .before .combine4 .ensures) (c .before .before .before .before .before .before .before .before .before .before .before .before .before .before .before .before .combine5 .ensures) (c .before .before .before .before .before .before .before .before .before .before .before .before .before .before .store-three .ensures) (c .before .before .before .before .before .before .before .before .before .before .store-three2 .ensures) (c .before .before .before .before .before .before .store-three3 .ensures) (c .before .before .store-three4 .ensures)
+returns c =
+    let fourth = c .before .before in
+    let third = fourth .before .before .before .before in
+    let second = third .before .before .before .before in
+    let first = second .before .before .before .before in
+    let sums = first .before .before in
+    leaf-written (sums .before .before .before .before .before .before .pre)
+    (sums .before .before .before .before .combine .ensures) (sums .before .before .before .combine2 .ensures)
+    (sums .before .before .combine3 .ensures) (sums .before .combine4 .ensures) (sums .combine5 .ensures)
+    (first .store-three .ensures) (second .store-three2 .ensures) (third .store-three3 .ensures) (fourth .store-three4 .ensures)
 
 pub write-leaf-spec : {M : Type 1} → statement M
 write-leaf-spec =

@@ -1,4 +1,5 @@
--- `tree::adjoint` meets its contract: with one entry there is no tree; otherwise the tree's answer stands, and the working list is cleared behind it. Assumes nothing.
+-- `tree::adjoint` meets its contract: with one entry there is no tree; otherwise the tree's answer stands, and the working list is cleared
+-- behind it. Assumes nothing.
 use mathlib.Core.Path.{refl}
 use Rattle.tree.specs.Core.{alone-adjoint, wiped-output}
 use borrow.Author.Needs.{needs}
@@ -24,7 +25,10 @@ same-length-2 : tie.Need-same-length-2
 same-length-2 c = search needs
 
 returns : tie.Need-returns
-returns c = alone-adjoint _ _ _ _ _ _ _ _ (c .before .before .before .before .before .before .before .before .before .before .before .before .pre) (c .before .before .before .before .before .if1 .taken) _ _ refl (c .before .before .clear .ensures)
+returns c =
+    let alone = c .before .before in
+    let start = alone .before .before .before .before .before .before .before .before .before .before in
+    alone-adjoint (start .pre) (alone .before .before .before .if1 .taken) refl (alone .clear .ensures)
 
 adjoint-tree-requires : tie.Need-adjoint-tree-requires
 adjoint-tree-requires c κs = search needs
@@ -39,7 +43,8 @@ same-length-4 : tie.Need-same-length-4
 same-length-4 c = search needs
 
 returns-2 : tie.Need-returns-2
-returns-2 c = wiped-output _ _ _ _ _ _ _ _ _ _ (c .before .before .before .before .before .before .before .before .adjoint-tree .ensures) (c .before .before .clear2 .ensures)
+returns-2 c = wiped-output (c .before .before .before .before .before .before .before .before .adjoint-tree .ensures)
+    (c .before .before .clear2 .ensures)
 
 pub adjoint-spec : {M : Type 1} → statement M
 adjoint-spec =

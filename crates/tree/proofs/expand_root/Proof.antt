@@ -1,12 +1,14 @@
--- `tree::expand_root` meets its contract: the loop's invariant is that k coefficients stand in the output (`Filling`); the measure is what is left of them. Assumes nothing.
-use Prim.Native.Nat.{_-_}
+-- `tree::expand_root` meets its contract: its loop fills the output from the front. The measure is what is left of the coefficients.
+-- Assumes nothing.
+use Prim.Native.Nat.{_-_, _≤_}
 use native.Mathlib.Omega.{arith}
-use Rattle.tree.specs.Root.{Filling, rootEntry, filling-starts, filling-next, root-coefficient, root-ends}
+use Rattle.numbers.specs.Lists.{Filling, filling-start, filling-next}
+use Rattle.tree.specs.Root.{rootEntry, root-coefficient, root-ends}
 use Rattle.tree.proofs.expand_root.Statement.{statement}
 use Rattle.tree.proofs.expand_root.Tie as tie
 
 abbrev Inv-loop : tie.InvT-loop
-Inv-loop m w at span first n output₀ reciprocal k₀ output k = Filling (rootEntry m w at span first) n output₀ output k
+Inv-loop m w at span first n output₀ reciprocal k₀ output k = (k ≤ n) × Filling (rootEntry m w at span first) k output₀ output
 
 abbrev μ-loop : tie.MeasureT-loop
 μ-loop m w at span first n output₀ reciprocal k₀ output k = n - k
@@ -15,12 +17,12 @@ reciprocal-requires : tie.Need-reciprocal-requires Inv-loop μ-loop
 reciprocal-requires c κs = omega (arith, c .before .before .before .pre .modulus .least)
 
 loop-holds : tie.Need-loop-holds Inv-loop μ-loop
-loop-holds c = filling-starts _ _ _ (c .before .before .before .before .pre .room)
+loop-holds c = (omega arith, filling-start)
 
 root-coefficient-requires : tie.Need-root-coefficient-requires Inv-loop μ-loop
 root-coefficient-requires c κs =
     let loop = c .before in
-    root-coefficient _ _ _ _ _ _ _ (loop .before .before .before .before .before .pre) _ (loop .before .reciprocal .ensures) _ (c .loop-test .taken)
+    root-coefficient (loop .before .before .before .before .before .pre) (loop .before .reciprocal .ensures) (c .loop-test .taken)
 
 mul-output : tie.Need-mul-output Inv-loop μ-loop
 mul-output c = omega arith
@@ -35,13 +37,15 @@ loop-less : tie.Need-loop-less Inv-loop μ-loop
 loop-less c = omega arith
 
 loop-again : tie.Need-loop-again Inv-loop μ-loop
-loop-again c = filling-next _ _ _ _ _ (c .before .before .loop .inv) _ (c .before .loop-test .taken) (c .root-coefficient .ensures)
+loop-again c =
+    let loop = c .before .before in
+    (omega arith, filling-next (loop .loop .inv .1) (omega arith) (c .root-coefficient .ensures))
 
 same-length : tie.Need-same-length Inv-loop μ-loop
-same-length c = omega arith
+same-length c = c .before .loop .inv .1 .sameLength
 
 returns : tie.Need-returns Inv-loop μ-loop
-returns c = root-ends _ _ _ _ _ _ _ (c .before .before .before .before .before .before .pre) _ _ (c .loop-test .left) (c .before .loop .inv)
+returns c = root-ends (c .before .before .before .before .before .before .pre) (omega arith) (c .before .loop .inv .1)
 
 pub expand-root-spec : {M : Type 1} → statement M
 expand-root-spec =

@@ -41,10 +41,10 @@ part-products-at-end-2 : tie.Need-part-products-at-end-2
 part-products-at-end-2 c = search needs
 
 products-at-requires : tie.Need-products-at-requires
-products-at-requires c κs = root-input _ _ _ _ _ _ _ (c .before .before .before .before .before .pre)
+products-at-requires c κs = root-input (c .before .before .before .before .before .pre)
 
 returns : tie.Need-returns
-returns c = root-is _ _ _ _ _ _ _ (c .before .before .before .before .before .before .pre) _ (c .products-at .ensures)
+returns c = root-is (c .before .before .before .before .before .before .pre) (c .products-at .ensures)
 
 pub root-coefficient-spec : {M : Type 1} → statement M
 root-coefficient-spec =

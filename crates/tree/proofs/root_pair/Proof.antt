@@ -10,25 +10,33 @@ slice-aggregate-transposed : tie.Need-slice-aggregate-transposed
 slice-aggregate-transposed c = search needs
 
 slice-aggregate-transposed-2 : tie.Need-slice-aggregate-transposed-2
-slice-aggregate-transposed-2 c = sym (length-take-le _ _ (c .before .before .before .before .before .pre .curveLong))
+slice-aggregate-transposed-2 c = sym (length-take-le _ _ (c .before .before .before .before .before .pre .curveHolds .long))
 
 transposed-requires : tie.Need-transposed-requires
-transposed-requires c κs = pair-first _ _ _ _ _ _ _ (c .before .before .before .before .before .before .pre)
+transposed-requires c κs = pair-first (c .before .before .before .before .before .before .pre)
 
 slice-aggregate-transposed-3 : tie.Need-slice-aggregate-transposed-3
-slice-aggregate-transposed-3 c = sym (length-take-le _ _ (c .before .before .before .before .before .before .before .before .before .before .pre .curveLong))
+slice-aggregate-transposed-3 c =
+    let first = c .before .before .before in
+    sym (length-take-le _ _ (first .before .before .before .before .before .before .before .pre .curveHolds .long))
 
 add-transposed : tie.Need-add-transposed
 add-transposed c = search needs
 
 transposed-requires-2 : tie.Need-transposed-requires-2
-transposed-requires-2 c κs = pair-second _ _ _ _ _ _ _ (c .before .before .before .before .before .before .before .before .before .before .before .pre) _ (c .before .before .before .before .transposed .ensures)
+transposed-requires-2 c κs =
+    let first = c .before .before .before .before in
+    pair-second (first .before .before .before .before .before .before .before .pre) (first .transposed .ensures)
 
 same-length : tie.Need-same-length
 same-length c = search needs
 
 returns : tie.Need-returns
-returns c = pair-written _ _ _ _ _ _ _ (c .before .before .before .before .before .before .before .before .before .before .before .before .before .before .pre) _ (c .before .before .before .before .before .before .before .transposed .ensures) _ (c .before .before .transposed2 .ensures)
+returns c =
+    let second = c .before .before in
+    let first = second .before .before .before .before .before in
+    pair-written (first .before .before .before .before .before .before .before .pre) (first .transposed .ensures)
+    (second .transposed2 .ensures)
 
 pub root-pair-spec : {M : Type 1} → statement M
 root-pair-spec =
