@@ -1,7 +1,5 @@
--- What the contracts of the checks cite, and how their answers come to the verdict of a call. Assumes nothing.
+-- What the contracts of the checks cite, and what their passes and comparisons say of the tests. Assumes nothing.
 pub mod Passes
-pub mod Groups
-pub mod Either
+pub mod Settling
 pub mod Shape
 pub mod Rows
-pub mod Calls

@@ -55,7 +55,8 @@ module _ (bad : ℕ → Bool) (xs : List ℕ) where
     pub passed-next : i < length xs → bad (getD xs i 0) ≡ false → Passed bad xs (i + 1)
     passed-next l e = record {
       within = omega arith;
-      clear = λ j g. ⊎-elim (λ (same : j ≡ i). subst (λ k. bad (getD xs k 0) ≡ false) (sym same) e) (h .clear j) (eq-or-lt-of-le {n = j} {m = i} (omega arith));
+      clear = λ j g. ⊎-elim (λ (same : j ≡ i). subst (λ k. bad (getD xs k 0) ≡ false) (sym same) e) (h .clear j)
+          (eq-or-lt-of-le {n = j} {m = i} (omega arith));
     }
 
     pub passed-first : i < length xs → bad (getD xs i 0) ≡ true → First bad xs i
@@ -65,5 +66,6 @@ module _ (bad : ℕ → Bool) (xs : List ℕ) where
     passed-ends l = some-false bad xs 0 .1 (λ j g. h .clear j (omega arith))
 
 -- every entry has an inverse if the product of all has one
-pub all-by-product : (m : ℕ) (xs : List ℕ) → 0 < m → HasInverse m (runningProduct m (λ i. getD xs i 0) (length xs)) → some (noInverse m) xs ≡ false
+pub all-by-product : (m : ℕ) (xs : List ℕ) → 0 < m → HasInverse m (runningProduct m (λ i. getD xs i 0) (length xs))
+    → some (noInverse m) xs ≡ false
 all-by-product m xs pos h = some-noInverse-false m xs 0 pos .1 (running-each m (λ i. getD xs i 0) (length xs) h)

@@ -1,107 +1,180 @@
--- The verdict of the tests on the rows, at each place where a check answers.
--- Proved: what the passes over a, b and c found is the verdict of tests 9, 10 and 11; where a product of all a and c has an inverse, 10 and 11
--- pass. Assumes nothing.
-use mathlib.Core.Path.{_≡_, sym, _∙_, subst}
-use mathlib.Core.Bool.{Bool, true, false, _||_}
+-- The tests on the rows of a lent family, by passes over its lists and a look at the closing row.
+--   inverseRows first f   10 and 11 of a family: the inverses of the a, and of the c from place first on
+--   Entered               what 9 asks for: the entries of the three lists and those of the closing row are below m
+--   AInverted, CInverted  what 10 and 11 ask for: the a, or the c from place first on, and those of the closing row have inverses
+-- Proved: 9 passes if and only if the rows are so (entered-passes); what is answered to 10 and 11 where they are or are not, and that one
+-- product settles them (joint-passes); what a pass over a list found. Assumes nothing.
+use mathlib.Core.Path.{_≡_, sym, _∙_, ap, subst}
+use mathlib.Core.Bool.{Bool, true, false, true≢false}
 use mathlib.Core.List.{List, [], _∷_}
-use Prim.Native.Nat.{ℕ, _<_}
-use Rattle.definitions.specs.Answers.{answered}
-use Rattle.definitions.specs.Family.{Family, family}
+use mathlib.Core.Logic.{_↔_, Iff·trans, by-cases}
+use Prim.Native.Nat.{ℕ, suc, _+_, _-_, _<_, _≤_}
+use native.Mathlib.Decide.{decLt}
+use native.Mathlib.Omega.{arith}
+use lib.ListN.{length, getD, take, drop, length-drop, List·getD-eq-default}
+use lib.Seq.{getD-take, getD-drop, length-take-le}
+use Rattle.definitions.specs.Family.{Row, Family, RowBelow, rowOf, rowAt, size}
 use Rattle.definitions.specs.Number.{HasInverse}
-use Rattle.definitions.specs.Refusals.{Verdict, finished, refused, verdict, some, notBelow, noInverse, entriesTest, aInverseTest, cInverseTest}
-use Rattle.definitions.specs.declared.Answer.{Answer}
-use Rattle.acceptance.specs.Verdicts.{verdict-here, verdict-next, some-true, some-noInverse-false, or-false}
+use Rattle.definitions.specs.Refusals.{Test, Verdict, finished, refused, verdict, some, notBelow, noInverse}
+use Rattle.definitions.specs.Refusals.{entriesTest, aInverseTest, cInverseTest}
+use Rattle.numbers.specs.Lists.{Each}
+use Rattle.acceptance.specs.Verdicts.{some-true, some-notBelow-false, some-noInverse-false, noInverse-true}
+use Rattle.acceptance.specs.Verdicts.{entries-pass, a-inverses-pass, c-inverses-pass}
+use Rattle.lists.specs.Entries.{entry-inside, entry-past}
+use Rattle.lists.specs.Lent.{lent, Long, lent-size, lent-past}
+use Rattle.residue.specs.Inversion.{SharesFactor, absent-fails}
 use Rattle.inverses.specs.Joint.{Joint}
-use Rattle.checks.specs.Calls.{check-refuses, check-passes}
-use Rattle.checks.specs.Either.{or-left, or-right}
-use Rattle.checks.specs.Groups.{inverseRowTests, rowTests}
+use Rattle.checks.specs.Settling.{refuses, goes-on, refuses-alone, finishes}
 use Rattle.checks.specs.Passes.{First, BelowAnswer, FactorAnswer}
-use Rattle.checks.specs.Shape.{test-refuses, test-passes}
 use Rattle.checks.specs.declared.Entries.{Entries}
 use Rattle.checks.specs.declared.Factors.{Factors}
 use Rattle.checks.specs.declared.Reason.{Reason}
 
--- ---- what a pass found, as a test
-pub first-some : (bad : ℕ → Bool) (xs : List ℕ) (i : ℕ) → First bad xs i → some bad xs ≡ true
-first-some bad xs i h = some-true bad xs i 0 (h .place) (h .here)
+unfoldable pub inverseRows : ℕ → Family → List Test
+inverseRows first f = aInverseTest f ∷ cInverseTest first f ∷ []
+
+-- ---- what a pass found
+first-some : (bad : ℕ → Bool) (xs : List ℕ) (i : ℕ) → First bad xs i → some bad xs ≡ false → ⊥
+first-some bad xs i h none = true≢false (sym (some-true bad xs i 0 (h .place) (h .here)) ∙ none)
 
 module _ (m : ℕ) (xs : List ℕ) where
   pub all-below : (r : Entries) → r ≡ Entries.Residues → BelowAnswer m xs r → some (notBelow m) xs ≡ false
   all-below r e h = subst (BelowAnswer m xs) e h
 
-  pub one-not-below : (r : Entries) (i : ℕ) → r ≡ Entries.NotBelow i → BelowAnswer m xs r → some (notBelow m) xs ≡ true
+  pub one-not-below : (r : Entries) (i : ℕ) → r ≡ Entries.NotBelow i → BelowAnswer m xs r → some (notBelow m) xs ≡ false → ⊥
   one-not-below r i e h = first-some (notBelow m) xs i (subst (BelowAnswer m xs) e h)
 
   pub all-invertible : (r : Factors) → r ≡ Factors.Invertible → FactorAnswer m xs r → some (noInverse m) xs ≡ false
   all-invertible r e h = subst (FactorAnswer m xs) e h
 
-  pub one-without : (r : Factors) (i : ℕ) (reason : Reason) → r ≡ Factors.Without i reason → FactorAnswer m xs r → some (noInverse m) xs ≡
-      true
+  pub one-without : (r : Factors) (i : ℕ) (reason : Reason) → r ≡ Factors.Without i reason → FactorAnswer m xs r
+      → some (noInverse m) xs ≡ false → ⊥
   one-without r i reason e h = first-some (noInverse m) xs i (subst (FactorAnswer m xs) e h .0)
 
+pub lacks : (m x g : ℕ) → 0 < m → SharesFactor m x g → HasInverse m x → ⊥
+lacks m x g pos absent = noInverse-true m x pos .0 (absent-fails m x g pos absent)
+
+-- every entry of a list that is closed by d, at every place
+closed : (P : ℕ → Type 0) (xs : List ℕ) (d : ℕ) → Each P xs d → P d → (i : ℕ) → P (getD xs i d)
+closed P xs d all last i = by-cases (decLt i (length xs)) (all i) (λ n. rw (List·getD-eq-default xs d {n = i} (omega arith)) last)
+
 -- ---- 9
-module _ (m : ℕ) (a b c : List ℕ) where
-  abbrev f : Family
-  f = family m a b c
+pub record Entered (m r : ℕ) (a b c : List ℕ) (close : Row) : Type 0 where
+  pub inA : some (notBelow m) (take r a) ≡ false
+  pub inB : some (notBelow m) (take r b) ≡ false
+  pub inC : some (notBelow m) (take r c) ≡ false
+  pub closing : RowBelow m close
 
-  abbrev entries : Verdict
-  entries = verdict (entriesTest f ∷ []) []
+module _ (m r : ℕ) (a b c : List ℕ) (close : Row) (long : Long r a b c) where
+  pub entered-passes : (entriesTest (lent m r a b c close) .holds ≡ false) ↔ Entered m r a b c close
+  unfolding rowAt
+  entered-passes = Iff·trans (entries-pass (lent m r a b c close)) (to, from)
+    where
+      f : Family
+      f = lent m r a b c close
 
-  abbrev outside : List ℕ → Bool
-  outside = some (notBelow m)
+      within : (xs : List ℕ) (i : ℕ) → r ≤ length xs → i < length (take r xs) → i < size f
+      within xs i l h = let n : size f ≡ suc r = lent-size m r a b c close long in omega (arith, length-take-le r xs l)
 
-  pub a-not-below : outside a ≡ true → refused 9 ≡ entries
-  unfolding entriesTest
-  a-not-below e = test-refuses (entriesTest f) (or-left (outside a || outside b) (outside c) (or-left (outside a) (outside b) e))
+      to : ((i : ℕ) → i < size f → RowBelow m (rowAt f i)) → Entered m r a b c close
+      to all = record {
+        inA = some-notBelow-false m (take r a) (close .a) .1 (λ i h. all i (within a i (long .aLong) h) .aBelow);
+        inB = some-notBelow-false m (take r b) (close .b) .1 (λ i h. all i (within b i (long .bLong) h) .bBelow);
+        inC = some-notBelow-false m (take r c) (close .c) .1 (λ i h. all i (within c i (long .cLong) h) .cBelow);
+        closing =
+            let n : size f ≡ suc r = lent-size m r a b c close long in
+            rw (← lent-past m r a b c close long r (omega arith)) (all r (omega arith));
+      }
 
-  pub b-not-below : outside b ≡ true → refused 9 ≡ entries
-  unfolding entriesTest
-  b-not-below e = test-refuses (entriesTest f) (or-left (outside a || outside b) (outside c) (or-right (outside a) (outside b) e))
+      from : Entered m r a b c close → (i : ℕ) → i < size f → RowBelow m (rowAt f i)
+      from e i h = record {
+        aBelow = closed (λ x. x < m) (take r a) (close .a) (some-notBelow-false m (take r a) (close .a) .0 (e .inA)) (e .closing .aBelow) i;
+        bBelow = closed (λ x. x < m) (take r b) (close .b) (some-notBelow-false m (take r b) (close .b) .0 (e .inB)) (e .closing .bBelow) i;
+        cBelow = closed (λ x. x < m) (take r c) (close .c) (some-notBelow-false m (take r c) (close .c) .0 (e .inC)) (e .closing .cBelow) i;
+      }
 
-  pub c-not-below : outside c ≡ true → refused 9 ≡ entries
-  unfolding entriesTest
-  c-not-below e = test-refuses (entriesTest f) (or-right (outside a || outside b) (outside c) e)
+-- ---- 10 and 11
+-- count: how many c of the list are asked for their inverses, the last of the first r;  s: the place where they begin
+module _ (m r : ℕ) (a c : List ℕ) (first count closeA closeC : ℕ) where
+  abbrev s : ℕ
+  s = r - count
 
-  pub entries-pass : outside a ≡ false → outside b ≡ false → outside c ≡ false → finished [] ≡ entries
-  unfolding entriesTest
-  entries-pass p q r = test-passes (entriesTest f)
-      (or-false (outside a || outside b) (outside c) .1 (or-false (outside a) (outside b) .1 (p, q), r))
+  abbrev asked : List ℕ
+  asked = take (r - s) (drop s c)
 
-  -- ---- 10 and 11
-  abbrev inverses : Verdict
-  inverses = verdict (inverseRowTests f) []
+  abbrev AInverted : Type 0
+  AInverted = (some (noInverse m) (take r a) ≡ false) × HasInverse m closeA
 
-  abbrev lacking : List ℕ → Bool
-  lacking = some (noInverse m)
+  abbrev CInverted : Type 0
+  CInverted = (some (noInverse m) asked ≡ false) × (first ≤ r → HasInverse m closeC)
 
-  pub a-without : lacking a ≡ true → refused 10 ≡ inverses
-  unfolding inverseRowTests aInverseTest
-  a-without e = sym (verdict-here (aInverseTest f) (cInverseTest f ∷ []) [] e)
+  module _ (pos : 0 < m) (aLong : r ≤ length a) (cLong : r ≤ length c) (counted : count ≡ r - first) (b : List ℕ) (closeB : ℕ) where
+    abbrev f : Family
+    f = lent m r a b c (rowOf closeA closeB closeC)
 
-  past-a : lacking a ≡ false → inverses ≡ verdict (cInverseTest f ∷ []) []
-  unfolding inverseRowTests aInverseTest
-  past-a e = verdict-next (aInverseTest f) (cInverseTest f ∷ []) [] e
+    n-is : size f ≡ suc r
+    n-is = ap suc (length-take-le r a aLong)
 
-  pub c-without : lacking a ≡ false → lacking c ≡ true → refused 11 ≡ inverses
-  unfolding cInverseTest
-  c-without p e = test-refuses (cInverseTest f) e ∙ sym (past-a p)
+    a-inverted : (aInverseTest f .holds ≡ false) ↔ AInverted
+    unfolding rowAt
+    a-inverted = Iff·trans (a-inverses-pass f pos) (
+      λ all. (
+        some-noInverse-false m (take r a) closeA pos .1 (λ i h. all i (omega arith)),
+        subst (HasInverse m) (sym (entry-past r a aLong r closeA (omega arith))) (all r (omega (arith, n-is))),
+      ),
+      λ p i h. closed (HasInverse m) (take r a) closeA (some-noInverse-false m (take r a) closeA pos .0 (p .0)) (p .1) i,
+    )
 
-  pub inverses-pass : lacking a ≡ false → lacking c ≡ false → finished [] ≡ inverses
-  unfolding cInverseTest
-  inverses-pass p e = test-passes (cInverseTest f) e ∙ sym (past-a p)
+    asked-entry : (i : ℕ) → i < r - s → getD asked i 0 ≡ getD (take r c) (s + i) closeC
+    asked-entry i h = getD-take (r - s) (drop s c) i 0 h ∙ getD-drop s c i 0 ∙ entry-inside r c cLong (s + i) closeC (omega arith)
 
-  -- a product of all has an inverse
-  pub joint-passes : (r : ℕ) → 0 < m → Joint m a c r → HasInverse m r → finished [] ≡ inverses
-  joint-passes r pos h inverse =
-      let all = h .settles inverse in
-      inverses-pass (some-noInverse-false m a 0 pos .1 (all .0)) (some-noInverse-false m c 0 pos .1 (all .1))
+    asked-length : length asked ≡ r - s
+    asked-length = length-take-le (r - s) (drop s c) (omega (arith, length-drop s c))
 
-  -- ---- 9 to 11, the first a check of its own
-  module _ (first : Answer) (firstIs : answered first ≡ entries) where
-    pub entries-refuse : (k : ℕ) → first ≡ Answer.Refused k → answered first ≡ verdict (rowTests f) []
-    unfolding rowTests
-    entries-refuse k q = check-refuses first (entriesTest f ∷ []) firstIs k (inverseRowTests f) q
+    c-inverted : (cInverseTest first f .holds ≡ false) ↔ CInverted
+    unfolding rowAt
+    c-inverted = Iff·trans (c-inverses-pass f pos first) (to, from)
+      where
+        to : ((i : ℕ) → first ≤ i → i < size f → HasInverse m (rowAt f i .c)) → CInverted
+        to all = (
+          some-noInverse-false m asked 0 pos .1
+              (λ i h.
+              let l : i < r - s = omega (arith, asked-length) in
+              rw (asked-entry i l) (all (s + i) (omega arith) (omega (arith, n-is)))),
+          λ l. subst (HasInverse m) (sym (entry-past r c cLong r closeC (omega arith))) (all r l (omega (arith, n-is))),
+        )
 
-    pub inverses-settle : first ≡ Answer.Finished → (r : Answer) → answered r ≡ inverses → answered r ≡ verdict (rowTests f) []
-    unfolding rowTests
-    inverses-settle q r is = is ∙ check-passes first (entriesTest f ∷ []) firstIs (inverseRowTests f) q
+        from : CInverted → (i : ℕ) → first ≤ i → i < size f → HasInverse m (rowAt f i .c)
+        from p i l h = by-cases (decLt i r)
+            (λ g.
+            let place : s + (i - s) ≡ i = omega arith in
+            let there = some-noInverse-false m asked 0 pos .0 (p .0) (i - s) (omega (arith, asked-length)) in
+            subst (HasInverse m) (asked-entry (i - s) (omega arith) ∙ ap (λ j. getD (take r c) j closeC) place) there)
+            (λ g. subst (HasInverse m) (entry-past r c cLong i closeC (omega arith)) (p .1 (omega (arith, n-is))))
+
+    -- what is answered
+    abbrev whole : Verdict
+    whole = verdict (inverseRows first f) []
+
+    pub a-refused : (AInverted → ⊥) → refused 10 ≡ whole
+    unfolding inverseRows aInverseTest
+    a-refused n = refuses (aInverseTest f) a-inverted (cInverseTest first f ∷ []) [] n
+
+    past-a : AInverted → verdict (cInverseTest first f ∷ []) [] ≡ whole
+    unfolding inverseRows
+    past-a p = goes-on (aInverseTest f) a-inverted (cInverseTest first f ∷ []) [] p
+
+    pub c-refused : AInverted → (CInverted → ⊥) → refused 11 ≡ whole
+    unfolding cInverseTest
+    c-refused p n = refuses-alone (cInverseTest first f) c-inverted n ∙ past-a p
+
+    pub inverses-pass : AInverted → CInverted → finished [] ≡ whole
+    inverses-pass p q = finishes (cInverseTest first f) c-inverted q ∙ past-a p
+
+    -- a product of all has an inverse; last: the closing c where it is asked
+    pub joint-passes : (last product : ℕ) → (first ≤ r → last ≡ closeC) → Joint m (take r a) closeA asked last product
+        → HasInverse m product → finished [] ≡ whole
+    joint-passes last product e joint h =
+        let all = joint .settles h in
+        inverses-pass (some-noInverse-false m (take r a) 0 pos .1 (all .0 .entries), all .0 .number)
+        (some-noInverse-false m asked 0 pos .1 (all .1 .entries), λ l. subst (HasInverse m) (e l) (all .1 .number))

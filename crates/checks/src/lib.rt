@@ -2,15 +2,18 @@
 // before the next check. A pass over a list answers with the first bad entry and the reason.
 ghost use mathlib.Core.Path.{_≡_};
 ghost use mathlib.Core.Bool.{true, false};
-ghost use mathlib.Core.List.{[], _∷_};
-ghost use Prim.Native.Nat.{_<_};
+ghost use mathlib.Core.List.{List, [], _∷_};
+ghost use Prim.Native.Nat.{ℕ, _≤_, _<_};
 ghost use lib.Dec.{ltb};
+ghost use lib.ListN.{length};
 ghost use Rattle.definitions.specs.Answers.{answered};
-ghost use Rattle.definitions.specs.Family.{family};
-ghost use Rattle.definitions.specs.Refusals.{test, verdict, some, notBelow, modulusTest, outputTest, workTest, entriesTest, numberTest};
+ghost use Rattle.definitions.specs.Family.{rowOf};
+ghost use Rattle.definitions.specs.Refusals.{test, verdict, some, notBelow, modulusTest, lengthsTest, rowCountTest, curveLengthTest};
+ghost use Rattle.definitions.specs.Refusals.{outputTest, workTest, entriesTest, numberTest, shapeTests, familyRows};
 ghost use Rattle.definitions.specs.TextCall.{mostBytes, textOutputTest};
+ghost use Rattle.lists.specs.Lent.{lent, Long};
 ghost use Rattle.checks.specs.Passes.{BelowAnswer, FactorAnswer};
-ghost use Rattle.checks.specs.Groups.{countsTest, rowsTest, lengthTest, shapeTests, lengthTests, inverseRowTests, rowTests};
+ghost use Rattle.checks.specs.Rows.{inverseRows};
 use definitions::Answer;
 use residue::Inversion;
 use residue::invert;
@@ -49,7 +52,7 @@ fn all_below(m: u32, list: &[u32]) -> bool
     all
 }
 
-pub fn entries_below(m: u32, list: &[u32]) -> Entries
+fn entries_below(m: u32, list: &[u32]) -> Entries
     ensures { λ r. ⌜ BelowAnswer m (now (list .entry)) r ⌝ }
 {
     if all_below(m, list) {
@@ -67,7 +70,7 @@ pub fn entries_below(m: u32, list: &[u32]) -> Entries
 }
 
 // One inverse settles it where the product of all has one; only if it has none are the entries looked at one by one.
-pub fn invertible(m: u32, list: &[u32]) -> Factors
+fn invertible(m: u32, list: &[u32]) -> Factors
     requires { ⌜ 0 < m ⌝ }
     ensures { λ r. ⌜ FactorAnswer m (now (list .entry)) r ⌝ }
 {
@@ -115,7 +118,7 @@ pub fn modulus(m: u32) -> Answer
 
 // 4: the lengths of the rows' lists.
 fn equal_lengths(a: usize, b: usize, c: usize) -> Answer
-    ensures { λ r. ⌜ answered r ≡ verdict (countsTest a b c ∷ []) [] ⌝ }
+    ensures { λ r. ⌜ answered r ≡ verdict (lengthsTest a b c ∷ []) [] ⌝ }
 {
     if b != a {
         return Answer::Refused(4);
@@ -128,7 +131,7 @@ fn equal_lengths(a: usize, b: usize, c: usize) -> Answer
 
 // 5: the number of rows.
 fn row_count(rows: usize) -> Answer
-    ensures { λ r. ⌜ answered r ≡ verdict (rowsTest rows ∷ []) [] ⌝ }
+    ensures { λ r. ⌜ answered r ≡ verdict (rowCountTest rows ∷ []) [] ⌝ }
 {
     if 127 < rows {
         return Answer::Refused(5);
@@ -153,7 +156,7 @@ pub fn family_shape(m: u32, a: usize, b: usize, c: usize) -> Answer
 
 // 6: the length of the curve.
 pub fn curve_length(wanted: usize, curve: usize) -> Answer
-    ensures { λ r. ⌜ answered r ≡ verdict (lengthTest wanted curve ∷ []) [] ⌝ }
+    ensures { λ r. ⌜ answered r ≡ verdict (curveLengthTest wanted curve ∷ []) [] ⌝ }
 {
     if curve != wanted {
         return Answer::Refused(6);
@@ -169,17 +172,6 @@ pub fn output_length(wanted: usize, output: usize) -> Answer
         return Answer::Refused(7);
     }
     Answer::Finished
-}
-
-// 6 and 7, where both must be n.
-pub fn lengths(n: usize, curve: usize, output: usize) -> Answer
-    ensures { λ r. ⌜ answered r ≡ verdict (lengthTests n curve output) [] ⌝ }
-{
-    let entries = curve_length(n, curve);
-    let Answer::Finished = entries else {
-        return entries;
-    };
-    output_length(n, output)
 }
 
 // 7 of a text: the length of its output.
@@ -202,51 +194,112 @@ pub fn work_length(work: usize) -> Answer
     Answer::Finished
 }
 
-// 9: the entries of the rows.
-fn row_entries(m: u32, a: &[u32], b: &[u32], c: &[u32]) -> Answer
-    ensures { λ r. ⌜ answered r ≡ verdict (entriesTest (family m (now (a .entry)) (now (b .entry)) (now (c .entry))) ∷ []) [] ⌝ }
+// 9: the entries of the rows, those of the closing row last.
+fn row_entries(
+    m: u32,
+    a: &[u32],
+    b: &[u32],
+    c: &[u32],
+    r: usize,
+    close_a: u32,
+    close_b: u32,
+    close_c: u32,
+) -> Answer
+    requires { ⌜ Long r (now a) (now b) (now c) ⌝ }
+    ensures { λ answer. ⌜ answered answer ≡ verdict
+        (entriesTest (lent m r (now (a .entry)) (now (b .entry)) (now (c .entry)) (rowOf «close_a» «close_b» «close_c»)) ∷ []) [] ⌝ }
 {
-    let Entries::Residues = entries_below(m, a) else {
+    let Entries::Residues = entries_below(m, &a[..r]) else {
         return Answer::Refused(9);
     };
-    let Entries::Residues = entries_below(m, b) else {
+    let Entries::Residues = entries_below(m, &b[..r]) else {
         return Answer::Refused(9);
     };
-    let Entries::Residues = entries_below(m, c) else {
+    let Entries::Residues = entries_below(m, &c[..r]) else {
         return Answer::Refused(9);
     };
+    if m <= close_a {
+        return Answer::Refused(9);
+    }
+    if m <= close_b {
+        return Answer::Refused(9);
+    }
+    if m <= close_c {
+        return Answer::Refused(9);
+    }
     Answer::Finished
 }
 
-// 10 and 11: the inverses of the a, then of the c. One inverse settles both, that of a product of all; only if it has none is it looked for
-// whom to blame, among the a first.
-fn row_inverses(m: u32, a: &[u32], b: &[u32], c: &[u32]) -> Answer
-    requires { ⌜ 0 < m ⌝ }
-    ensures { λ r. ⌜ answered r ≡ verdict (inverseRowTests (family m (now (a .entry)) (now (b .entry)) (now (c .entry)))) [] ⌝ }
+// 10 and 11: the inverses of the a of all rows, then those of the c from place first on, whatever the b. One inverse settles both, that of
+// a product of all; only if it has none is it looked for whom to blame, among the a first.
+fn row_inverses(
+    m: u32,
+    a: &[u32],
+    c: &[u32],
+    r: usize,
+    first: usize,
+    close_a: u32,
+    close_c: u32,
+) -> Answer
+    requires { ⌜ (0 < m) × (r ≤ length (now a)) × (r ≤ length (now c)) ⌝ }
+    ensures { λ answer. ⌜ ((b : List ℕ) (closeB : ℕ) → answered answer ≡ verdict
+        (inverseRows first (lent m r (now (a .entry)) b (now (c .entry)) (rowOf «close_a» closeB «close_c»))) []) ⌝ }
 {
-    let whole = invert(m, inverses::joint_product(m, a, c));
+    let start = r - lists::excess(r, first);
+    let closing = if first <= r { close_c } else { 1 };
+    let product = inverses::joint_product(m, &a[..r], close_a, &c[start..r], closing);
+    let whole = invert(m, product);
     let Inversion::Absent(_) = whole else {
         return Answer::Finished;
     };
-    let Factors::Invertible = invertible(m, a) else {
+    let Factors::Invertible = invertible(m, &a[..r]) else {
         return Answer::Refused(10);
     };
-    let Factors::Invertible = invertible(m, c) else {
+    let Inversion::Found(_) = invert(m, close_a) else {
+        return Answer::Refused(10);
+    };
+    let Factors::Invertible = invertible(m, &c[start..r]) else {
+        return Answer::Refused(11);
+    };
+    if r < first {
+        return Answer::Finished;
+    }
+    let Inversion::Found(_) = invert(m, close_c) else {
         return Answer::Refused(11);
     };
     Answer::Finished
 }
 
-// 9, 10 and 11.
-pub fn family_rows(m: u32, a: &[u32], b: &[u32], c: &[u32]) -> Answer
-    requires { ⌜ 0 < m ⌝ }
-    ensures { λ r. ⌜ answered r ≡ verdict (rowTests (family m (now (a .entry)) (now (b .entry)) (now (c .entry)))) [] ⌝ }
+// 9, 10 and 11 of the family of the first r rows and the closing row: every c must have an inverse, from place 0 on.
+pub fn family_rows(
+    m: u32,
+    a: &[u32],
+    b: &[u32],
+    c: &[u32],
+    r: usize,
+    close_a: u32,
+    close_b: u32,
+    close_c: u32,
+) -> Answer
+    requires { ⌜ (0 < m) × Long r (now a) (now b) (now c) ⌝ }
+    ensures { λ answer. ⌜ answered answer ≡ verdict
+        (familyRows (lent m r (now (a .entry)) (now (b .entry)) (now (c .entry)) (rowOf «close_a» «close_b» «close_c»))) [] ⌝ }
 {
-    let entries = row_entries(m, a, b, c);
+    let entries = row_entries(m, a, b, c, r, close_a, close_b, close_c);
     let Answer::Finished = entries else {
         return entries;
     };
-    row_inverses(m, a, b, c)
+    row_inverses(m, a, c, r, 0, close_a, close_c)
+}
+
+// 12: the entries of a curve.
+pub fn curve_entries(m: u32, curve: &[u32]) -> Answer
+    ensures { λ r. ⌜ answered r ≡ verdict (test 12 (some (notBelow m) (now (curve .entry))) ∷ []) [] ⌝ }
+{
+    let Entries::Residues = entries_below(m, curve) else {
+        return Answer::Refused(12);
+    };
+    Answer::Finished
 }
 
 // 12 of a number.

@@ -1,4 +1,5 @@
--- Inverses of a list: what an inversion says of the definition, and one inverse shared among all entries. Assumes nothing.
-pub mod Inverting
+-- Inverses of a list: one by one, one inverse shared among all entries, and from a place on; one product of two lists. Assumes nothing.
+pub mod OneByOne
 pub mod Sharing
+pub mod Range
 pub mod Joint

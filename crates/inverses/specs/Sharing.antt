@@ -33,7 +33,8 @@ pub record Sharable (m : ℕ) (list : List ℕ) (n y : ℕ) (output : List ℕ) 
   pub is : y ≡ inverse m (runningProduct m (λ i. getD list i 0) n)
   pub before : (k : ℕ) → k < n → getD output k 0 ≡ runningProduct m (λ i. getD list i 0) k
 
-pub sharing-starts : (m : ℕ) (list : List ℕ) (n y : ℕ) (output : List ℕ) → Sharable m list n y output → Sharing m (λ i. getD list i 0) n output output n y
+pub sharing-starts : (m : ℕ) (list : List ℕ) (n y : ℕ) (output : List ℕ) → Sharable m list n y output
+    → Sharing m (λ i. getD list i 0) n output output n y
 sharing-starts m list n y output s = record {
   within = omega arith;
   long = refl;
@@ -56,11 +57,15 @@ module _ (m : ℕ) (v : ℕ → ℕ) (n : ℕ) (old output : List ℕ) (one : 1 
         has = running-factors m v k (s .has) .0;
         is = zIs ∙ rw (s .is) (earlier-inverse m v one k (s .has));
         before = λ j l. getD-set-other output k j x 0 (λ e. omega arith) ∙ s .before j (omega arith);
-        done = λ j h l. ⊎-elim (λ (same : k ≡ j). rw (← same) (getD-set-same output k x 0 inside ∙ here)) (λ (more : k < j). getD-set-other output k j x 0 (λ e. omega arith) ∙ s .done j more l) (eq-or-lt-of-le {n = k} {m = j} h);
+        done = λ j h l. ⊎-elim
+            (λ (same : k ≡ j). rw (← same) (getD-set-same output k x 0 inside ∙ here))
+            (λ (more : k < j). getD-set-other output k j x 0 (λ e. omega arith) ∙ s .done j more l)
+            (eq-or-lt-of-le {n = k} {m = j} h);
         rest = λ j h. getD-set-other output k j x 0 (λ e. omega (arith, s .within)) ∙ s .rest j h;
       }
 
-  pub sharing-next : (i y : ℕ) → 0 < i → Sharing m v n old output i y → (x z : ℕ) → x ≡ y * getD output (i - 1) 0 % m → z ≡ y * v (i - 1) % m
+  pub sharing-next : (i y : ℕ) → 0 < i → Sharing m v n old output i y
+      → (x z : ℕ) → x ≡ y * getD output (i - 1) 0 % m → z ≡ y * v (i - 1) % m
       → Sharing m v n old (set output (i - 1) x) (i - 1) z
   sharing-next i y h s = let same : suc (i - 1) ≡ i = omega arith in sharing-before (i - 1) y (rw same s)
 
@@ -81,8 +86,8 @@ unfolding filled
 filled-again f g n old output e = ap (λ list. table n f ++ list) (ap (drop n) e ∙ drop-at (table n g) (drop n old) n (table-length n g))
 
 pub sharable : (m : ℕ) (list : List ℕ) (n : ℕ) (old output : List ℕ) → 1 < m → n ≤ length list → n ≤ length old
-    → output ≡ filled (runningProduct m (λ i. getD list i 0)) n old → (whole y : ℕ) → whole ≡ runningProduct m (λ i. getD list i 0) n → IsInverse m whole y
-    → Sharable m list n y output
+    → output ≡ filled (runningProduct m (λ i. getD list i 0)) n old
+    → (whole y : ℕ) → whole ≡ runningProduct m (λ i. getD list i 0) n → IsInverse m whole y → Sharable m list n y output
 sharable m list n old output one entries room e whole y is found =
     let R = runningProduct m (λ i. getD list i 0) in
     record {

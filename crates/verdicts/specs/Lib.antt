@@ -1,4 +1,3 @@
--- How the answers of the checks, group by group, come to the verdict of a call. Assumes nothing.
-pub mod CurveCall
-pub mod FamilyCall
-pub mod Groupings
+-- Lists that are lent whole, and the tests of a job in their two parts. Assumes nothing.
+pub mod Whole
+pub mod Sizes

@@ -1,32 +1,59 @@
 // All tests of a call in their order, as its one verdict: the call goes on where the answer is Finished, and hands a refusal on.
 ghost use mathlib.Core.Path.{_≡_};
-ghost use mathlib.Core.List.{List, []};
-ghost use Rattle.definitions.specs.Answers.{answered};
+ghost use mathlib.Core.List.{[], _∷_};
+ghost use Prim.Native.Nat.{_≤_};
+ghost use lib.ListN.{length};
+ghost use Rattle.definitions.specs.Answers.{answered, valued};
 ghost use Rattle.definitions.specs.Family.{family};
-ghost use Rattle.definitions.specs.Refusals.{verdict, plainTests, treeTests, momentsTests, normsTests};
-use checks::Entries;
+ghost use Rattle.definitions.specs.Number as Number;
+ghost use Rattle.definitions.specs.Refusals.{verdict, familyRows, plainTests, treeTests, momentsTests, normsTests, inverseTests};
+ghost use Rattle.definitions.specs.TextCall.{curveCount};
+ghost use Rattle.checks.specs.Shape.{Shaped};
+ghost use Rattle.verdicts.specs.Sizes.{sizeTests, valueTests};
 use definitions::Answer;
+use definitions::Operation;
+use definitions::Valued;
+use residue::Inversion;
+
+// 9, 10 and 11 of the rows of three lists, closed by 1 1 1.
+fn rows(m: u32, a: &[u32], b: &[u32], c: &[u32]) -> Answer
+    requires { ⌜ Shaped m (length (now a)) (length (now b)) (length (now c)) ⌝ }
+    ensures { λ r. ⌜ answered r ≡ verdict (familyRows (family m (now (a .entry)) (now (b .entry)) (now (c .entry)))) [] ⌝ }
+{
+    checks::family_rows(m, a, b, c, a.len(), 1, 1, 1)
+}
+
+// And 12 of a curve.
+fn values(m: u32, a: &[u32], b: &[u32], c: &[u32], curve: &[u32]) -> Answer
+    requires { ⌜ Shaped m (length (now a)) (length (now b)) (length (now c)) ⌝ }
+    ensures { λ r. ⌜ answered r ≡ verdict
+        (valueTests (family m (now (a .entry)) (now (b .entry)) (now (c .entry))) (now (curve .entry))) [] ⌝ }
+{
+    let family = rows(m, a, b, c);
+    let Answer::Finished = family else {
+        return family;
+    };
+    checks::curve_entries(m, curve)
+}
 
 // Expand, Adjoint and Decompose by the plain way: 3 4 5 6 7 9 10 11 12.
 pub fn plain(m: u32, a: &[u32], b: &[u32], c: &[u32], curve: &[u32], output: usize) -> Answer
-    ensures { λ r. ⌜ answered r ≡ verdict (plainTests (family m (now (a .entry)) (now (b .entry)) (now (c .entry))) (now (curve .entry)) output) [] ⌝ }
+    ensures { λ r. ⌜ answered r ≡ verdict
+        (plainTests (family m (now (a .entry)) (now (b .entry)) (now (c .entry))) (now (curve .entry)) output) [] ⌝ }
 {
     let shape = checks::family_shape(m, a.len(), b.len(), c.len());
     let Answer::Finished = shape else {
         return shape;
     };
-    let lengths = checks::lengths(a.len() + 1, curve.len(), output);
-    let Answer::Finished = lengths else {
-        return lengths;
+    let entries = checks::curve_length(a.len() + 1, curve.len());
+    let Answer::Finished = entries else {
+        return entries;
     };
-    let rows = checks::family_rows(m, a, b, c);
-    let Answer::Finished = rows else {
-        return rows;
+    let place = checks::output_length(a.len() + 1, output);
+    let Answer::Finished = place else {
+        return place;
     };
-    let Entries::Residues = checks::entries_below(m, curve) else {
-        return Answer::Refused(12);
-    };
-    Answer::Finished
+    values(m, a, b, c, curve)
 }
 
 // The same by the tree way, with 8 after 7.
@@ -39,60 +66,120 @@ pub fn tree(
     output: usize,
     work: usize,
 ) -> Answer
-    ensures { λ r. ⌜ answered r ≡ verdict (treeTests (family m (now (a .entry)) (now (b .entry)) (now (c .entry))) (now (curve .entry)) output work) [] ⌝ }
+    ensures { λ r. ⌜ answered r ≡ verdict
+        (treeTests (family m (now (a .entry)) (now (b .entry)) (now (c .entry))) (now (curve .entry)) output work) [] ⌝ }
 {
     let shape = checks::family_shape(m, a.len(), b.len(), c.len());
     let Answer::Finished = shape else {
         return shape;
     };
-    let lengths = checks::lengths(a.len() + 1, curve.len(), output);
-    let Answer::Finished = lengths else {
-        return lengths;
+    let entries = checks::curve_length(a.len() + 1, curve.len());
+    let Answer::Finished = entries else {
+        return entries;
+    };
+    let place = checks::output_length(a.len() + 1, output);
+    let Answer::Finished = place else {
+        return place;
     };
     let room = checks::work_length(work);
     let Answer::Finished = room else {
         return room;
     };
-    let rows = checks::family_rows(m, a, b, c);
-    let Answer::Finished = rows else {
-        return rows;
-    };
-    let Entries::Residues = checks::entries_below(m, curve) else {
-        return Answer::Refused(12);
-    };
-    Answer::Finished
+    values(m, a, b, c, curve)
 }
 
 // Norms: 3 4 5 7 9 10 11.
 pub fn norms(m: u32, a: &[u32], b: &[u32], c: &[u32], output: usize) -> Answer
-    ensures { λ r. ⌜ answered r ≡ verdict (normsTests (family m (now (a .entry)) (now (b .entry)) (now (c .entry))) output) [] ⌝ }
+    ensures { λ r. ⌜ answered r ≡ verdict
+        (normsTests (family m (now (a .entry)) (now (b .entry)) (now (c .entry))) output) [] ⌝ }
 {
     let shape = checks::family_shape(m, a.len(), b.len(), c.len());
     let Answer::Finished = shape else {
         return shape;
     };
-    let length = checks::output_length(a.len() + 1, output);
-    let Answer::Finished = length else {
-        return length;
+    let place = checks::output_length(a.len() + 1, output);
+    let Answer::Finished = place else {
+        return place;
     };
-    checks::family_rows(m, a, b, c)
+    rows(m, a, b, c)
 }
 
 // Moments: 3 4 5 7 8 9 10 11.
 pub fn moments(m: u32, a: &[u32], b: &[u32], c: &[u32], output: usize, work: usize) -> Answer
-    ensures { λ r. ⌜ answered r ≡ verdict (momentsTests (family m (now (a .entry)) (now (b .entry)) (now (c .entry))) output work) [] ⌝ }
+    ensures { λ r. ⌜ answered r ≡ verdict
+        (momentsTests (family m (now (a .entry)) (now (b .entry)) (now (c .entry))) output work) [] ⌝ }
 {
     let shape = checks::family_shape(m, a.len(), b.len(), c.len());
     let Answer::Finished = shape else {
         return shape;
     };
-    let length = checks::output_length(2 * a.len() + 1, output);
-    let Answer::Finished = length else {
-        return length;
+    let place = checks::output_length(2 * a.len() + 1, output);
+    let Answer::Finished = place else {
+        return place;
     };
     let room = checks::work_length(work);
     let Answer::Finished = room else {
         return room;
     };
-    checks::family_rows(m, a, b, c)
+    rows(m, a, b, c)
+}
+
+// How many numbers an operation takes, beside a family of that many rows.
+fn curve_count(operation: Operation, rows: usize) -> usize
+    requires { ⌜ rows ≤ 127 ⌝ }
+    ensures { λ r. ⌜ r ≡ curveCount operation rows ⌝ }
+{
+    match operation {
+        Operation::Expand => rows + 1,
+        Operation::Adjoint => rows + 1,
+        Operation::Decompose => rows + 1,
+        Operation::Moments => 0,
+        Operation::Norms => 0,
+    }
+}
+
+// Of a job, before a list is loaded, 3 to 8: the modulus, and the lengths of what the text holds and of what is lent.
+pub fn sizes(
+    m: u32,
+    operation: Operation,
+    a: usize,
+    b: usize,
+    c: usize,
+    curve: usize,
+    output: usize,
+    work: usize,
+) -> Answer
+    ensures { λ r. ⌜ answered r ≡ verdict (sizeTests m operation a b c curve output work) [] ⌝ }
+{
+    let shape = checks::family_shape(m, a, b, c);
+    let Answer::Finished = shape else {
+        return shape;
+    };
+    let entries = checks::curve_length(curve_count(operation, a), curve);
+    let Answer::Finished = entries else {
+        return entries;
+    };
+    let place = checks::text_output_length(output);
+    let Answer::Finished = place else {
+        return place;
+    };
+    checks::work_length(work)
+}
+
+// Inverse: 3 12 13, with the inverse where none of them holds.
+pub fn inverse(m: u32, x: u32) -> Valued
+    ensures { λ r. ⌜ valued r ≡ verdict (inverseTests m x) (Number.inverse m x ∷ []) ⌝ }
+{
+    let range = checks::modulus(m);
+    if let Answer::Refused(k) = range {
+        return Valued::Refused(k);
+    }
+    let below = checks::number_below(m, x);
+    if let Answer::Refused(k) = below {
+        return Valued::Refused(k);
+    }
+    let Inversion::Found(y) = residue::invert(m, x) else {
+        return Valued::Refused(13);
+    };
+    Valued::Value(y)
 }

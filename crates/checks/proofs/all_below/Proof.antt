@@ -38,7 +38,8 @@ unfolding notBelow
 loop-again c = (
   omega arith,
   λ e. ⊎-elim (λ w. absurd (true≢false (sym e ∙ w .1)))
-      (λ w. passed-next _ _ _ (c .before .before .before .loop .inv .1 (sym (w .1) ∙ e)) (c .before .before .loop-test .taken) (lt-leb _ _ (w .0 .left)))
+      (λ w. passed-next _ _ _ (c .before .before .before .loop .inv .1 (sym (w .1) ∙ e)) (c .before .before .loop-test .taken)
+      (lt-leb _ _ (w .0 .left)))
       (c .if1 .came),
 )
 

@@ -1,5 +1,7 @@
--- `family_rows` answers the verdict of tests 9, 10 and 11. Assumes nothing.
-use Rattle.checks.specs.Rows.{entries-refuse, inverses-settle}
+-- `family_rows` answers the verdict of tests 9, 10 and 11, the c from place 0 on. Assumes nothing.
+use Rattle.definitions.specs.Refusals.{familyRows}
+use Rattle.acceptance.specs.Stages.{all-remain, stage-refuses, stage-passes, stages-end}
+use Rattle.checks.specs.Rows.{inverseRows}
 use borrow.Author.Needs.{needs}
 use Rattle.checks.proofs.family_rows.Statement.{statement}
 use Rattle.checks.proofs.family_rows.Tie as tie
@@ -14,15 +16,18 @@ enum-told-2 : tie.Need-enum-told-2
 enum-told-2 c = search needs
 
 returns : tie.Need-returns
-returns c = entries-refuse _ _ _ _ _ (c .before .before .row-entries .ensures) _ (c .enum-told2 .given .1)
+unfolding familyRows
+returns c = stage-refuses _ _ all-remain _ (c .before .before .row-entries .ensures) _ (c .enum-told2 .given .1)
 
 row-inverses-requires : tie.Need-row-inverses-requires
 row-inverses-requires c κs = search needs
 
 returns-2 : tie.Need-returns-2
+unfolding familyRows inverseRows
 returns-2 c =
-    inverses-settle _ _ _ _ _ (c .before .before .before .row-entries .ensures) (c .before .enum-told .given .1) (c .row-inverses .result)
-    (c .row-inverses .ensures)
+    let first = c .before in
+    let left = stage-passes _ _ all-remain _ (first .before .before .row-entries .ensures) (first .enum-told .given .1) in
+    stages-end _ left (c .row-inverses .result) (c .row-inverses .ensures _ _)
 
 pub family-rows-spec : {M : Type 1} → statement M
 family-rows-spec =

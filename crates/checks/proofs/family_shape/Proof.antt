@@ -1,5 +1,6 @@
 -- `family_shape` answers the verdict of tests 3, 4 and 5, each taken apart before the next. Assumes nothing.
-use Rattle.checks.specs.Shape.{range-refuses, counts-refuse, rows-settle}
+use Rattle.definitions.specs.Refusals.{shapeTests}
+use Rattle.acceptance.specs.Stages.{all-remain, stage-refuses, stage-passes, stages-end}
 use borrow.Author.Needs.{needs}
 use Rattle.checks.proofs.family_shape.Statement.{statement}
 use Rattle.checks.proofs.family_shape.Tie as tie
@@ -14,7 +15,8 @@ enum-told-2 : tie.Need-enum-told-2
 enum-told-2 c = search needs
 
 returns : tie.Need-returns
-returns c = range-refuses _ _ _ _ _ (c .before .before .modulus .ensures) _ (c .enum-told2 .given .1)
+unfolding shapeTests
+returns c = stage-refuses _ _ all-remain _ (c .before .before .modulus .ensures) _ (c .enum-told2 .given .1)
 
 equal-lengths-requires : tie.Need-equal-lengths-requires
 equal-lengths-requires c κs = search needs
@@ -26,18 +28,23 @@ enum-told-4 : tie.Need-enum-told-4
 enum-told-4 c = search needs
 
 returns-2 : tie.Need-returns-2
-returns-2 c = let first = c .before .before .before in
-    counts-refuse _ _ _ _ _ (first .before .before .modulus .ensures) (first .enum-told .given .1) _ (c .before .before .equal-lengths .ensures) _
-    (c .enum-told4 .given .1)
+unfolding shapeTests
+returns-2 c =
+    let first = c .before .before .before in
+    let left = stage-passes _ _ all-remain _ (first .before .before .modulus .ensures) (first .enum-told .given .1) in
+    stage-refuses _ _ left _ (c .before .before .equal-lengths .ensures) _ (c .enum-told4 .given .1)
 
 row-count-requires : tie.Need-row-count-requires
 row-count-requires c κs = search needs
 
 returns-3 : tie.Need-returns-3
-returns-3 c = let second = c .before in
+unfolding shapeTests
+returns-3 c =
+    let second = c .before in
     let first = second .before .before .before in
-    rows-settle _ _ _ _ _ (first .before .before .modulus .ensures) (first .enum-told .given .1) _ (second .before .before .equal-lengths .ensures)
-    (second .enum-told3 .given .1) (c .row-count .result) (c .row-count .ensures)
+    let left = stage-passes _ _ all-remain _ (first .before .before .modulus .ensures) (first .enum-told .given .1) in
+    let last = stage-passes _ _ left _ (second .before .before .equal-lengths .ensures) (second .enum-told3 .given .1) in
+    stages-end _ last (c .row-count .result) (c .row-count .ensures)
 
 pub family-shape-spec : {M : Type 1} → statement M
 family-shape-spec =

@@ -1,5 +1,5 @@
--- `invertible` finds the first entry without an inverse, and whether it is zero or shares a factor with m, or that there is none: at once if
--- the product of all has an inverse. The loop's invariant: each of those passed has one. Assumes nothing.
+-- `invertible` finds the first entry without an inverse, and whether it is zero or shares a factor with m, or that there is none: at once
+-- if the product of all has an inverse. The loop's invariant: each of those passed has one. Assumes nothing.
 use mathlib.Core.Path.{subst}
 use Prim.Native.Nat.{_-_}
 use native.Mathlib.Omega.{arith}
@@ -31,7 +31,11 @@ enum-told-2 : tie.Need-enum-told-2 Inv-loop μ-loop
 enum-told-2 c = search needs
 
 returns : tie.Need-returns Inv-loop μ-loop
-returns c = all-by-product _ _ (c .before .before .before .before .before .pre) (subst (HasInverse _) (c .before .before .before .running-product .ensures) (found-has _ _ _ (inverted-found _ _ (c .before .before .invert .ensures) (c .enum-told2 .given .1))))
+returns c =
+    let inverted = c .before .before in
+    let product = inverted .before in
+    all-by-product _ _ (product .before .before .pre) (subst (HasInverse _) (product .running-product .ensures)
+    (found-has _ _ _ (inverted-found _ _ (inverted .invert .ensures) (c .enum-told2 .given .1))))
 
 loop-holds : tie.Need-loop-holds Inv-loop μ-loop
 loop-holds c = passed-starts _ _
@@ -49,11 +53,20 @@ enum-known-inversion : tie.Need-enum-known-inversion Inv-loop μ-loop
 enum-known-inversion c = search needs
 
 returns-2 : tie.Need-returns-2 Inv-loop μ-loop
-returns-2 c = (passed-first _ _ _ (c .before .before .before .before .before .before .before .loop .inv) (c .before .before .before .before .before .before .loop-test .taken) (absent-fails _ _ _ (c .before .before .before .before .before .before .before .before .before .before .before .before .before .pre) (inverted-absent _ _ (c .before .before .before .before .invert2 .ensures) (c .before .before .inversion .given .1))), c .if1 .taken)
+returns-2 c =
+    let inside = c .before .before .before .before .before .before in
+    let start = inside .before .before .before .before .before .before .before in
+    let absent = inverted-absent _ _ (c .before .before .before .before .invert2 .ensures) (c .before .before .inversion .given .1) in
+    let here = passed-first _ _ _ (inside .before .loop .inv) (inside .loop-test .taken) (absent-fails _ _ _ (start .pre) absent) in
+    (here, c .if1 .taken)
 
 returns-3 : tie.Need-returns-3 Inv-loop μ-loop
-returns-3 c = let absent = inverted-absent _ _ (c .before .before .before .before .invert2 .ensures) (c .before .before .inversion .given .1) in
-    (passed-first _ _ _ (c .before .before .before .before .before .before .before .loop .inv) (c .before .before .before .before .before .before .loop-test .taken) (absent-fails _ _ _ (c .before .before .before .before .before .before .before .before .before .before .before .before .before .pre) absent), record { notZero = c .if1 .left; factor = absent .factor })
+returns-3 c =
+    let inside = c .before .before .before .before .before .before in
+    let start = inside .before .before .before .before .before .before .before in
+    let absent = inverted-absent _ _ (c .before .before .before .before .invert2 .ensures) (c .before .before .inversion .given .1) in
+    let here = passed-first _ _ _ (inside .before .loop .inv) (inside .loop-test .taken) (absent-fails _ _ _ (start .pre) absent) in
+    (here, record { notZero = c .if1 .left; factor = absent .factor })
 
 enum-told-3 : tie.Need-enum-told-3 Inv-loop μ-loop
 enum-told-3 c = search needs
@@ -65,7 +78,10 @@ loop-less : tie.Need-loop-less Inv-loop μ-loop
 loop-less c = omega arith
 
 loop-again : tie.Need-loop-again Inv-loop μ-loop
-loop-again c = passed-next _ _ _ (c .before .before .before .before .before .loop .inv) (c .before .before .before .before .loop-test .taken) (found-passes _ _ _ (inverted-found _ _ (c .before .before .invert2 .ensures) (c .enum-told3 .given .1)))
+loop-again c =
+    let inside = c .before .before .before .before in
+    passed-next _ _ _ (inside .before .loop .inv) (inside .loop-test .taken)
+    (found-passes _ _ _ (inverted-found _ _ (c .before .before .invert2 .ensures) (c .enum-told3 .given .1)))
 
 returns-4 : tie.Need-returns-4 Inv-loop μ-loop
 returns-4 c = passed-ends _ _ _ (c .before .loop .inv) (c .loop-test .left)

@@ -1,13 +1,20 @@
 -- `text_output_length` answers the verdict of test 7 of a text. Assumes nothing.
-use Rattle.checks.specs.Shape.{text-output-short, text-output-passes}
+use native.Mathlib.Omega.{arith}
+use borrow.Author.Tests.{ltb-false, le-ltb}
+use Rattle.definitions.specs.TextCall.{textOutputLength, textOutputTest}
+use Rattle.checks.specs.Settling.{refuses-alone, finishes}
 use Rattle.checks.proofs.text_output_length.Statement.{statement}
 use Rattle.checks.proofs.text_output_length.Tie as tie
 
 returns : tie.Need-returns
-returns c = text-output-short _ (c .if1 .taken)
+unfolding textOutputTest
+returns c =
+    let output = c .before .args .output in
+    refuses-alone _ (ltb-false output textOutputLength, le-ltb output textOutputLength) (λ l. omega arith)
 
 returns-2 : tie.Need-returns-2
-returns-2 c = text-output-passes _ (c .if1 .left)
+unfolding textOutputTest
+returns-2 c = finishes _ (ltb-false _ _, le-ltb _ _) (c .if1 .left)
 
 pub text-output-length-spec : {M : Type 1} → statement M
 text-output-length-spec = tie.close (tie.spec returns returns-2)

@@ -1,6 +1,6 @@
 -- `inverse_or_zero` meets its contract: what `invert` answers is the definition's inverse, or says that there is none. Assumes nothing.
 use Rattle.residue.specs.Inversion.{inverted-found, inverted-absent}
-use Rattle.inverses.specs.Inverting.{absent-zero}
+use Rattle.inverses.specs.OneByOne.{absent-zero}
 use borrow.Author.Needs.{needs}
 use Rattle.inverses.proofs.inverse_or_zero.Statement.{statement}
 use Rattle.inverses.proofs.inverse_or_zero.Tie as tie

@@ -1,5 +1,5 @@
--- `joint_product` meets its contract: the loop's invariant is that the four products settle the entries that were passed (`Shared`); the measure
--- is what is left of the pairs. Assumes nothing.
+-- `joint_product` meets its contract: the loop's invariant is that the four products settle the entries that were passed (`Shared`); the
+-- measure is what is left of the pairs. Assumes nothing.
 use Prim.Native.Nat.{_-_, _≤_}
 use native.Mathlib.Omega.{arith}
 use borrow.Author.Needs.{needs}
@@ -8,10 +8,10 @@ use Rattle.inverses.proofs.joint_product.Statement.{statement}
 use Rattle.inverses.proofs.joint_product.Tie as tie
 
 abbrev Inv-loop : tie.InvT-loop
-Inv-loop m a c reciprocal pairs p₀ q₀ s₀ t₀ k₀ p q s t k = (k ≤ pairs) × Shared m a k p q × Shared m c k s t
+Inv-loop m a x c y reciprocal pairs p₀ q₀ s₀ t₀ k₀ p q s t k = (k ≤ pairs) × Shared m a x k p q × Shared m c y k s t
 
 abbrev μ-loop : tie.MeasureT-loop
-μ-loop m a c reciprocal pairs p₀ q₀ s₀ t₀ k₀ p q s t k = pairs - k
+μ-loop m a x c y reciprocal pairs p₀ q₀ s₀ t₀ k₀ p q s t k = pairs - k
 
 reciprocal-requires : tie.Need-reciprocal-requires Inv-loop μ-loop
 reciprocal-requires c κs = search needs
@@ -20,7 +20,7 @@ pair-count-requires : tie.Need-pair-count-requires Inv-loop μ-loop
 pair-count-requires c κs = search needs
 
 loop-holds : tie.Need-loop-holds Inv-loop μ-loop
-loop-holds c = (omega arith, shared-starts _ _, shared-starts _ _)
+loop-holds c = (omega arith, shared-starts _ _ _, shared-starts _ _ _)
 
 mul-i : tie.Need-mul-i Inv-loop μ-loop
 mul-i c = omega arith
@@ -76,9 +76,9 @@ loop-less c = omega arith
 loop-again : tie.Need-loop-again Inv-loop μ-loop
 loop-again c = let loop = c .before .before .before .before .before .before .before .before .before in (
   omega arith,
-  shared-next _ _ _ _ _ _ _ (loop .loop .inv .1) (c .before .before .before .before .before .before .product-by .ensures)
+  shared-next _ _ _ _ _ _ _ _ (loop .loop .inv .1) (c .before .before .before .before .before .before .product-by .ensures)
       (c .before .before .before .before .product-by2 .ensures),
-  shared-next _ _ _ _ _ _ _ (loop .loop .inv .2) (c .before .before .product-by3 .ensures) (c .product-by4 .ensures),
+  shared-next _ _ _ _ _ _ _ _ (loop .loop .inv .2) (c .before .before .product-by3 .ensures) (c .product-by4 .ensures),
 )
 
 mul-rest : tie.Need-mul-rest Inv-loop μ-loop
@@ -130,13 +130,16 @@ product-by-requires-9 : tie.Need-product-by-requires-9 Inv-loop μ-loop
 product-by-requires-9 c κs = search needs
 
 returns : tie.Need-returns Inv-loop μ-loop
-returns c = let ended = c .before .before .before .before .before .before .before .before .before in
+returns c =
+    let both = c .before .before .before .before .before .before .before .before in
+    let ended = both .before in
     let loop = ended .before in
     let fits = loop .before .pair-count .ensures in
-    joint-of _ _ _ _ _ _ (c .product-by9 .ensures)
-    (shared-ends _ _ _ _ _ _ _ _ _ (omega arith) (loop .loop .inv .1) (fits .0) (c .before .before .before .before .before .before .before .before .product-by5 .ensures)
-    (c .before .before .before .before .before .before .running-product .ensures) (c .before .before .before .before .before .product-by6 .ensures))
-    (shared-ends _ _ _ _ _ _ _ _ _ (omega arith) (loop .loop .inv .2) (fits .1) (c .before .before .before .before .product-by7 .ensures)
+    joint-of _ _ _ _ _ _ _ _ (c .product-by9 .ensures)
+    (shared-ends _ _ _ _ _ _ _ _ _ _ (omega arith) (loop .loop .inv .1) (fits .0) (both .product-by5 .ensures)
+    (c .before .before .before .before .before .before .running-product .ensures)
+    (c .before .before .before .before .before .product-by6 .ensures))
+    (shared-ends _ _ _ _ _ _ _ _ _ _ (omega arith) (loop .loop .inv .2) (fits .1) (c .before .before .before .before .product-by7 .ensures)
     (c .before .before .running-product2 .ensures) (c .before .product-by8 .ensures))
 
 pub joint-product-spec : {M : Type 1} → statement M

@@ -1,65 +1,102 @@
--- `of_list` meets its contract: one by one, or from one inverse if the product of all has one. Assumes nothing.
-use mathlib.Core.Path.{_∙_}
+-- `of_list` meets its contract: its loop writes the zeros before the place where the inverses begin, and those are written behind it.
+-- The measure is what is left of the zeros. Assumes nothing.
+use mathlib.Core.Path.{refl}
+use Prim.Native.Nat.{_-_, _≤_}
 use native.Mathlib.Omega.{arith}
-use Rattle.residue.specs.Inversion.{inverted-found}
-use Rattle.inverses.specs.Sharing.{filled-again, sharable}
+use Rattle.numbers.specs.Lists.{Filling, filling-start, filling-next, filling-stop}
+use Rattle.inverses.specs.Range.{range-filled}
 use borrow.Author.Needs.{needs}
 use Rattle.inverses.proofs.of_list.Statement.{statement}
 use Rattle.inverses.proofs.of_list.Tie as tie
 
-one-by-one-requires : tie.Need-one-by-one-requires
-one-by-one-requires c κs = search needs
+abbrev Inv-loop : tie.InvT-loop
+Inv-loop m list first n output₀ count start i₀ output i = (i ≤ start) × Filling (λ _. 0) i output₀ output
 
-same-length : tie.Need-same-length
+abbrev μ-loop : tie.MeasureT-loop
+μ-loop m list first n output₀ count start i₀ output i = start - i
+
+excess-requires : tie.Need-excess-requires Inv-loop μ-loop
+excess-requires c κs = search needs
+
+sub-start : tie.Need-sub-start Inv-loop μ-loop
+sub-start c = omega arith
+
+loop-holds : tie.Need-loop-holds Inv-loop μ-loop
+loop-holds c = (omega arith, filling-start)
+
+mul-output : tie.Need-mul-output Inv-loop μ-loop
+mul-output c = omega arith
+
+slice-write-output : tie.Need-slice-write-output Inv-loop μ-loop
+slice-write-output c = omega arith
+
+add-i : tie.Need-add-i Inv-loop μ-loop
+add-i c = omega arith
+
+loop-less : tie.Need-loop-less Inv-loop μ-loop
+loop-less c = omega arith
+
+loop-again : tie.Need-loop-again Inv-loop μ-loop
+loop-again c = (omega arith, filling-next (c .before .loop .inv .1) (omega arith) refl)
+
+mul-all-inverses : tie.Need-mul-all-inverses Inv-loop μ-loop
+mul-all-inverses c = omega arith
+
+sub-all-inverses : tie.Need-sub-all-inverses Inv-loop μ-loop
+sub-all-inverses c = omega arith
+
+part-all-inverses-start : tie.Need-part-all-inverses-start Inv-loop μ-loop
+part-all-inverses-start c = omega arith
+
+part-all-inverses-end : tie.Need-part-all-inverses-end Inv-loop μ-loop
+part-all-inverses-end c = omega arith
+
+mul-all-inverses-2 : tie.Need-mul-all-inverses-2 Inv-loop μ-loop
+mul-all-inverses-2 c = omega arith
+
+sub-all-inverses-2 : tie.Need-sub-all-inverses-2 Inv-loop μ-loop
+sub-all-inverses-2 c = omega arith
+
+part-all-inverses-start-2 : tie.Need-part-all-inverses-start-2 Inv-loop μ-loop
+part-all-inverses-start-2 c = omega arith
+
+part-all-inverses-end-2 : tie.Need-part-all-inverses-end-2 Inv-loop μ-loop
+part-all-inverses-end-2 c = omega arith
+
+all-inverses-requires : tie.Need-all-inverses-requires Inv-loop μ-loop
+all-inverses-requires c κs = search needs
+
+same-length : tie.Need-same-length Inv-loop μ-loop
 same-length c = search needs
 
-returns : tie.Need-returns
-returns c = search needs
-
-running-products-requires : tie.Need-running-products-requires
-running-products-requires c κs = search needs
-
-invert-requires : tie.Need-invert-requires
-invert-requires c κs = search needs
-
-enum-known-whole : tie.Need-enum-known-whole
-enum-known-whole c = search needs
-
-enum-told : tie.Need-enum-told
-enum-told c = search needs
-
-one-by-one-requires-2 : tie.Need-one-by-one-requires-2
-one-by-one-requires-2 c κs = search needs
-
-same-length-2 : tie.Need-same-length-2
-same-length-2 c = search needs
-
-returns-2 : tie.Need-returns-2
-returns-2 c = (c .before .before .one-by-one2 .ensures) ∙ filled-again _ _ _ _ _ (c .before .before .before .before .before .before .before .before .before .running-products .ensures .1)
-
-share-inverse-requires : tie.Need-share-inverse-requires
-share-inverse-requires c κs = sharable _ _ _ _ _ (omega arith) (c .before .before .before .before .before .before .before .before .before .before .before .before .pre .0) (c .before .before .before .before .before .before .before .before .before .before .before .before .pre .1) (c .before .before .before .before .before .before .before .running-products .ensures .1) _ _ (c .before .before .before .before .before .before .before .running-products .ensures .0) (inverted-found _ _ (c .before .before .before .before .invert .ensures) (c .before .before .whole .given .1))
-
-same-length-3 : tie.Need-same-length-3
-same-length-3 c = search needs
-
-returns-3 : tie.Need-returns-3
-returns-3 c = (c .before .before .share-inverse .ensures) ∙ filled-again _ _ _ _ _ (c .before .before .before .before .before .before .before .before .before .before .running-products .ensures .1)
+returns : tie.Need-returns Inv-loop μ-loop
+returns c = let looped = c .before .before .before .before .before .before in
+    let start = looped .before .before .before .before in
+    range-filled _ _ _ _ (looped .before .excess .ensures) _ _ (start .pre .1) _ _ (filling-stop (looped .loop .inv .1) _ (omega arith))
+    (c .before .before .all-inverses .ensures)
 
 pub of-list-spec : {M : Type 1} → statement M
 of-list-spec =
     tie.close
     (tie.spec
-    one-by-one-requires
+    Inv-loop
+    μ-loop
+    excess-requires
+    sub-start
+    loop-holds
+    mul-output
+    slice-write-output
+    add-i
+    loop-less
+    loop-again
+    mul-all-inverses
+    sub-all-inverses
+    part-all-inverses-start
+    part-all-inverses-end
+    mul-all-inverses-2
+    sub-all-inverses-2
+    part-all-inverses-start-2
+    part-all-inverses-end-2
+    all-inverses-requires
     same-length
-    returns
-    running-products-requires
-    invert-requires
-    enum-known-whole
-    enum-told
-    one-by-one-requires-2
-    same-length-2
-    returns-2
-    share-inverse-requires
-    same-length-3
-    returns-3)
+    returns)

@@ -1,5 +1,5 @@
--- `running_products` meets its contract: its loop fills the output from the front, with the product of the entries so far. The measure is what
--- is left of the count. Assumes nothing.
+-- `running_products` meets its contract: its loop fills the output from the front, with the product of the entries so far. The measure is
+-- what is left of the count. Assumes nothing.
 use mathlib.Core.Path.{_≡_, _∙_, ap}
 use Prim.Native.Nat.{_-_, _≤_}
 use native.Mathlib.Omega.{arith}
@@ -45,8 +45,11 @@ loop-less : tie.Need-loop-less Inv-loop μ-loop
 loop-less c = omega arith
 
 loop-again : tie.Need-loop-again Inv-loop μ-loop
-loop-again c =
-    (omega arith, running-next _ _ _ _ _ (c .before .before .before .loop .inv .1) (c .product-by .ensures), filling-next (c .before .before .before .loop .inv .2) (omega arith) (c .before .before .before .loop .inv .1))
+loop-again c = let loop = c .before .before .before .loop in (
+  omega arith,
+  running-next _ _ _ _ _ (loop .inv .1) (c .product-by .ensures),
+  filling-next (loop .inv .2) (omega arith) (loop .inv .1),
+)
 
 same-length : tie.Need-same-length Inv-loop μ-loop
 same-length c = c .before .loop .inv .2 .sameLength

@@ -1,8 +1,8 @@
-use borrow.Author.Needs.{needs}
 -- `share_inverse` meets its contract: its loop goes from the last entry down, and its measure is the place. Assumes what Sharable says.
 use native.Mathlib.Omega.{arith}
 use lib.ListN.{getD}
 use Rattle.inverses.specs.Sharing.{Sharing, sharing-starts, sharing-next, sharing-ends}
+use borrow.Author.Needs.{needs}
 use Rattle.inverses.proofs.share_inverse.Statement.{statement}
 use Rattle.inverses.proofs.share_inverse.Tie as tie
 
@@ -26,8 +26,8 @@ mul-product-by c = omega arith
 
 slice-read-product-by : tie.Need-slice-read-product-by Inv-loop μ-loop
 slice-read-product-by c =
-    omega
-    (arith, c .before .before .before .before .before .before .pre .room, c .before .before .loop .inv .within, c .before .before .loop .inv .long)
+    let loop = c .before .before in
+    omega (arith, loop .before .before .before .before .pre .room, loop .loop .inv .within, loop .loop .inv .long)
 
 product-by-requires : tie.Need-product-by-requires Inv-loop μ-loop
 product-by-requires c κs = search needs
@@ -37,16 +37,16 @@ mul-output c = omega arith
 
 slice-write-output : tie.Need-slice-write-output Inv-loop μ-loop
 slice-write-output c =
-    omega
-    (arith, c .before .before .before .before .before .before .before .pre .room, c .before .before .before .loop .inv .within, c .before .before .before .loop .inv .long)
+    let loop = c .before .before .before in
+    omega (arith, loop .before .before .before .before .pre .room, loop .loop .inv .within, loop .loop .inv .long)
 
 mul-product-by-2 : tie.Need-mul-product-by-2 Inv-loop μ-loop
 mul-product-by-2 c = omega arith
 
 shared-slice-read-product-by : tie.Need-shared-slice-read-product-by Inv-loop μ-loop
 shared-slice-read-product-by c =
-    omega
-    (arith, c .before .before .before .before .before .before .before .before .pre .entries, c .before .before .before .before .loop .inv .within)
+    let loop = c .before .before .before .before in
+    omega (arith, loop .before .before .before .before .pre .entries, loop .loop .inv .within)
 
 product-by-requires-2 : tie.Need-product-by-requires-2 Inv-loop μ-loop
 product-by-requires-2 c κs = search needs
@@ -56,9 +56,9 @@ loop-less c = omega arith
 
 loop-again : tie.Need-loop-again Inv-loop μ-loop
 loop-again c =
-    sharing-next _ _ _ _ _ (c .before .before .before .before .before .before .before .before .before .pre .modulus)
-    (c .before .before .before .before .before .before .before .before .before .pre .room) _ _
-    (c .before .before .before .before .loop-test .taken) (c .before .before .before .before .before .loop .inv) _ _
+    let inside = c .before .before .before .before in
+    let start = inside .before .before .before .before .before in
+    sharing-next _ _ _ _ _ (start .pre .modulus) (start .pre .room) _ _ (inside .loop-test .taken) (inside .before .loop .inv) _ _
     (c .before .before .product-by .ensures) (c .product-by2 .ensures)
 
 same-length : tie.Need-same-length Inv-loop μ-loop
@@ -66,8 +66,8 @@ same-length c = c .before .loop .inv .long
 
 returns : tie.Need-returns Inv-loop μ-loop
 returns c =
-    sharing-ends _ _ _ _ _ (c .before .before .before .before .before .pre .modulus) (c .before .before .before .before .before .pre .room)
-    _ _ (c .loop-test .left) (c .before .loop .inv)
+    let start = c .before .before .before .before .before in
+    sharing-ends _ _ _ _ _ (start .pre .modulus) (start .pre .room) _ _ (c .loop-test .left) (c .before .loop .inv)
 
 pub share-inverse-spec : {M : Type 1} → statement M
 share-inverse-spec =

@@ -1,6 +1,8 @@
 -- `moments` answers the verdict of Moments' tests. Assumes nothing.
-use Rattle.verdicts.specs.FamilyCall.{shape-refuses, output-refuses, work-refuses, rows-settle}
-use Rattle.verdicts.specs.Groupings.{moments-grouped, moments-of-rows, shape-positive}
+use Rattle.definitions.specs.Refusals.{momentsTests}
+use Rattle.acceptance.specs.Stages.{all-remain, stage-refuses, stage-passes, stages-end}
+use Rattle.checks.specs.Shape.{shaped}
+use Rattle.verdicts.specs.Whole.{moments-of-rows}
 use borrow.Author.Needs.{needs}
 use Rattle.verdicts.proofs.moments.Statement.{statement}
 use Rattle.verdicts.proofs.moments.Tie as tie
@@ -15,7 +17,8 @@ enum-told-2 : tie.Need-enum-told-2
 enum-told-2 c = search needs
 
 returns : tie.Need-returns
-returns c = shape-refuses _ _ _ _ _ (moments-grouped _ _ _) _ (c .before .before .family-shape .ensures) _ (c .enum-told2 .given .1)
+unfolding momentsTests
+returns c = stage-refuses _ _ all-remain _ (c .before .before .family-shape .ensures) _ (c .enum-told2 .given .1)
 
 mul-output-length : tie.Need-mul-output-length
 mul-output-length c = search needs
@@ -33,7 +36,11 @@ enum-told-4 : tie.Need-enum-told-4
 enum-told-4 c = search needs
 
 returns-2 : tie.Need-returns-2
-returns-2 c = output-refuses _ _ _ _ _ (moments-grouped _ _ _) _ (c .before .before .before .before .before .family-shape .ensures) (c .before .before .before .enum-told .given .1) _ (rw moments-of-rows at (c .before .before .output-length .ensures)) _ (c .enum-told4 .given .1)
+unfolding momentsTests
+returns-2 c =
+    let shape = c .before .before .before in
+    let afterShape = stage-passes _ _ all-remain _ (shape .before .before .family-shape .ensures) (shape .enum-told .given .1) in
+    stage-refuses _ _ afterShape _ (rw moments-of-rows at (c .before .before .output-length .ensures)) _ (c .enum-told4 .given .1)
 
 work-length-requires : tie.Need-work-length-requires
 work-length-requires c κs = search needs
@@ -45,13 +52,32 @@ enum-told-6 : tie.Need-enum-told-6
 enum-told-6 c = search needs
 
 returns-3 : tie.Need-returns-3
-returns-3 c = work-refuses _ _ _ _ _ (moments-grouped _ _ _) _ (c .before .before .before .before .before .before .before .before .family-shape .ensures) (c .before .before .before .before .before .before .enum-told .given .1) _ (rw moments-of-rows at (c .before .before .before .before .before .output-length .ensures)) (c .before .before .before .enum-told3 .given .1) _ (c .before .before .work-length .ensures) _ (c .enum-told6 .given .1)
+unfolding momentsTests
+returns-3 c =
+    let place = c .before .before .before in
+    let shape = place .before .before .before in
+    let afterShape = stage-passes _ _ all-remain _ (shape .before .before .family-shape .ensures) (shape .enum-told .given .1) in
+    let afterPlace = stage-passes _ _ afterShape _ (rw moments-of-rows at (place .before .before .output-length .ensures))
+    (place .enum-told3 .given .1) in
+    stage-refuses _ _ afterPlace _ (c .before .before .work-length .ensures) _ (c .enum-told6 .given .1)
 
-family-rows-requires : tie.Need-family-rows-requires
-family-rows-requires c κs = shape-positive _ _ _ _ _ (c .before .before .before .before .before .before .before .before .family-shape .ensures) (c .before .before .before .before .before .before .enum-told .given .1)
+rows-requires : tie.Need-rows-requires
+rows-requires c κs =
+    let shape = c .before .before .before .before .before .before in
+    shaped _ _ _ _ _ (shape .before .before .family-shape .ensures) (shape .enum-told .given .1)
 
 returns-4 : tie.Need-returns-4
-returns-4 c = rows-settle _ _ _ _ _ (moments-grouped _ _ _) _ (c .before .before .before .before .before .before .before .before .before .family-shape .ensures) (c .before .before .before .before .before .before .before .enum-told .given .1) _ (rw moments-of-rows at (c .before .before .before .before .before .before .output-length .ensures)) (c .before .before .before .before .enum-told3 .given .1) _ (c .before .before .before .work-length .ensures) (c .before .enum-told5 .given .1) (c .family-rows .result) (c .family-rows .ensures)
+unfolding momentsTests
+returns-4 c =
+    let room = c .before in
+    let place = room .before .before .before in
+    let shape = place .before .before .before in
+    let afterShape = stage-passes _ _ all-remain _ (shape .before .before .family-shape .ensures) (shape .enum-told .given .1) in
+    let afterPlace = stage-passes _ _ afterShape _ (rw moments-of-rows at (place .before .before .output-length .ensures))
+    (place .enum-told3 .given .1) in
+    let afterRoom = stage-passes _ _ afterPlace _ (room .before .before .work-length .ensures)
+    (room .enum-told5 .given .1) in
+    stages-end _ afterRoom (c .rows .result) (c .rows .ensures)
 
 pub moments-spec : {M : Type 1} → statement M
 moments-spec =
@@ -71,5 +97,5 @@ moments-spec =
     enum-told-5
     enum-told-6
     returns-3
-    family-rows-requires
+    rows-requires
     returns-4)

@@ -1,9 +1,8 @@
 -- `norms` answers the verdict of Norms' tests. Assumes nothing.
-use mathlib.Core.Path.{refl}
 use native.Mathlib.Numerals.{add-one}
-use Rattle.definitions.specs.declared.Answer.{Answer}
-use Rattle.verdicts.specs.FamilyCall.{shape-refuses, output-refuses, rows-settle}
-use Rattle.verdicts.specs.Groupings.{norms-grouped, nothing-between, shape-positive}
+use Rattle.definitions.specs.Refusals.{normsTests}
+use Rattle.acceptance.specs.Stages.{all-remain, stage-refuses, stage-passes, stages-end}
+use Rattle.checks.specs.Shape.{shaped}
 use borrow.Author.Needs.{needs}
 use Rattle.verdicts.proofs.norms.Statement.{statement}
 use Rattle.verdicts.proofs.norms.Tie as tie
@@ -18,7 +17,8 @@ enum-told-2 : tie.Need-enum-told-2
 enum-told-2 c = search needs
 
 returns : tie.Need-returns
-returns c = shape-refuses _ _ _ _ _ (norms-grouped _ _) _ (c .before .before .family-shape .ensures) _ (c .enum-told2 .given .1)
+unfolding normsTests
+returns c = stage-refuses _ _ all-remain _ (c .before .before .family-shape .ensures) _ (c .enum-told2 .given .1)
 
 add-output-length : tie.Need-add-output-length
 add-output-length c = search needs
@@ -33,13 +33,26 @@ enum-told-4 : tie.Need-enum-told-4
 enum-told-4 c = search needs
 
 returns-2 : tie.Need-returns-2
-returns-2 c = output-refuses _ _ _ _ _ (norms-grouped _ _) _ (c .before .before .before .before .before .family-shape .ensures) (c .before .before .before .enum-told .given .1) _ (rw add-one at (c .before .before .output-length .ensures)) _ (c .enum-told4 .given .1)
+unfolding normsTests
+returns-2 c =
+    let shape = c .before .before .before in
+    let afterShape = stage-passes _ _ all-remain _ (shape .before .before .family-shape .ensures) (shape .enum-told .given .1) in
+    stage-refuses _ _ afterShape _ (rw add-one at (c .before .before .output-length .ensures)) _ (c .enum-told4 .given .1)
 
-family-rows-requires : tie.Need-family-rows-requires
-family-rows-requires c κs = shape-positive _ _ _ _ _ (c .before .before .before .before .before .family-shape .ensures) (c .before .before .before .enum-told .given .1)
+rows-requires : tie.Need-rows-requires
+rows-requires c κs =
+    let shape = c .before .before .before in
+    shaped _ _ _ _ _ (shape .before .before .family-shape .ensures) (shape .enum-told .given .1)
 
 returns-3 : tie.Need-returns-3
-returns-3 c = rows-settle _ _ _ _ _ (norms-grouped _ _) _ (c .before .before .before .before .before .before .family-shape .ensures) (c .before .before .before .before .enum-told .given .1) _ (rw add-one at (c .before .before .before .output-length .ensures)) (c .before .enum-told3 .given .1) Answer.Finished nothing-between refl (c .family-rows .result) (c .family-rows .ensures)
+unfolding normsTests
+returns-3 c =
+    let place = c .before in
+    let shape = place .before .before .before in
+    let afterShape = stage-passes _ _ all-remain _ (shape .before .before .family-shape .ensures) (shape .enum-told .given .1) in
+    let afterPlace = stage-passes _ _ afterShape _ (rw add-one at (place .before .before .output-length .ensures))
+    (place .enum-told3 .given .1) in
+    stages-end _ afterPlace (c .rows .result) (c .rows .ensures)
 
 pub norms-spec : {M : Type 1} → statement M
 norms-spec =
@@ -54,5 +67,5 @@ norms-spec =
     enum-told-3
     enum-told-4
     returns-2
-    family-rows-requires
+    rows-requires
     returns-3)

@@ -1,0 +1,35 @@
+-- `values` answers the verdict of tests 9 to 12: those of the rows, then those of the curve. Assumes what `rows` does.
+use Rattle.definitions.specs.Refusals.{curveEntriesTest}
+use Rattle.acceptance.specs.Stages.{all-remain, stage-refuses, stage-passes, stages-end}
+use Rattle.verdicts.specs.Sizes.{valueTests}
+use borrow.Author.Needs.{needs}
+use Rattle.verdicts.proofs.values.Statement.{statement}
+use Rattle.verdicts.proofs.values.Tie as tie
+
+rows-requires : tie.Need-rows-requires
+rows-requires c κs = search needs
+
+enum-told : tie.Need-enum-told
+enum-told c = search needs
+
+enum-told-2 : tie.Need-enum-told-2
+enum-told-2 c = search needs
+
+returns : tie.Need-returns
+unfolding valueTests
+returns c = stage-refuses _ _ all-remain _ (c .before .before .rows .ensures) _ (c .enum-told2 .given .1)
+
+curve-entries-requires : tie.Need-curve-entries-requires
+curve-entries-requires c κs = search needs
+
+returns-2 : tie.Need-returns-2
+unfolding valueTests curveEntriesTest
+returns-2 c =
+    let family = c .before in
+    let afterFamily = stage-passes _ _ all-remain _ (family .before .before .rows .ensures) (family .enum-told .given .1) in
+    stages-end _ afterFamily (c .curve-entries .result) (c .curve-entries .ensures)
+
+pub values-spec : {M : Type 1} → statement M
+values-spec =
+    tie.close
+    (tie.spec rows-requires enum-told enum-told-2 returns curve-entries-requires returns-2)
