@@ -8,7 +8,8 @@ use mathlib.Core.Bool.{Bool, true, false}
 use mathlib.Core.List.{List, [], _∷_, _++_}
 use Prim.Native.Nat.{ℕ}
 use Rattle.definitions.specs.Family.{Family}
-use Rattle.definitions.specs.Refusals.{Test, Verdict, finished, refused, verdict, modulusTest, lengthsTest, rowCountTest, entriesTest, aInverseTest, cInverseTest, shapeTests, familyRows}
+use Rattle.definitions.specs.Refusals.{Test, Verdict, finished, refused, verdict}
+use Rattle.definitions.specs.Refusals.{modulusTest, lengthsTest, rowCountTest, entriesTest, aInverseTest, cInverseTest, shapeTests, familyRows}
 use Rattle.acceptance.specs.Verdicts.{withValues, refused-not-finished, verdict-here, verdict-next, verdict-values}
 
 -- ---- a verdict with other values

@@ -114,7 +114,8 @@ module _ (first second : Way) (f : Family) (u v : List ℕ) (lent : Lists) (r₁
           ∙ work-length second f v r₂ (length (lent .t)) w₁ (two .answer) q₂ ∙ length₁
 
       e₃ : answered r₃ ≡ verdict T₃ []
-      e₃ = stages-end later₃ (stage-passes T₂ later₃ all-remain r₂ e₂ q₂) r₃ (three .answer ∙ ap (λ k. verdict (momentsTests f (length (lent .moment)) k) []) length₂)
+      e₃ = stages-end later₃ (stage-passes T₂ later₃ all-remain r₂ e₂ q₂) r₃
+          (three .answer ∙ ap (λ k. verdict (momentsTests f (length (lent .moment)) k) []) length₂)
 
       moments-are : moment′ ≡ after (verdict T₃ []) (moments f) (lent .moment)
       moments-are = settles T₃ r₃ (moments f) (lent .moment) e₃ moment′ (three .written)

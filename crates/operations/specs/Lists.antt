@@ -22,7 +22,8 @@ use Rattle.definitions.specs.Refusals.{familyShape, familyRows, treeTests, mome
 use Rattle.definitions.specs.TextCall.{curveCount, converted}
 use Rattle.definitions.specs.declared.Answer.{Answer}
 use Rattle.definitions.specs.declared.Operation.{Operation}
-use Rattle.acceptance.specs.Verdicts.{None, verdict-here, verdict-next, verdict-goes-on, none-append, curve-length-passes, output-passes, work-passes}
+use Rattle.acceptance.specs.Verdicts.{None, verdict-here, verdict-next, verdict-goes-on, none-append}
+use Rattle.acceptance.specs.Verdicts.{curve-length-passes, output-passes, work-passes}
 use Rattle.lists.specs.Lent.{lent, Long}
 use Rattle.verdicts.specs.Sizes.{sizeTests, valueTests, sizesOf, lentTests}
 use Rattle.operations.specs.Results.{resultCount}
@@ -33,7 +34,8 @@ pub record Sized (operation : Operation) (f : Family) (u : List ℕ) (output wor
   pub result : output ≡ resultCount operation (rows f)
   pub room : workLength ≤ work
 
-pub record Parts (operation : Operation) (m : ℕ) (a b c : List ℕ) (r : ℕ) (u : List ℕ) (entries : ℕ) (output : List ℕ) (count work : ℕ) : Type 0 where
+pub record Parts (operation : Operation) (m : ℕ) (a b c : List ℕ) (r : ℕ) (u : List ℕ) (entries : ℕ) (output : List ℕ)
+    (count work : ℕ) : Type 0 where
   pub rowsFront : Long r a b c
   pub curveFront : entries ≤ length u
   pub outputFront : count ≤ length output
@@ -65,12 +67,14 @@ unfolding verdict
 spare-test [] t values q = verdict-next t [] values q
 spare-test (s ∷ ts) t values q = split (s .holds) refl (spare-test ts t values q)
   where
-    split : (h : Bool) → s .holds ≡ h → verdict (ts ++ t ∷ []) values ≡ verdict ts values → verdict (s ∷ ts ++ t ∷ []) values ≡ verdict (s ∷ ts) values
+    split : (h : Bool) → s .holds ≡ h → verdict (ts ++ t ∷ []) values ≡ verdict ts values
+        → verdict (s ∷ ts ++ t ∷ []) values ≡ verdict (s ∷ ts) values
     split true p rest = verdict-here s (ts ++ t ∷ []) values p ∙ sym (verdict-here s ts values p)
     split false p rest = verdict-next s (ts ++ t ∷ []) values p ∙ rest ∙ sym (verdict-next s ts values p)
 
 module _ (f : Family) (u : List ℕ) (output work : ℕ) (shape : None (familyShape f)) where
-  curve-left : length u ≡ size f → output ≡ size f → workLength ≤ work → verdict (treeTests f u output work) [] ≡ verdict (valueTests f u) []
+  curve-left : length u ≡ size f → output ≡ size f → workLength ≤ work
+      → verdict (treeTests f u output work) [] ≡ verdict (valueTests f u) []
   unfolding treeTests valueTests
   curve-left curve result room = verdict-goes-on _ [] (familyShape f) shape
       ∙ verdict-goes-on (valueTests f u) [] (curveLengthTest (size f) (length u) ∷ outputTest (size f) output ∷ workTest work ∷ [])
@@ -113,8 +117,8 @@ module _ (operation : Operation) (f : Family) (u output work : List ℕ) (sized 
     hands = sized .result ∙ ap (λ p. resultCount p (rows f)) e
 
     -- the promise from what a call did and from its verdict
-    by-call : (result : List ℕ) → converted o f u ≡ result → answered r ≡ verdict (valueTests f u) [] → output′ ≡ after (answered r) result output
-        → work′ ≡ after (answered r) (cleared work) work → Promise
+    by-call : (result : List ℕ) → converted o f u ≡ result → answered r ≡ verdict (valueTests f u) []
+        → output′ ≡ after (answered r) result output → work′ ≡ after (answered r) (cleared work) work → Promise
     by-call result is answer written wiped = record {
       answer = answer;
       written = written ∙ ap (λ list. after (answered r) list output) (sym (ap (λ p. converted p f u) e ∙ is));
@@ -122,7 +126,8 @@ module _ (operation : Operation) (f : Family) (u output work : List ℕ) (sized 
     }
 
   module _ (result : List ℕ) (done : ConvertedIn (treeTests f u (length output) (length work)) result r output output′ work work′) where
-    by-tree-call : (o : Operation) → operation ≡ o → curveCount o (rows f) ≡ size f → resultCount o (rows f) ≡ size f → converted o f u ≡ result → Promise
+    by-tree-call : (o : Operation) → operation ≡ o → curveCount o (rows f) ≡ size f → resultCount o (rows f) ≡ size f
+        → converted o f u ≡ result → Promise
     by-tree-call o e all n is =
         let left = curve-left f u (length output) (length work) (sized .shape) (takes o e ∙ all) (hands o e ∙ n) (sized .room) in
         by-call o e result is (done .answer ∙ left) (done .written) (done .wiped)
@@ -142,19 +147,21 @@ module _ (operation : Operation) (f : Family) (u output work : List ℕ) (sized 
   pub moments-promised : operation ≡ Operation.Moments → MomentsCall f r output output′ work work′ → Promise
   unfolding curveCount resultCount converted
   moments-promised e done =
-      let left = moments-left f u (length output) (length work) (sized .shape) (takes Operation.Moments e) (hands Operation.Moments e) (sized .room) in
+      let left = moments-left f u (length output) (length work) (sized .shape) (takes _ e) (hands _ e) (sized .room) in
       by-call Operation.Moments e (moments f) refl (done .answer ∙ left) (done .written) (done .wiped)
 
   -- the working list is cleared by itself
-  pub norms-promised : operation ≡ Operation.Norms → NormsCall f r output output′ → work′ ≡ after (answered r) (cleared work) work → Promise
+  pub norms-promised : operation ≡ Operation.Norms → NormsCall f r output output′ → work′ ≡ after (answered r) (cleared work) work
+      → Promise
   unfolding curveCount resultCount converted
   norms-promised e done wiped =
-      let left = norms-left f u (length output) (length work) (sized .shape) (takes Operation.Norms e) (hands Operation.Norms e) in
+      let left = norms-left f u (length output) (length work) (sized .shape) (takes _ e) (hands _ e) in
       by-call Operation.Norms e (norms f) refl (done .answer ∙ left) (done .written) wiped
 
 -- ---- the fronts of longer lists: a part is lent from place 0 to its end
 front-promised : (ts : List Test) (result : List ℕ) (r : Answer) (count : ℕ) (output front work work′ : List ℕ)
-    → ConvertedIn ts result r (take count output) front work work′ → ConvertedIn ts (result ++ drop count output) r output (front ++ drop count output) work work′
+    → ConvertedIn ts result r (take count output) front work work′
+    → ConvertedIn ts (result ++ drop count output) r output (front ++ drop count output) work work′
 front-promised ts result Answer.Finished count output front work work′ p =
     record { answer = p .answer; written = ap (λ list. list ++ drop count output) (p .written); wiped = p .wiped }
 front-promised ts result (Answer.Refused k) count output front work work′ p =

@@ -15,9 +15,11 @@ use borrow.Author.Tests.{lt-ltb, ltb-false, ltb-true}
 use Rattle.definitions.specs.Family.{Family, Modulus, Curve, mostRows, rows}
 use Rattle.definitions.specs.Printing.{shown, printed}
 use Rattle.definitions.specs.Reading.{Read, found, malformed, readJob}
-use Rattle.definitions.specs.Refusals.{Test, Verdict, finished, refused, verdict, workLength, curveLengthTest, workTest, curveEntriesTest, shapeTests, familyShape, familyRows}
+use Rattle.definitions.specs.Refusals.{Test, Verdict, finished, refused, verdict, workLength, curveLengthTest, workTest, curveEntriesTest}
+use Rattle.definitions.specs.Refusals.{shapeTests, familyShape, familyRows}
 use Rattle.definitions.specs.Text.{Job, decimal, meant, refusalKey, refusalText, answerText}
-use Rattle.definitions.specs.TextCall.{mostBytes, textOutputLength, textLengthTest, textOutputTest, jobTests, formTests, textTests, converted, result, replyTo, reply}
+use Rattle.definitions.specs.TextCall.{mostBytes, textOutputLength, textLengthTest, textOutputTest, jobTests, formTests, textTests}
+use Rattle.definitions.specs.TextCall.{converted, result, replyTo, reply}
 use Rattle.definitions.specs.declared.Operation.{Operation}
 use Rattle.texts.specs.AnswerTexts.{all-writable, length-answer, length-line}
 use Rattle.theory.specs.Bridge.{expand-curve, adjoint-curve}
@@ -118,7 +120,8 @@ printed-fits t = split (verdict (lentTests t) (reply t)) refl
 -- ---- how much of the input is looked at
 too-long : (t : List ℕ) → mostBytes < length t → printed t ≡ refusalText 1
 unfolding printed shown textTests textLengthTest
-too-long t h = ap shown (verdict-here (textLengthTest t) (formTests (readJob t) textOutputLength workLength) (reply t) (lt-ltb mostBytes (length t) h))
+too-long t h = ap shown
+    (verdict-here (textLengthTest t) (formTests (readJob t) textOutputLength workLength) (reply t) (lt-ltb mostBytes (length t) h))
 
 pub printed-first-bytes : (t : List ℕ) → printed (take (suc mostBytes) t) ≡ printed t
 printed-first-bytes t = split (ltb mostBytes (length t)) refl

@@ -7,7 +7,9 @@ use Prim.Native.Nat.{ℕ, _<_}
 use native.Mathlib.Omega.{arith}
 use borrow.Author.Needs.{needs}
 use Rattle.definitions.specs.Family.{Family}
-use Rattle.definitions.specs.Refusals.{Test, Verdict, finished, refused, verdict, modulusTest, curveLengthTest, outputTest, workTest, curveEntriesTest, numberTest, numberInverseTest, familyShape, familyRows, plainTests, treeTests, momentsTests, normsTests, inverseTests}
+use Rattle.definitions.specs.Refusals.{Test, Verdict, finished, refused, verdict, modulusTest, curveLengthTest, outputTest, workTest}
+use Rattle.definitions.specs.Refusals.{curveEntriesTest, numberTest, numberInverseTest, familyShape, familyRows}
+use Rattle.definitions.specs.Refusals.{plainTests, treeTests, momentsTests, normsTests, inverseTests}
 use Rattle.definitions.specs.Text.{meant}
 use Rattle.definitions.specs.Reading.{Read, found, malformed, readJob}
 use Rattle.definitions.specs.TextCall.{textLengthTest, textOutputTest, jobTests, formTests, textTests}

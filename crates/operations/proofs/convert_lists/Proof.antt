@@ -45,10 +45,16 @@ same-length : tie.Need-same-length
 same-length c = search needs
 
 returns : tie.Need-returns
-returns c = norms-promised _ _ _ _ _ (c .before .before .before .before .before .before .before .before .before .before .before .before .before .before .pre) _ _ _ (c .before .before .before .before .before .before .enum-told5 .given .1) (c .before .before .before .before .norms .ensures) (list-stays _ _ _ _ (c .enum-told7 .given .1))
+returns c =
+    let told = c .before .before .before .before .before .before in
+    norms-promised _ _ _ _ _ (told .before .before .before .before .before .before .before .before .pre) _ _ _
+    (told .enum-told5 .given .1) (c .before .before .before .before .norms .ensures)
+    (list-stays _ _ _ _ (c .enum-told7 .given .1))
 
 clear-requires : tie.Need-clear-requires
-clear-requires c κs = (c .before .before .before .before .before .before .before .before .before .before .before .before .before .before .before .pre) .room
+clear-requires c κs =
+    let told = c .before .before .before .before .before .before .before in
+    told .before .before .before .before .before .before .before .before .pre .room
 
 same-length-2 : tie.Need-same-length-2
 same-length-2 c = search needs
@@ -57,7 +63,10 @@ same-length-3 : tie.Need-same-length-3
 same-length-3 c = search needs
 
 returns-2 : tie.Need-returns-2
-returns-2 c = expand-promised _ _ _ _ _ (c .before .before .before .before .before .before .before .before .before .before .before .before .before .before .before .pre) _ _ _ (c .before .before .before .before .before .before .before .enum-told .given .1) (c .before .before .before .before .tree-expand .ensures)
+returns-2 c =
+    let told = c .before .before .before .before .before .before .before in
+    expand-promised _ _ _ _ _ (told .before .before .before .before .before .before .before .before .pre) _ _ _
+    (told .enum-told .given .1) (c .before .before .before .before .tree-expand .ensures)
 
 same-length-4 : tie.Need-same-length-4
 same-length-4 c = search needs
@@ -66,7 +75,10 @@ same-length-5 : tie.Need-same-length-5
 same-length-5 c = search needs
 
 returns-3 : tie.Need-returns-3
-returns-3 c = adjoint-promised _ _ _ _ _ (c .before .before .before .before .before .before .before .before .before .before .before .before .before .before .before .pre) _ _ _ (c .before .before .before .before .before .before .before .enum-told2 .given .1) (c .before .before .before .before .tree-adjoint .ensures)
+returns-3 c =
+    let told = c .before .before .before .before .before .before .before in
+    adjoint-promised _ _ _ _ _ (told .before .before .before .before .before .before .before .before .pre) _ _ _
+    (told .enum-told2 .given .1) (c .before .before .before .before .tree-adjoint .ensures)
 
 same-length-6 : tie.Need-same-length-6
 same-length-6 c = search needs
@@ -75,7 +87,10 @@ same-length-7 : tie.Need-same-length-7
 same-length-7 c = search needs
 
 returns-4 : tie.Need-returns-4
-returns-4 c = decompose-promised _ _ _ _ _ (c .before .before .before .before .before .before .before .before .before .before .before .before .before .before .before .pre) _ _ _ (c .before .before .before .before .before .before .before .enum-told3 .given .1) (c .before .before .before .before .tree-decompose .ensures)
+returns-4 c =
+    let told = c .before .before .before .before .before .before .before in
+    decompose-promised _ _ _ _ _ (told .before .before .before .before .before .before .before .before .pre) _ _ _
+    (told .enum-told3 .given .1) (c .before .before .before .before .tree-decompose .ensures)
 
 same-length-8 : tie.Need-same-length-8
 same-length-8 c = search needs
@@ -84,7 +99,10 @@ same-length-9 : tie.Need-same-length-9
 same-length-9 c = search needs
 
 returns-5 : tie.Need-returns-5
-returns-5 c = moments-promised _ _ _ _ _ (c .before .before .before .before .before .before .before .before .before .before .before .before .before .before .before .pre) _ _ _ (c .before .before .before .before .before .before .before .enum-told4 .given .1) (c .before .before .before .before .moments .ensures)
+returns-5 c =
+    let told = c .before .before .before .before .before .before .before in
+    moments-promised _ _ _ _ _ (told .before .before .before .before .before .before .before .before .pre) _ _ _
+    (told .enum-told4 .given .1) (c .before .before .before .before .moments .ensures)
 
 same-length-10 : tie.Need-same-length-10
 same-length-10 c = search needs
@@ -93,7 +111,12 @@ same-length-11 : tie.Need-same-length-11
 same-length-11 c = search needs
 
 returns-6 : tie.Need-returns-6
-returns-6 c = norms-promised _ _ _ _ _ (c .before .before .before .before .before .before .before .before .before .before .before .before .before .before .before .before .before .before .pre) _ _ _ (c .before .before .before .before .before .before .before .before .before .before .enum-told5 .given .1) (rw (c .before .before .before .before .enum-told6 .given .1) at (c .before .before .before .before .before .before .before .before .norms .ensures)) (c .before .before .clear .ensures)
+returns-6 c =
+    let told = c .before .before .before .before .before .before .before .before .before .before in
+    let finished = c .before .before .before .before .enum-told6 .given .1 in
+    norms-promised _ _ _ _ _ (told .before .before .before .before .before .before .before .before .pre) _ _ _
+    (told .enum-told5 .given .1)
+    (rw finished at (c .before .before .before .before .before .before .before .before .norms .ensures)) (c .before .before .clear .ensures)
 
 pub convert-lists-spec : {M : Type 1} → statement M
 convert-lists-spec =

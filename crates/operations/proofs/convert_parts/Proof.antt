@@ -59,7 +59,10 @@ same-length-2 : tie.Need-same-length-2
 same-length-2 c = search needs
 
 returns : tie.Need-returns
-returns c = let x = c .before .before .before .before .before .before .before .before .before .before .before .before .before .before .before .before .before .args in parts-promised _ _ (x .a .now) (x .b .now) (x .c .now) (x .rows) (x .curve .now) (x .entries) (x .output .now) (x .count) _ _ _ _ (c .before .before .before .before .convert-lists .ensures)
+returns c =
+    let x = c .before .before .before .before .before .before .before .before .before .before .before .before .before .before .before .before .before .args in
+    parts-promised _ _ (x .a .now) (x .b .now) (x .c .now) (x .rows) (x .curve .now) (x .entries) (x .output .now) (x .count) _ _ _ _
+    (c .before .before .before .before .convert-lists .ensures)
 
 pub convert-parts-spec : {M : Type 1} → statement M
 convert-parts-spec =
