@@ -1,34 +1,46 @@
--- A local array filled with the inverses of a list's entries.
--- Proved: the array has room, holds residues, and its entries are the inverses. Assumes nothing.
+-- A local array filled with the inverses of a list's first r entries, from place first on.
+--   Inverted m first r list v   v holds r residues, and from place first on the inverse of each entry of list
+-- Proved: the array has room for them, and filled with them it is so. Assumes nothing.
 use mathlib.Core.Path.{_≡_, _∙_, ap}
 use mathlib.Core.List.{List}
+use mathlib.Core.Logic.{by-cases}
 use Prim.Native.Nat.{ℕ, _<_, _≤_}
+use native.Mathlib.Decide.{decLt}
 use native.Mathlib.Omega.{arith}
 use lib.ListN.{length, getD, replicate, length-replicate}
-use Rattle.definitions.specs.Number.{HasInverse, inverse}
-use Rattle.numbers.specs.Inverse.{inverse-right, inverse-below}
+use borrow.Author.Tests.{lt-ltb, le-ltb}
+use Rattle.definitions.specs.Family.{mostRows}
+use Rattle.definitions.specs.Number.{inverse}
+use Rattle.numbers.specs.Inverse.{inverse-below}
 use Rattle.numbers.specs.Lists.{filled, filled-below, filled-length}
-use Rattle.plain.specs.Input.{Holds, InversesOf}
+use Rattle.inverses.specs.Range.{inverseFrom}
+use Rattle.lists.specs.Held.{Holds}
 
-module _ (m : ℕ) (xs : List ℕ) (few : length xs ≤ 127) (zeros : List ℕ) (zerosAre : zeros ≡ replicate 128 0) where
+pub record Inverted (m first r : ℕ) (list v : List ℕ) : Type 0 where
+  pub holds : Holds m r v
+  pub is : (i : ℕ) → first ≤ i → i < r → getD v i 0 ≡ inverse m (getD list i 0)
+
+module _ (r : ℕ) (few : r ≤ mostRows) (zeros : List ℕ) (zerosAre : zeros ≡ replicate 128 0) where
   zeros-length : length zeros ≡ 128
   zeros-length = ap length zerosAre ∙ length-replicate {A = ℕ} 128 0
 
-  pub room : (length xs ≤ length xs) × (length xs ≤ length zeros)
-  room = let all : length zeros ≡ 128 = zeros-length in (omega arith, omega arith)
+  pub array-room : r ≤ length zeros
+  array-room = omega (arith, zeros-length)
 
-  module _ (inverses : List ℕ) (filledIs : inverses ≡ filled (λ i. inverse m (getD xs i 0)) (length xs) zeros) where
-    entry-is : (i : ℕ) → i < length xs → getD inverses i 0 ≡ inverse m (getD xs i 0)
-    entry-is i h = ap (λ ys. getD ys i 0) filledIs ∙ filled-below (λ i. inverse m (getD xs i 0)) zeros (length xs) i 0 h
-
-    pub inverses-length : length inverses ≡ 128
-    inverses-length = let all : length zeros ≡ 128 = zeros-length in
-        ap length filledIs ∙ filled-length (λ i. inverse m (getD xs i 0)) zeros (length xs) (omega arith) ∙ all
-
-    module _ (positive : 0 < m) where
-      pub inverses-hold : Holds m (length xs) inverses
-      inverses-hold = let long : length inverses ≡ 128 = inverses-length in
-          record { long = omega arith; below = λ i h. rw (entry-is i h) (inverse-below m (getD xs i 0) positive) }
-
-      pub inverses-of : ((i : ℕ) → i < length xs → HasInverse m (getD xs i 0)) → InversesOf m (length xs) inverses xs
-      inverses-of has = record { long = omega arith; product = λ i h. rw (entry-is i h) (inverse-right m (getD xs i 0) positive (has i h)) }
+  pub array-inverted : {m first : ℕ} {list v : List ℕ} → 0 < m → v ≡ filled (inverseFrom m first list) r zeros → Inverted m first r list v
+  unfolding inverseFrom
+  array-inverted {m} {first} {list} {v} positive e =
+      let long : length v ≡ 128 = ap length e ∙ filled-length (inverseFrom m first list) zeros r array-room ∙ zeros-length in
+      let at : (i : ℕ) → i < r → getD v i 0 ≡ inverseFrom m first list i =
+      λ i h. ap (λ ys. getD ys i 0) e ∙ filled-below (inverseFrom m first list) zeros r i 0 h in
+      let is : (i : ℕ) → first ≤ i → i < r → getD v i 0 ≡ inverse m (getD list i 0) =
+      λ i from h. at i h ∙ rw (le-ltb i first from, inverseFrom) in
+      record {
+        holds = record {
+          long = omega arith;
+          below = λ i h. by-cases (decLt i first)
+              (λ l. rw (at i h, lt-ltb i first l, inverseFrom) positive)
+              (λ l. rw (is i (omega arith) h) (inverse-below m (getD list i 0) positive));
+        };
+        is = is;
+      }

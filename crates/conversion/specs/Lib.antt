@@ -1,9 +1,8 @@
 -- How a call's verdict settles its answer, and how its core meets the definition. Assumes nothing.
 pub mod Inverting
 pub mod PlainCall
-pub mod Rows
-pub mod PlainCore
+pub mod Whole
 pub mod Inverted
-pub mod InversesCore
+pub mod PlainCore
 pub mod TreeCore
 pub mod GramCore

@@ -1,25 +1,31 @@
--- A call by the plain way: what a refusal leaves, and what is known where every test passes. Assumes nothing.
+-- A call without a working list, from the answer of its tests.
+-- Proved: where they refuse, the call keeps its promise with the output as it was; where they pass, its input is accepted, and it keeps its
+-- promise with the definition's list in the output. Assumes nothing.
 use mathlib.Core.Path.{_≡_, sym, _∙_, ap}
 use mathlib.Core.List.{List, []}
 use Prim.Native.Nat.{ℕ}
-use lib.ListN.{length}
 use Rattle.definitions.specs.Answers.{answered, Converted}
-use Rattle.definitions.specs.Family.{family}
+use Rattle.definitions.specs.Family.{Family}
 use Rattle.definitions.specs.Refusals.{Test, finished, verdict, plainTests, normsTests}
 use Rattle.definitions.specs.declared.Answer.{Answer}
 use Rattle.acceptance.specs.Acceptance.{PlainInput, NormsInput, plain-finished, norms-finished}
-use Rattle.checks.specs.Calls.{list-stays}
+use Rattle.acceptance.specs.Stages.{list-stays}
 
-pub refusal-kept : (tests : List Test) (result output : List ℕ) (r : Answer) (k : ℕ) → answered r ≡ verdict tests [] → r ≡ Answer.Refused k → Converted tests result r output output
-refusal-kept tests result output r k e q = record { answer = e; written = list-stays r k result output q }
+module _ (tests : List Test) (r : Answer) (is : answered r ≡ verdict tests []) where
+  pub tests-refuse : {result output : List ℕ} (k : ℕ) → r ≡ Answer.Refused k → Converted tests result r output output
+  tests-refuse {result} {output} k q = record { answer = is; written = list-stays r k result output q }
 
--- the tests passed: the call finishes, and its input is accepted
-module _ (tests : List Test) (r : Answer) (e : answered r ≡ verdict tests []) (q : r ≡ Answer.Finished) where
-  pub tests-passed : finished [] ≡ verdict tests []
-  tests-passed = sym (ap answered q) ∙ e
+  pub tests-passed : r ≡ Answer.Finished → finished [] ≡ verdict tests []
+  tests-passed q = sym (ap answered q) ∙ is
 
-pub plain-input : (m : ℕ) (a b c u : List ℕ) (output : ℕ) (r : Answer) → answered r ≡ verdict (plainTests (family m a b c) u output) [] → r ≡ Answer.Finished → PlainInput (family m a b c) u output
-plain-input m a b c u output r e q = plain-finished m a b c u output [] .0 (sym (tests-passed (plainTests (family m a b c) u output) r e q))
+  pub tests-finish : {result output output′ : List ℕ} → r ≡ Answer.Finished → output′ ≡ result
+      → Converted tests result Answer.Finished output output′
+  tests-finish q e = record { answer = tests-passed q; written = e }
 
-pub norms-accepted : (m : ℕ) (a b c : List ℕ) (output : ℕ) (r : Answer) → answered r ≡ verdict (normsTests (family m a b c) output) [] → r ≡ Answer.Finished → NormsInput (family m a b c) output
-norms-accepted m a b c output r e q = norms-finished m a b c output [] .0 (sym (tests-passed (normsTests (family m a b c) output) r e q))
+module _ {f : Family} where
+  pub plain-input : {u : List ℕ} {output : ℕ} (r : Answer) → answered r ≡ verdict (plainTests f u output) [] → r ≡ Answer.Finished
+      → PlainInput f u output
+  plain-input {u} {output} r is q = plain-finished f u output [] .0 (sym (tests-passed (plainTests f u output) r is q))
+
+  pub norms-input : {output : ℕ} (r : Answer) → answered r ≡ verdict (normsTests f output) [] → r ≡ Answer.Finished → NormsInput f output
+  norms-input {output} r is q = norms-finished f output [] .0 (sym (tests-passed (normsTests f output) r is q))

@@ -1,43 +1,98 @@
--- From an accepted input to what a plain core asks, and from what the core writes to the definition's list.
--- Proved: the lists are as long as they must be, so the first n - 1 rows are all of them, and the output is written whole.
+-- From an accepted family of lent lists to what the plain cores ask, and from what they write to the definition's list.
+-- Proved: what a core asks, over the rows that are lent; the same of lists that a call is lent whole, whose output is then written whole.
 -- Assumes nothing.
-use mathlib.Core.Path.{_≡_, _∙_, ap₂}
-use mathlib.Core.List.{List, _++_, append-nil}
-use Prim.Native.Nat.{ℕ, suc, _+_}
+use mathlib.Core.Path.{_≡_, _∙_, ap, ap₂}
+use mathlib.Core.List.{List, _++_}
+use Prim.Native.Nat.{ℕ, suc, _+_, _-_, _≤_}
+use native.Mathlib.Nat.{mod-eq-of-lt}
 use native.Mathlib.Omega.{arith}
-use lib.ListN.{length, take, drop, drop-of-length-le}
+use lib.ListN.{length, take, drop, replicate}
 use lib.Seq.{take-all}
-use Rattle.definitions.specs.Family.{Family, family}
-use Rattle.acceptance.specs.Acceptance.{PlainInput}
-use Rattle.plain.specs.Input.{firstRows, ConvertInput}
-use Rattle.conversion.specs.Rows.{sizes-hold, a-holds, b-holds, c-holds, rows-whole}
+use Rattle.definitions.specs.Family.{Family, Accepted, family, ones}
+use Rattle.definitions.specs.Orthogonality.{norms}
+use Rattle.acceptance.specs.Acceptance as Acceptance
+use Rattle.numbers.specs.Lists.{filled}
+use Rattle.inverses.specs.Range.{inverseFrom}
+use Rattle.lists.specs.Held.{Holds}
+use Rattle.lists.specs.Inverses.{Inverts, accepted-inverts-a}
+use Rattle.lists.specs.Lent.{Long, LentRows, lent, accepted-few, accepted-rows}
+use Rattle.plain.specs.Input.{ConvertInput, NormsInput}
+use Rattle.conversion.specs.Inverted.{Inverted, array-room, array-inverted}
+use Rattle.conversion.specs.Whole.{accepted-long, accepted-lent, lent-family, curve-held, written-whole}
 
-module _ (m : ℕ) (a b c u output : List ℕ) (input : PlainInput (family m a b c) u (length output)) where
-  abbrev f : Family
-  f = family m a b c
+-- ---- over the rows that are lent
+module _ {m r : ℕ} {a b c : List ℕ} (long : Long r a b c) (accepted : Accepted (lent m r a b c ones)) where
+  rows-are : r + 1 - 1 ≡ r
+  rows-are = omega arith
 
-  abbrev n : ℕ
-  n = length a + 1
-
-  pub core-input : ConvertInput m a b c u n output
-  core-input =
-      let lu : length u ≡ suc (length a) = input .curve .long in
-      let lo : length output ≡ suc (length a) = input .outputLength in
+  -- v stands in the place of the a
+  pub convert-input : {v u output : List ℕ} → Holds m r v → Holds m (r + 1) u → r + 1 ≤ length output
+      → ConvertInput m v b c u (r + 1) output
+  convert-input holds curve room =
+      let own : LentRows m r a b c = accepted-rows m r a b c ones long accepted in
       record {
-        sizes = sizes-hold m a b c (input .accepted);
-        aHolds = a-holds m a b c (input .accepted);
-        bHolds = b-holds m a b c (input .accepted);
-        cHolds = c-holds m a b c (input .accepted);
-        curveHolds = record { long = omega arith; below = λ i h. input .curve .below i (omega arith) };
-        outputLong = omega arith;
+        rows = rw rows-are (record { modulus = own .modulus; aHolds = holds; bHolds = own .bHolds; cHolds = own .cHolds });
+        least = omega arith;
+        most = omega (arith, accepted-few m r a b c ones long accepted);
+        curveHolds = curve;
+        outputLong = room;
       }
 
-  first-rows : firstRows m n a b c ≡ f
-  unfolding firstRows
-  first-rows = rows-whole m a b c (input .accepted)
+  module _ {v : List ℕ} (inverted : Inverted m 0 r a v) where
+    pub norms-lent : {output : List ℕ} → r + 1 ≤ length output → NormsInput m v c (r + 1) output
+    norms-lent room = record {
+      positive = omega (arith, accepted .modulus .least);
+      least = omega arith;
+      inversesLong = omega (arith, inverted .holds .long);
+      cLong = omega (arith, long .cLong);
+      outputLong = room;
+    }
 
-  pub core-written : (convert : Family → List ℕ → List ℕ) → convert (firstRows m n a b c) (take n u) ++ drop n output ≡ convert f u
-  core-written convert =
+    pub a-inverts : Inverts m 0 (r + 1 - 1) a v 1 1
+    a-inverts = rw rows-are (accepted-inverts-a m r a b c ones long accepted v 1 (inverted .holds .long)
+        (λ i l. inverted .is i (omega arith) l) (mod-eq-of-lt (omega (arith, accepted .modulus .least))))
+
+-- ---- over lists that are lent whole
+module _ {m : ℕ} {a b c : List ℕ} (accepted : Accepted (family m a b c)) {zeros : List ℕ} (zerosAre : zeros ≡ replicate 128 0) where
+  pub a-room : (length a ≤ length a) × (length a ≤ length zeros)
+  a-room = (omega arith, array-room (length a) (accepted .rowCount) zeros zerosAre)
+
+  pub a-inverted : {v : List ℕ} → v ≡ filled (inverseFrom m 0 a) (length a) zeros → Inverted m 0 (length a) a v
+  a-inverted e = array-inverted (length a) (accepted .rowCount) zeros zerosAre (omega (arith, accepted .modulus .least)) e
+
+pub whole-inverts : {m : ℕ} {a b c v : List ℕ} → Accepted (family m a b c) → Inverted m 0 (length a) a v
+    → Inverts m 0 (length a + 1 - 1) a v 1 1
+whole-inverts accepted inverted = a-inverts (accepted-long accepted) (accepted-lent accepted) inverted
+
+module _ {m : ℕ} {a b c u : List ℕ} (output : List ℕ) (input : Acceptance.PlainInput (family m a b c) u (length output)) where
+  long : Long (length a) a b c
+  long = accepted-long (input .accepted)
+
+  lent-accepted : Accepted (lent m (length a) a b c ones)
+  lent-accepted = accepted-lent (input .accepted)
+
+  -- v stands in the place of the a
+  core-input : {v : List ℕ} → Holds m (length a) v → ConvertInput m v b c u (length a + 1) output
+  core-input holds =
+      convert-input long lent-accepted holds (curve-held (input .curve)) (omega (arith, input .outputLength))
+
+  pub plain-core : ConvertInput m a b c u (length a + 1) output
+  plain-core = core-input (accepted-rows m (length a) a b c ones long lent-accepted .aHolds)
+
+  pub decompose-core : {v : List ℕ} → Inverted m 0 (length a) a v → ConvertInput m v b c u (length a + 1) output
+  decompose-core inverted = core-input (inverted .holds)
+
+  pub plain-written : (convert : Family → List ℕ → List ℕ)
+      → convert (lent m (length a + 1 - 1) a b c ones) (take (length a + 1) u) ++ drop (length a + 1) output ≡ convert (family m a b c) u
+  plain-written convert =
       let lu : length u ≡ suc (length a) = input .curve .long in
-      let lo : length output ≡ suc (length a) = input .outputLength in
-      ap₂ (λ s t. s ++ t) (ap₂ convert first-rows (take-all n u (omega arith))) (drop-of-length-le output {i = n} (omega arith)) ∙ append-nil (convert f u)
+      written-whole _ output (length a + 1) (omega (arith, input .outputLength))
+      ∙ ap₂ convert (lent-family (input .accepted)) (take-all (length a + 1) u (omega arith))
+
+module _ {m : ℕ} {a b c : List ℕ} (output : List ℕ) (input : Acceptance.NormsInput (family m a b c) (length output)) where
+  pub norms-core : {v : List ℕ} → Inverted m 0 (length a) a v → NormsInput m v c (length a + 1) output
+  norms-core inverted =
+      norms-lent (accepted-long (input .accepted)) (accepted-lent (input .accepted)) inverted (omega (arith, input .outputLength))
+
+  pub norms-written : norms (lent m (length a + 1 - 1) a b c ones) ++ drop (length a + 1) output ≡ norms (family m a b c)
+  norms-written = written-whole _ output (length a + 1) (omega (arith, input .outputLength)) ∙ ap norms (lent-family (input .accepted))

@@ -4,12 +4,12 @@ ghost use mathlib.Core.Path.{_≡_};
 ghost use mathlib.Core.List.{List, [], _∷_};
 ghost use Prim.Native.Nat.{ℕ};
 ghost use lib.ListN.{length};
-ghost use Rattle.definitions.specs.Answers.{valued, Converted, ConvertedIn};
+ghost use Rattle.definitions.specs.Answers.{valued, PlainCall, NormsCall, ConvertedIn};
 ghost use Rattle.definitions.specs.Conversion.{expand, adjoint, decompose};
-ghost use Rattle.definitions.specs.Orthogonality.{moments, norms};
+ghost use Rattle.definitions.specs.Orthogonality.{moments};
 ghost use Rattle.definitions.specs.Family.{family};
 ghost use Rattle.definitions.specs.Number.{inverse};
-ghost use Rattle.definitions.specs.Refusals.{verdict, plainTests, treeTests, momentsTests, normsTests, inverseTests};
+ghost use Rattle.definitions.specs.Refusals.{verdict, treeTests, momentsTests, inverseTests};
 use definitions::Answer;
 use definitions::Valued;
 use residue::Inversion;
@@ -42,7 +42,8 @@ pub fn plain_expand(
     curve: &[u32],
     output: &mut [u32],
 ) -> Answer
-    ensures { λ r. ⌜ Converted (plainTests (family m (now (a .entry)) (now (b .entry)) (now (c .entry))) (now (curve .entry)) (length (now (output .entry)))) (expand (family m (now (a .entry)) (now (b .entry)) (now (c .entry))) (now (curve .entry))) r (now (output .entry)) (now (output .exit)) ⌝ }
+    ensures { λ r. ⌜ PlainCall expand (family m (now (a .entry)) (now (b .entry)) (now (c .entry))) (now (curve .entry)) r
+        (now (output .entry)) (now (output .exit)) ⌝ }
 {
     let tested = verdicts::plain(m, a, b, c, curve, output.len());
     let Answer::Finished = tested else {
@@ -62,7 +63,8 @@ pub fn plain_adjoint(
     curve: &[u32],
     output: &mut [u32],
 ) -> Answer
-    ensures { λ r. ⌜ Converted (plainTests (family m (now (a .entry)) (now (b .entry)) (now (c .entry))) (now (curve .entry)) (length (now (output .entry)))) (adjoint (family m (now (a .entry)) (now (b .entry)) (now (c .entry))) (now (curve .entry))) r (now (output .entry)) (now (output .exit)) ⌝ }
+    ensures { λ r. ⌜ PlainCall adjoint (family m (now (a .entry)) (now (b .entry)) (now (c .entry))) (now (curve .entry)) r
+        (now (output .entry)) (now (output .exit)) ⌝ }
 {
     let tested = verdicts::plain(m, a, b, c, curve, output.len());
     let Answer::Finished = tested else {
@@ -82,30 +84,32 @@ pub fn plain_decompose(
     coefficients: &[u32],
     output: &mut [u32],
 ) -> Answer
-    ensures { λ r. ⌜ Converted (plainTests (family m (now (a .entry)) (now (b .entry)) (now (c .entry))) (now (coefficients .entry)) (length (now (output .entry)))) (decompose (family m (now (a .entry)) (now (b .entry)) (now (c .entry))) (now (coefficients .entry))) r (now (output .entry)) (now (output .exit)) ⌝ }
+    ensures { λ r. ⌜ PlainCall decompose (family m (now (a .entry)) (now (b .entry)) (now (c .entry))) (now (coefficients .entry)) r
+        (now (output .entry)) (now (output .exit)) ⌝ }
 {
     let tested = verdicts::plain(m, a, b, c, coefficients, output.len());
     let Answer::Finished = tested else {
         return tested;
     };
-    let mut inverses = lists::zeros();
-    inverses::of_list(m, a, a.len(), &mut inverses);
-    plain::decompose(m, &inverses, b, c, coefficients, a.len() + 1, output);
+    let mut a_inverses = lists::zeros();
+    inverses::of_list(m, a, 0, a.len(), &mut a_inverses);
+    plain::decompose(m, &a_inverses, b, c, coefficients, a.len() + 1, output);
     Answer::Finished
 }
 
 // Norms: d_i = (-1)^i c_2 .. c_{i+1} / a_{i+1} for i from 0 to n - 1, with the closing row 1 1 1 as row n.
 // Refused with 3, 4, 5 and 7 (the station's program), and with 9 to 11 (the maker of the element).
 pub fn norms(m: u32, a: &[u32], b: &[u32], c: &[u32], output: &mut [u32]) -> Answer
-    ensures { λ r. ⌜ Converted (normsTests (family m (now (a .entry)) (now (b .entry)) (now (c .entry))) (length (now (output .entry)))) (norms (family m (now (a .entry)) (now (b .entry)) (now (c .entry)))) r (now (output .entry)) (now (output .exit)) ⌝ }
+    ensures { λ r. ⌜ NormsCall (family m (now (a .entry)) (now (b .entry)) (now (c .entry))) r
+        (now (output .entry)) (now (output .exit)) ⌝ }
 {
     let tested = verdicts::norms(m, a, b, c, output.len());
     let Answer::Finished = tested else {
         return tested;
     };
-    let mut inverses = lists::zeros();
-    inverses::of_list(m, a, a.len(), &mut inverses);
-    plain::norms(m, &inverses, c, 1, 1, a.len() + 1, output);
+    let mut a_inverses = lists::zeros();
+    inverses::of_list(m, a, 0, a.len(), &mut a_inverses);
+    plain::norms(m, &a_inverses, c, 1, 1, a.len() + 1, output);
     Answer::Finished
 }
 

@@ -2,9 +2,8 @@
 -- definition's list. Assumes nothing.
 use mathlib.Core.Path.{_∙_}
 use Rattle.definitions.specs.Conversion.{decompose}
-use Rattle.conversion.specs.InversesCore.{room, inverses-of, decompose-input}
-use Rattle.conversion.specs.PlainCall.{refusal-kept, tests-passed, plain-input}
-use Rattle.conversion.specs.PlainCore.{core-written}
+use Rattle.conversion.specs.PlainCall.{tests-refuse, tests-finish, plain-input}
+use Rattle.conversion.specs.PlainCore.{a-room, a-inverted, whole-inverts, decompose-core, plain-written}
 use borrow.Author.Needs.{needs}
 use Rattle.conversion.proofs.plain_decompose.Statement.{statement}
 use Rattle.conversion.proofs.plain_decompose.Tie as tie
@@ -19,7 +18,7 @@ enum-told-2 : tie.Need-enum-told-2
 enum-told-2 c = search needs
 
 returns : tie.Need-returns
-returns c = refusal-kept _ _ _ _ _ (c .before .before .plain .ensures) (c .enum-told2 .given .1)
+returns c = tests-refuse _ _ (c .before .before .plain .ensures) _ (c .enum-told2 .given .1)
 
 zeros-requires : tie.Need-zeros-requires
 zeros-requires c κs = search needs
@@ -28,7 +27,10 @@ slice-aggregate-of-list : tie.Need-slice-aggregate-of-list
 slice-aggregate-of-list c = search needs
 
 of-list-requires : tie.Need-of-list-requires
-of-list-requires c κs = room _ _ _ _ ((plain-input _ _ _ _ _ _ _ (c .before .before .before .before .plain .ensures) (c .before .before .enum-told .given .1)) .accepted) _ (c .before .zeros .ensures)
+of-list-requires c κs =
+    let passed = c .before .before in
+    let input = plain-input _ (passed .before .before .plain .ensures) (passed .enum-told .given .1) in
+    a-room (input .accepted) (c .before .zeros .ensures)
 
 slice-aggregate-decompose : tie.Need-slice-aggregate-decompose
 slice-aggregate-decompose c = search needs
@@ -38,20 +40,27 @@ add-decompose c = search needs
 
 decompose-requires : tie.Need-decompose-requires
 decompose-requires c κs =
-    let input = (plain-input _ _ _ _ _ _ _ (c .before .before .before .before .before .before .before .before .plain .ensures) (c .before .before .before .before .before .before .enum-told .given .1)) in
-    decompose-input _ _ _ _ (input .accepted) _ (c .before .before .before .before .before .zeros .ensures) _ (c .before .before .before .of-list .ensures) _ _ input
+    let filled = c .before .before .before in
+    let zeros = filled .before .before in
+    let passed = zeros .before in
+    let input = plain-input _ (passed .before .before .plain .ensures) (passed .enum-told .given .1) in
+    decompose-core _ input (a-inverted (input .accepted) (zeros .zeros .ensures) (filled .of-list .ensures))
 
 same-length : tie.Need-same-length
 same-length c = search needs
 
 returns-2 : tie.Need-returns-2
 returns-2 c =
-    let a = c .before .before .before .before .before .before .before .before .before .before .before .before .before .before .before .before .before .args in
-    let input = (plain-input _ _ _ _ _ _ _ (c .before .before .before .before .before .before .before .before .before .before .before .plain .ensures) (c .before .before .before .before .before .before .before .before .before .enum-told .given .1)) in
-    record {
-      answer = tests-passed _ _ (c .before .before .before .before .before .before .before .before .before .before .before .plain .ensures) (c .before .before .before .before .before .before .before .before .before .enum-told .given .1);
-      written = c .before .before .decompose .ensures (a .a .now) (inverses-of _ _ _ _ (input .accepted) _ (c .before .before .before .before .before .before .before .before .zeros .ensures) _ (c .before .before .before .before .before .before .of-list .ensures)) ∙ core-written _ _ _ _ _ (a .output .now) input decompose;
-    }
+    let filled = c .before .before .before .before .before .before in
+    let zeros = filled .before .before in
+    let passed = zeros .before in
+    let tested = passed .before .before in
+    let args = tested .before .before .before .before .before .before .args in
+    let input = plain-input _ (tested .plain .ensures) (passed .enum-told .given .1) in
+    let inverted = a-inverted (input .accepted) (zeros .zeros .ensures) (filled .of-list .ensures) in
+    tests-finish _ _ (tested .plain .ensures) (passed .enum-told .given .1)
+    (c .before .before .decompose .ensures (args .a .now) (whole-inverts (input .accepted) inverted)
+    ∙ plain-written (args .output .now) input decompose)
 
 pub plain-decompose-spec : {M : Type 1} → statement M
 plain-decompose-spec =

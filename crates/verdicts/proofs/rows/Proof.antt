@@ -1,6 +1,5 @@
 -- `rows` answers the verdict of tests 9, 10 and 11 of the family of three lists. Assumes that their shape is in order.
 use Rattle.verdicts.specs.Whole.{whole-lent, whole-rows}
-use borrow.Author.Needs.{needs}
 use Rattle.verdicts.proofs.rows.Statement.{statement}
 use Rattle.verdicts.proofs.rows.Tie as tie
 
