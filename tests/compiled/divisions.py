@@ -19,14 +19,14 @@ import sys
 # long one, one remainder has two. In more than one loop: Euclid's algorithm for each entry, to find whom to blame, and the root of a tree.
 TABLE = """
 products::add_products        1  0  0
-reciprocals::inverses         2  2  2
+inverses::of_list             2  2  2
 checks::invertible            1  2  2
 checks::family_rows           1  2  0
 subproduct::descend           1  0  0
 subproduct::build            10  0  0
 tree::expand                  1  1  0
 tree::adjoint                 2  0  0
-gram::moments                 1  0  0
+moment_way::moments           1  0  0
 conversion::norms             1  0  0
 conversion::tree_decompose    2  0  0
 zahupnik_invert               0  2  0

@@ -1,4 +1,4 @@
-/* The scope paper's figures P1 to P12, and examples for what they leave untouched: `four` of definitions and `eight` of theory, whose
+/* The scope paper's figures P1 to P12, and examples for what they leave untouched: `four` of definitions and `eight` of tree_model, whose
  * trees have levels; refusals of each operation; and job texts that are not of the form.
  */
 #ifndef FIGURES_H

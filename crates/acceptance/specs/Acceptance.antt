@@ -4,7 +4,7 @@
 -- Proved: none of a call's tests holds (`-passes`), and its verdict is finished (`-finished`), if and only if its input is of that
 -- kind; each row of an accepted family passes, the rows past its end as well; an accepted family is convertible.
 -- Assumes nothing.
-use mathlib.Core.Path.{_≡_, refl, sym}
+use mathlib.Core.Path.{_≡_}
 use mathlib.Core.List.{List, [], _∷_, _++_}
 use mathlib.Core.Logic.{_↔_, Iff·trans, by-cases}
 use Prim.Native.Nat.{ℕ, suc, _<_, _≤_}
@@ -14,8 +14,12 @@ use lib.ListN.{length, List·getD-eq-default}
 use Rattle.definitions.specs.Number.{HasInverse}
 use Rattle.definitions.specs.Family.{Family, Modulus, RowBelow, Accepted, Convertible, Curve, firstC, rows, rowAt, size}
 use Rattle.definitions.specs.Orthogonality.{momentCount}
-use Rattle.definitions.specs.Refusals.{Test, finished, verdict, workLength, curveLengthTest, outputTest, workTest, curveEntriesTest, shapeTests, familyShape, familyRows, plainTests, treeTests, momentsTests, normsTests, inverseTests}
-use Rattle.acceptance.specs.Verdicts.{None, none-append, verdict-finished, modulus-passes, lengths-pass, row-count-passes, entries-pass, a-inverses-pass, c-inverses-pass, curve-length-passes, curve-entries-pass, output-passes, work-passes, number-passes, number-inverse-passes}
+use Rattle.definitions.specs.Refusals.{Test, finished, verdict, workLength, curveLengthTest, outputTest}
+use Rattle.definitions.specs.Refusals.{workTest, curveEntriesTest, shapeTests, familyShape, familyRows}
+use Rattle.definitions.specs.Refusals.{plainTests, treeTests, momentsTests, normsTests, inverseTests}
+use Rattle.acceptance.specs.Verdicts.{None, none-append, verdict-finished, modulus-passes, lengths-pass, row-count-passes}
+use Rattle.acceptance.specs.Verdicts.{entries-pass, a-inverses-pass, c-inverses-pass, curve-length-passes}
+use Rattle.acceptance.specs.Verdicts.{curve-entries-pass, output-passes, work-passes, number-passes, number-inverse-passes}
 
 -- rows past the end are the closing row, which is row n
 module _ (f : Family) (acc : Accepted f) where
@@ -36,7 +40,11 @@ module _ (f : Family) (acc : Accepted f) where
 
   pub accepted-convertible : Convertible f
   accepted-convertible =
-      record { modulus = acc .modulus .least; aInverse = acc .aInverse; cInverse = λ i h. acc .cInverse (suc i) (omega arith) (omega arith) }
+      record {
+        modulus = acc .modulus .least;
+        aInverse = acc .aInverse;
+        cInverse = λ i h. acc .cInverse (suc i) (omega arith) (omega arith);
+      }
 
 pub curve-accepted : (f : Family) (u : List ℕ) → None (curveLengthTest (size f) (length u) ∷ curveEntriesTest f u ∷ []) ↔ Curve f u
 curve-accepted f u = (
@@ -129,7 +137,8 @@ module _ (f : Family) where
   pub tree-passes : (u : List ℕ) (output work : ℕ) → None (treeTests f u output work) ↔ TreeInput f u output work
   unfolding treeTests
   tree-passes u output work =
-      Iff·trans (call-passes (curveLengthTest (size f) (length u) ∷ outputTest (size f) output ∷ workTest work ∷ []) (curveEntriesTest f u ∷ []))
+      Iff·trans (call-passes (curveLengthTest (size f) (length u) ∷ outputTest (size f) output ∷ workTest work ∷ [])
+      (curveEntriesTest f u ∷ []))
       (simp (output-passes, work-passes) (
         λ p.
             record {
@@ -180,7 +189,10 @@ inverse-passes m x = (to, from)
         record { modulus = modulus; below = number-passes m x .0 e12; hasInverse = number-inverse-passes m x (omega arith) .0 e13 }
 
     from : InverseInput m x → None (inverseTests m x)
-    from p = (modulus-passes m .1 (p .modulus), (number-passes m x .1 (p .below), (number-inverse-passes m x (omega arith) .1 (p .hasInverse), tt)))
+    from p = (
+      modulus-passes m .1 (p .modulus),
+      (number-passes m x .1 (p .below), (number-inverse-passes m x (omega arith) .1 (p .hasInverse), tt)),
+    )
 
 pub inverse-finished : (m x : ℕ) (values : List ℕ) → (verdict (inverseTests m x) values ≡ finished values) ↔ InverseInput m x
 inverse-finished m x values = Iff·trans (verdict-finished (inverseTests m x) values) (inverse-passes m x)

@@ -1,5 +1,10 @@
--- The tests of the calls as plain facts, how they are made stage by stage, and what a call that finishes has been lent.
+-- The tests of the calls:
+--   Verdicts     each test as a plain fact, and verdicts settled test by test
+--   Stages       how a call makes its tests stage by stage
+--   Given        which numbers its tests can give
+--   Acceptance   what a call that finishes has been lent
 -- Assumes nothing.
 pub mod Verdicts
 pub mod Stages
+pub mod Given
 pub mod Acceptance

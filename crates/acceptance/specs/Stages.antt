@@ -7,7 +7,7 @@ use mathlib.Core.Path.{_≡_, refl, sym, _∙_, ap}
 use mathlib.Core.List.{List, [], _++_}
 use Prim.Native.Nat.{ℕ}
 use Rattle.definitions.specs.Answers.{answered, after}
-use Rattle.definitions.specs.Refusals.{Test, Verdict, refused, verdict}
+use Rattle.definitions.specs.Refusals.{Test, refused, verdict}
 use Rattle.definitions.specs.declared.Answer.{Answer}
 use Rattle.acceptance.specs.Verdicts.{None, verdict-finished, verdict-stops, verdict-goes-on}
 
@@ -21,7 +21,8 @@ all-remain = record { same = λ values. refl }
 pub stage-none : (stage : List Test) (r : Answer) → answered r ≡ verdict stage [] → r ≡ Answer.Finished → None stage
 stage-none stage r is q = verdict-finished stage [] .0 (sym is ∙ ap answered q)
 
-module _ {all : List Test} (stage rest : List Test) (left : Remaining all (stage ++ rest)) (r : Answer) (is : answered r ≡ verdict stage []) where
+module _ {all : List Test} (stage rest : List Test) (left : Remaining all (stage ++ rest)) (r : Answer)
+    (is : answered r ≡ verdict stage []) where
   -- whatever values the call would hand out
   pub stage-refuses-with : (values : List ℕ) (k : ℕ) → r ≡ Answer.Refused k → refused k ≡ verdict all values
   stage-refuses-with values k q = sym (verdict-stops rest values stage [] k (sym is ∙ ap answered q)) ∙ left .same values
@@ -39,3 +40,7 @@ stages-end stage left r is = is ∙ left .same []
 -- what a refusal leaves
 pub list-stays : (r : Answer) (k : ℕ) (new old : List ℕ) → r ≡ Answer.Refused k → old ≡ after (answered r) new old
 list-stays r k new old q = sym (ap (λ x. after (answered x) new old) q)
+
+-- what a call that finishes writes
+pub list-new : (tests : List Test) → None tests → (new old : List ℕ) → after (verdict tests []) new old ≡ new
+list-new tests none new old = ap (λ v. after v new old) (verdict-finished tests [] .1 none)

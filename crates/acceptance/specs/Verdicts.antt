@@ -17,7 +17,9 @@ use lib.ListN.{length, getD}
 use borrow.Author.Tests.{eq-eqb, eqb-true, le-ltb, leb-false, lt-leb, ltb-false, not-false}
 use Rattle.definitions.specs.Number.{HasInverse, inverse}
 use Rattle.definitions.specs.Family.{Row, Family, Modulus, RowBelow, mostRows, size, rowAt}
-use Rattle.definitions.specs.Refusals.{Test, Verdict, finished, refused, verdict, some, someFrom, someRow, differ, notBelow, noInverse, workLength, modulusTest, lengthsTest, rowCountTest, curveLengthTest, outputTest, workTest, entriesTest, aInverseTest, cInverseTest, curveEntriesTest, numberTest, numberInverseTest}
+use Rattle.definitions.specs.Refusals.{Test, Verdict, finished, refused, verdict, some, someFrom, someRow, differ, notBelow, noInverse}
+use Rattle.definitions.specs.Refusals.{workLength, modulusTest, lengthsTest, rowCountTest, curveLengthTest, outputTest, workTest}
+use Rattle.definitions.specs.Refusals.{entriesTest, aInverseTest, cInverseTest, curveEntriesTest, numberTest, numberInverseTest}
 use Rattle.numbers.specs.Inverse.{inverse-right}
 use Rattle.numbers.specs.Lists.{Each}
 
@@ -42,9 +44,12 @@ unfolding verdict
 verdict-finished [] values = (λ e. tt, λ n. refl)
 verdict-finished (t ∷ ts) values = split (t .holds) refl (verdict-finished ts values)
   where
-    split : (h : Bool) → t .holds ≡ h → (verdict ts values ≡ finished values) ↔ None ts → (verdict (t ∷ ts) values ≡ finished values) ↔ None (t ∷ ts)
-    split true q rest =
-        (λ e. absurd (refused-not-finished (t .number) values (sym (verdict-here t ts values q) ∙ e)), λ n. absurd (true≢false (sym q ∙ n .0)))
+    split : (h : Bool) → t .holds ≡ h → (verdict ts values ≡ finished values) ↔ None ts
+        → (verdict (t ∷ ts) values ≡ finished values) ↔ None (t ∷ ts)
+    split true q rest = (
+      λ e. absurd (refused-not-finished (t .number) values (sym (verdict-here t ts values q) ∙ e)),
+      λ n. absurd (true≢false (sym q ∙ n .0)),
+    )
     split false q rest = rw (verdict-next t ts values q) (λ e. (q, rest .0 e), λ n. rest .1 (n .1))
 
 -- a verdict, with the values that it gives if finished
@@ -75,7 +80,8 @@ module _ (us : List Test) (values : List ℕ) where
   verdict-stops [] before k e = absurd (refused-not-finished k before (sym e))
   verdict-stops (t ∷ ts) before k e = split (t .holds) refl (verdict-stops ts before k)
     where
-      split : (h : Bool) → t .holds ≡ h → (verdict ts before ≡ refused k → verdict (ts ++ us) values ≡ refused k) → verdict (t ∷ ts ++ us) values ≡ refused k
+      split : (h : Bool) → t .holds ≡ h → (verdict ts before ≡ refused k → verdict (ts ++ us) values ≡ refused k)
+          → verdict (t ∷ ts ++ us) values ≡ refused k
       split true q rest = verdict-here t (ts ++ us) values q ∙ sym (verdict-here t ts before q) ∙ e
       split false q rest = verdict-next t (ts ++ us) values q ∙ rest (sym (verdict-next t ts before q) ∙ e)
 
@@ -130,14 +136,16 @@ some-false passes (x ∷ xs) d = split (passes x) refl (some-false passes xs d)
         to e (suc i) h = rest .0 e i (le-of-suc-le-suc h)
 
 pub some-true : (passes : ℕ → Bool) (xs : List ℕ) (i d : ℕ) → i < length xs → passes (getD xs i d) ≡ true → some passes xs ≡ true
-some-true passes xs i d h e = not-eq-not {a = some passes xs} {b = true} .0 (λ none. true≢false (sym e ∙ some-false passes xs d .0 none i h))
+some-true passes xs i d h e = not-eq-not {a = some passes xs} {b = true} .0
+    (λ none. true≢false (sym e ∙ some-false passes xs d .0 none i h))
 
 -- the tests of numbers and of rows from a place on
 from-here : (passes : ℕ → Bool) (first count : ℕ) → passes first ≡ true → someFrom passes first (suc count) ≡ true
 unfolding someFrom
 from-here passes first count e = rw (e, someFrom)
 
-from-next : (passes : ℕ → Bool) (first count : ℕ) → passes first ≡ false → someFrom passes first (suc count) ≡ someFrom passes (suc first) count
+from-next : (passes : ℕ → Bool) (first count : ℕ) → passes first ≡ false
+    → someFrom passes first (suc count) ≡ someFrom passes (suc first) count
 unfolding someFrom
 from-next passes first count e = rw (e, someFrom)
 
@@ -220,7 +228,8 @@ module _ (f : Family) where
     λ all i l h. below (rowAt f i) .1 (all i h),
   )
     where
-      below : (row : Row) → ((notBelow (f .m) (row .a) || notBelow (f .m) (row .b) || notBelow (f .m) (row .c)) ≡ false) ↔ RowBelow (f .m) row
+      below : (row : Row) → ((notBelow (f .m) (row .a) || notBelow (f .m) (row .b) || notBelow (f .m) (row .c)) ≡ false)
+          ↔ RowBelow (f .m) row
       below row = simp (or-false, notBelow-false) (
         λ p. record { aBelow = p .0 .0; bBelow = p .0 .1; cBelow = p .1 },
         λ h. ((h .aBelow, h .bBelow), h .cBelow),

@@ -52,7 +52,8 @@ module _ (R : CommRing) where
   pub diag-mul-left : (n : ℕ) (c : Car) (f : ℕ → ℕ → Car) → diag n (λ i j. c ⊗ f i j) ≡ c ⊗ diag n f
   unfolding diag
   diag-mul-left zero c f = refl
-  diag-mul-left (suc n) c f = ap (λ t. c ⊗ f 0 (suc n) ⊕ t) (diag-mul-left n c (λ i j. f (suc i) j)) ∙ sym (mul-add c (f 0 (suc n)) (diag n (λ i j. f (suc i) j)))
+  diag-mul-left (suc n) c f = ap (λ t. c ⊗ f 0 (suc n) ⊕ t) (diag-mul-left n c (λ i j. f (suc i) j))
+      ∙ sym (mul-add c (f 0 (suc n)) (diag n (λ i j. f (suc i) j)))
 
   pub diag-mul-right : (n : ℕ) (f : ℕ → ℕ → Car) (c : Car) → diag n (λ i j. f i j ⊗ c) ≡ diag n f ⊗ c
   diag-mul-right n f c = diag-cong n (λ i j e. mul-comm (f i j) c) ∙ diag-mul-left n c f ∙ mul-comm c (diag n f)
@@ -61,7 +62,8 @@ module _ (R : CommRing) where
   pub diag-flip : (n : ℕ) (f : ℕ → ℕ → Car) → diag n (λ i j. f j i) ≡ diag n f
   unfolding diag
   diag-flip zero f = refl
-  diag-flip (suc n) f = ap (λ t. f (suc n) 0 ⊕ t) (diag-flip n (λ i j. f i (suc j))) ∙ add-comm (f (suc n) 0) (diag n (λ i j. f i (suc j))) ∙ sym (diag-last n f)
+  diag-flip (suc n) f = ap (λ t. f (suc n) 0 ⊕ t) (diag-flip n (λ i j. f i (suc j)))
+      ∙ add-comm (f (suc n) 0) (diag n (λ i j. f i (suc j))) ∙ sym (diag-last n f)
 
   -- the triples i + j + k = n, either way
   pub diag-assoc : (n : ℕ) (f : ℕ → ℕ → ℕ → Car) → diag n (λ s k. diag s (λ i j. f i j k)) ≡ diag n (λ i t. diag t (λ j k. f i j k))
@@ -75,5 +77,6 @@ module _ (R : CommRing) where
   pub diag-sum : (n : ℕ) (f : ℕ → ℕ → Car) → diag n f ≡ sum R (suc n) (λ i. f i (n - i))
   unfolding diag sum
   diag-sum zero f = sym (Ring.zero-add R (f 0 0))
-  diag-sum (suc n) f = ap₂ _⊕_ (ap (f 0) (omega arith)) (diag-sum n (λ i j. f (suc i) j) ∙ sum-cong R (suc n) (λ i p. ap (f (suc i)) (omega arith)))
+  diag-sum (suc n) f = ap₂ _⊕_ (ap (f 0) (omega arith))
+      (diag-sum n (λ i j. f (suc i) j) ∙ sum-cong R (suc n) (λ i p. ap (f (suc i)) (omega arith)))
       ∙ sym (sum-first R (suc n) (λ i. f i (suc n - i)))

@@ -39,7 +39,11 @@ merge (i ∷ m) n = insert i (merge m n)
 abbrev pub addTerm : ℕ → ℕ → List ℕ → Poly → Poly
 addTerm p q m done = term p q m done
 addTerm p q m (term p′ q′ m′ s) =
-    elim (order m m′) [ Ordering·lt ↦ term p q m (term p′ q′ m′ s) | Ordering·eq ↦ term (p + p′) (q + q′) m s | Ordering·gt ↦ term p′ q′ m′ (addTerm p q m s) ]
+    elim (order m m′) [
+      | Ordering·lt ↦ term p q m (term p′ q′ m′ s)
+      | Ordering·eq ↦ term (p + p′) (q + q′) m s
+      | Ordering·gt ↦ term p′ q′ m′ (addTerm p q m s)
+    ]
 
 abbrev pub plus : Poly → Poly → Poly
 plus done t = t
@@ -69,7 +73,8 @@ normal (neg a) = negate (normal a)
 -- without the terms whose two coefficients agree
 abbrev pub cancelled : Poly → Poly
 cancelled done = done
-cancelled (term p q m s) = elim (compare p q) [ Ordering·lt ↦ term p q m (cancelled s) | Ordering·eq ↦ cancelled s | Ordering·gt ↦ term p q m (cancelled s) ]
+cancelled (term p q m s) = elim (compare p q)
+    [ Ordering·lt ↦ term p q m (cancelled s) | Ordering·eq ↦ cancelled s | Ordering·gt ↦ term p q m (cancelled s) ]
 
 abbrev pub leftOver : Expr → Expr → Poly
 leftOver a b = cancelled (normal (add a (neg b)))

@@ -28,7 +28,8 @@ module _ {R S : CommRing} (φ : RingMap R S) where
   open RingMap φ using (to, to-one, to-add, to-mul)
 
   pub map-zero : to (R .zero) ≡ S .zero
-  map-zero = Ring.add-cancel S (to (R .zero)) (S .zero) (to (R .zero)) (sym (to-add (R .zero) (R .zero)) ∙ ap to (R .add-zero (R .zero)) ∙ sym (Ring.zero-add S (to (R .zero))))
+  map-zero = Ring.add-cancel S (to (R .zero)) (S .zero) (to (R .zero))
+      (sym (to-add (R .zero) (R .zero)) ∙ ap to (R .add-zero (R .zero)) ∙ sym (Ring.zero-add S (to (R .zero))))
 
   pub map-neg : (a : R .Car) → to (R .neg a) ≡ S .neg (to a)
   map-neg a = sym (Ring.neg-unique S (to a) (to (R .neg a)) (sym (to-add a (R .neg a)) ∙ ap to (R .add-neg a) ∙ map-zero))
@@ -41,7 +42,8 @@ module _ {R S : CommRing} (φ : RingMap R S) where
   pub map-diag : (n : ℕ) (f : ℕ → ℕ → R .Car) → to (diag R n f) ≡ diag S n (λ i j. to (f i j))
   unfolding diag
   map-diag zero f = refl
-  map-diag (suc n) f = to-add (f 0 (suc n)) (diag R n (λ i j. f (suc i) j)) ∙ ap (λ t. S .add (to (f 0 (suc n))) t) (map-diag n (λ i j. f (suc i) j))
+  map-diag (suc n) f = to-add (f 0 (suc n)) (diag R n (λ i j. f (suc i) j))
+      ∙ ap (λ t. S .add (to (f 0 (suc n))) t) (map-diag n (λ i j. f (suc i) j))
 
   pub map-product : (n : ℕ) (f : ℕ → R .Car) → to (product R n f) ≡ product S n (λ i. to (f i))
   unfolding product
@@ -79,8 +81,10 @@ module _ {R S : CommRing} (φ : RingMap R S) where
     to-one = ser-ext S one-at;
     to-add = λ f g. ser-ext S (λ n. co-onSeries ((Ser R) .add f g) n ∙ ap to (co-add R f g n) ∙ to-add (co R f n) (co R g n)
         ∙ sym (co-add S (onSeries f) (onSeries g) n ∙ ap₂ (S .add) (co-onSeries f n) (co-onSeries g n)));
-    to-mul = λ f g. ser-ext S (λ n. co-onSeries ((Ser R) .mul f g) n ∙ ap to (co-mul R f g n) ∙ map-diag φ n (λ i j. R .mul (co R f i) (co R g j))
-        ∙ diag-cong S n (λ i j e. to-mul (co R f i) (co R g j) ∙ sym (ap₂ (S .mul) (co-onSeries f i) (co-onSeries g j))) ∙ sym (co-mul S (onSeries f) (onSeries g) n));
+    to-mul = λ f g. ser-ext S
+        (λ n. co-onSeries ((Ser R) .mul f g) n ∙ ap to (co-mul R f g n) ∙ map-diag φ n (λ i j. R .mul (co R f i) (co R g j))
+        ∙ diag-cong S n (λ i j e. to-mul (co R f i) (co R g j) ∙ sym (ap₂ (S .mul) (co-onSeries f i) (co-onSeries g j)))
+        ∙ sym (co-mul S (onSeries f) (onSeries g) n));
   }
     where
       one-at : (n : ℕ) → co S (onSeries ((Ser R) .one)) n ≡ co S ((Ser S) .one) n
@@ -106,4 +110,5 @@ module _ {R S : CommRing} (φ : RingMap R S) where
     where
       at : (n : ℕ) → co S (series .to (X R)) n ≡ co S (X S) n
       at zero = co-series (X R) 0 ∙ ap to (co-X-zero R) ∙ map-zero φ ∙ sym (co-X-zero S)
-      at (suc n) = co-series (X R) (suc n) ∙ ap to (co-X-suc R n) ∙ sym (co-series ((Ser R) .one) n) ∙ ap (λ s. co S s n) (series .to-one) ∙ sym (co-X-suc S n)
+      at (suc n) = co-series (X R) (suc n) ∙ ap to (co-X-suc R n) ∙ sym (co-series ((Ser R) .one) n)
+          ∙ ap (λ s. co S s n) (series .to-one) ∙ sym (co-X-suc S n)

@@ -34,5 +34,6 @@ module _ (R : CommRing) where
   pub numeral-mul : (a b : ℕ) → numeral (a * b) ≡ numeral a ⊗ numeral b
   unfolding numeral
   numeral-mul zero b = ap numeral (Nat.zero-mul b) ∙ sym (Ring.zero-mul R (numeral b))
-  numeral-mul (suc a) b = ap numeral (Nat.suc-mul a b) ∙ numeral-add (a * b) b ∙ ap₂ _⊕_ (numeral-mul a b) (sym (Ring.one-mul R (numeral b)))
+  numeral-mul (suc a) b = ap numeral (Nat.suc-mul a b) ∙ numeral-add (a * b) b
+      ∙ ap₂ _⊕_ (numeral-mul a b) (sym (Ring.one-mul R (numeral b)))
       ∙ sym (Ring.add-mul R (numeral a) 𝟙 (numeral b))

@@ -51,7 +51,8 @@ module _ (R : CommRing) where
   term-vanishes k l f g v w i j (inr p) = ap (λ t. co R f i ⊗ t) (w j p) ∙ Ring.mul-zero R (co R f i)
 
   pub vanishes-mul : (k l : ℕ) (f g : Series) → VanishesBelow k f → VanishesBelow l g → VanishesBelow (k +ℕ l) (f * g)
-  vanishes-mul k l f g v w n p = co-mul R f g n ∙ diag-vanish R n (λ i j e. term-vanishes k l f g v w i j (elim (decLt i k) [ yes q ↦ inl q | no q ↦ inr (omega arith) ]))
+  vanishes-mul k l f g v w n p = co-mul R f g n
+      ∙ diag-vanish R n (λ i j e. term-vanishes k l f g v w i j (elim (decLt i k) [ yes q ↦ inl q | no q ↦ inr (omega arith) ]))
 
   pub vanishes-mul-left : (k : ℕ) (f g : Series) → VanishesBelow k f → VanishesBelow k (f * g)
   vanishes-mul-left k f g v n p = vanishes-mul k 0 f g v (vanishes-zero g) n (omega arith)
@@ -62,7 +63,8 @@ module _ (R : CommRing) where
 
   -- the lowest coefficient of a product
   pub co-mul-lowest : (k l : ℕ) (f g : Series) → VanishesBelow k f → VanishesBelow l g → co R (f * g) (k +ℕ l) ≡ co R f k ⊗ co R g l
-  co-mul-lowest k l f g v w = co-mul-sum R f g (k +ℕ l) ∙ sum-single R (suc (k +ℕ l)) k (λ i. co R f i ⊗ co R g ((k +ℕ l) -ℕ i)) (omega arith) other ∙ ap (λ t. co R f k ⊗ co R g t) rest
+  co-mul-lowest k l f g v w = co-mul-sum R f g (k +ℕ l)
+      ∙ sum-single R (suc (k +ℕ l)) k (λ i. co R f i ⊗ co R g ((k +ℕ l) -ℕ i)) (omega arith) other ∙ ap (λ t. co R f k ⊗ co R g t) rest
     where
       other : (i : ℕ) → i < suc (k +ℕ l) → ¬ (i ≡ k) → co R f i ⊗ co R g ((k +ℕ l) -ℕ i) ≡ 𝟘
       other i p z = term-vanishes k l f g v w i ((k +ℕ l) -ℕ i) (elim (decLt i k) [ yes q ↦ inl q | no q ↦ inr (omega arith) ])
@@ -76,8 +78,10 @@ module _ (R : CommRing) where
   -- ---- quotients
   pub vanishes-of-mul : (k : ℕ) (f g : Series) → IsUnit R (co R g 0) → VanishesBelow k (f * g) → VanishesBelow k f
   vanishes-of-mul zero f g u v n p = vanishes-zero f n p
-  vanishes-of-mul (suc k) f g u v n p = at (vanishes-of-mul k f g u (λ n p. v n (omega arith))) (Nat.eq-or-lt-of-le (Nat.le-of-suc-le-suc p))
+  vanishes-of-mul (suc k) f g u v n p = at (vanishes-of-mul k f g u (λ n p. v n (omega arith)))
+      (Nat.eq-or-lt-of-le (Nat.le-of-suc-le-suc p))
     where
       at : VanishesBelow k f → (n ≡ k) ⊎ (n < k) → co R f n ≡ 𝟘
-      at low (inl e) = ap (co R f) e ∙ unit-cancel-zero R (co R f k) u (R .mul-comm (co R g 0) (co R f k) ∙ sym (co-mul-lowest-left k f g low) ∙ v k (omega arith))
+      at low (inl e) = ap (co R f) e ∙ unit-cancel-zero R (co R f k) u
+          (R .mul-comm (co R g 0) (co R f k) ∙ sym (co-mul-lowest-left k f g low) ∙ v k (omega arith))
       at low (inr q) = low n q

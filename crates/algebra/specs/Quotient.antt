@@ -34,7 +34,8 @@ module _ (R : CommRing) where
         ∙ ap (λ t. sum R k (λ j. co R q j ⊗ co R f (k -ℕ j)) ⊕ co R q k ⊗ co R f t) (Nat.sub-self k)
 
     pub mul-of-steps : (g q : Series) (n : ℕ) → ((k : ℕ) → k < n → QuotientStep g q k) → AgreeBelow R n (q * f) g
-    mul-of-steps g q n s k p = co-mul-last q k ∙ linear R (σ ∷ co R q k ∷ co R g k ∷ f₀ ∷ f₀⁻¹ ∷ []) (both R (scaled R f₀ (s k p)) (scaled R (co R g k ⊕ ⊖ σ) (u .1))) (search reify depth 20) tt
+    mul-of-steps g q n s k p = co-mul-last q k ∙ linear R (σ ∷ co R q k ∷ co R g k ∷ f₀ ∷ f₀⁻¹ ∷ [])
+        (both R (scaled R f₀ (s k p)) (scaled R (co R g k ⊕ ⊖ σ) (u .1))) (search reify depth 20) tt
       where
         σ : Car
         σ = sum R k (λ j. co R q j ⊗ co R f (k -ℕ j))

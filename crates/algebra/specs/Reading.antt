@@ -90,25 +90,36 @@ module _ (R : CommRing) where
   abbrev pub atom12 : {a b c d e f g h i j k l x : Car} {ρ : List Car} → Read (a ∷ b ∷ c ∷ d ∷ e ∷ f ∷ g ∷ h ∷ i ∷ j ∷ k ∷ l ∷ x ∷ ρ) x
   atom12 = read-atom 12 refl
 
-  abbrev pub atom13 : {a b c d e f g h i j k l m x : Car} {ρ : List Car} → Read (a ∷ b ∷ c ∷ d ∷ e ∷ f ∷ g ∷ h ∷ i ∷ j ∷ k ∷ l ∷ m ∷ x ∷ ρ) x
+  abbrev pub atom13 : {a b c d e f g h i j k l m x : Car} {ρ : List Car}
+      → Read (a ∷ b ∷ c ∷ d ∷ e ∷ f ∷ g ∷ h ∷ i ∷ j ∷ k ∷ l ∷ m ∷ x ∷ ρ) x
   atom13 = read-atom 13 refl
 
-  abbrev pub atom14 : {a b c d e f g h i j k l m n x : Car} {ρ : List Car} → Read (a ∷ b ∷ c ∷ d ∷ e ∷ f ∷ g ∷ h ∷ i ∷ j ∷ k ∷ l ∷ m ∷ n ∷ x ∷ ρ) x
+  abbrev pub atom14 : {a b c d e f g h i j k l m n x : Car} {ρ : List Car}
+      → Read (a ∷ b ∷ c ∷ d ∷ e ∷ f ∷ g ∷ h ∷ i ∷ j ∷ k ∷ l ∷ m ∷ n ∷ x ∷ ρ) x
   atom14 = read-atom 14 refl
 
-  abbrev pub atom15 : {a b c d e f g h i j k l m n o x : Car} {ρ : List Car} → Read (a ∷ b ∷ c ∷ d ∷ e ∷ f ∷ g ∷ h ∷ i ∷ j ∷ k ∷ l ∷ m ∷ n ∷ o ∷ x ∷ ρ) x
+  abbrev pub atom15 : {a b c d e f g h i j k l m n o x : Car} {ρ : List Car}
+      → Read (a ∷ b ∷ c ∷ d ∷ e ∷ f ∷ g ∷ h ∷ i ∷ j ∷ k ∷ l ∷ m ∷ n ∷ o ∷ x ∷ ρ) x
   atom15 = read-atom 15 refl
 
-  abbrev pub atom16 : {a b c d e f g h i j k l m n o p x : Car} {ρ : List Car} → Read (a ∷ b ∷ c ∷ d ∷ e ∷ f ∷ g ∷ h ∷ i ∷ j ∷ k ∷ l ∷ m ∷ n ∷ o ∷ p ∷ x ∷ ρ) x
+  abbrev pub atom16 : {a b c d e f g h i j k l m n o p x : Car} {ρ : List Car}
+      → Read (a ∷ b ∷ c ∷ d ∷ e ∷ f ∷ g ∷ h ∷ i ∷ j ∷ k ∷ l ∷ m ∷ n ∷ o ∷ p ∷ x ∷ ρ) x
   atom16 = read-atom 16 refl
 
-  abbrev pub atom17 : {a b c d e f g h i j k l m n o p q x : Car} {ρ : List Car} → Read (a ∷ b ∷ c ∷ d ∷ e ∷ f ∷ g ∷ h ∷ i ∷ j ∷ k ∷ l ∷ m ∷ n ∷ o ∷ p ∷ q ∷ x ∷ ρ) x
+  abbrev pub atom17 : {a b c d e f g h i j k l m n o p q x : Car} {ρ : List Car}
+      → Read (a ∷ b ∷ c ∷ d ∷ e ∷ f ∷ g ∷ h ∷ i ∷ j ∷ k ∷ l ∷ m ∷ n ∷ o ∷ p ∷ q ∷ x ∷ ρ) x
   atom17 = read-atom 17 refl
 
-  abbrev pub atom18 : {a b c d e f g h i j k l m n o p q r x : Car} {ρ : List Car} → Read (a ∷ b ∷ c ∷ d ∷ e ∷ f ∷ g ∷ h ∷ i ∷ j ∷ k ∷ l ∷ m ∷ n ∷ o ∷ p ∷ q ∷ r ∷ x ∷ ρ) x
+  abbrev pub atom18 : {a b c d e f g h i j k l m n o p q r x : Car} {ρ : List Car}
+      → Read (a ∷ b ∷ c ∷ d ∷ e ∷ f ∷ g ∷ h ∷ i ∷ j ∷ k ∷ l ∷ m ∷ n ∷ o ∷ p ∷ q ∷ r ∷ x ∷ ρ) x
   atom18 = read-atom 18 refl
 
-  abbrev pub atom19 : {a b c d e f g h i j k l m n o p q r s x : Car} {ρ : List Car} → Read (a ∷ b ∷ c ∷ d ∷ e ∷ f ∷ g ∷ h ∷ i ∷ j ∷ k ∷ l ∷ m ∷ n ∷ o ∷ p ∷ q ∷ r ∷ s ∷ x ∷ ρ) x
+  abbrev pub atom19 : {a b c d e f g h i j k l m n o p q r s x : Car} {ρ : List Car}
+      → Read (a ∷ b ∷ c ∷ d ∷ e ∷ f ∷ g ∷ h ∷ i ∷ j ∷ k ∷ l ∷ m ∷ n ∷ o ∷ p ∷ q ∷ r ∷ s ∷ x ∷ ρ) x
   atom19 = read-atom 19 refl
 
-pub ruleset reify = (sides, read-add, read-mul, read-neg, read-zero, read-one, read-numeral, atom0, atom1, atom2, atom3, atom4, atom5, atom6, atom7, atom8, atom9, atom10, atom11, atom12, atom13, atom14, atom15, atom16, atom17, atom18, atom19)
+pub ruleset atoms-below-ten = (atom0, atom1, atom2, atom3, atom4, atom5, atom6, atom7, atom8, atom9)
+
+pub ruleset atoms-from-ten = (atom10, atom11, atom12, atom13, atom14, atom15, atom16, atom17, atom18, atom19)
+
+pub ruleset reify = (sides, read-add, read-mul, read-neg, read-zero, read-one, read-numeral, atoms-below-ten, atoms-from-ten)

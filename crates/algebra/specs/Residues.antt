@@ -3,15 +3,16 @@
 --   res m pos x : the residue of the number x
 --   val m pos a : the number below m whose residue is a
 -- Proves that res keeps 0, 1, +, *, %, negatives and sums, that residues are equal just if the remainders are,
--- and that a number whose residue is a unit has an inverse modulo m. `pos : 0 < m` is a parameter of all of it: two proofs of it are not equal by
--- computation, so a statement about Zmod should quantify over the proof.
+-- and that a number whose residue is a unit has an inverse modulo m. `pos : 0 < m` is a parameter of all of it:
+-- two proofs of it are not equal by computation, so a statement about Zmod should quantify over the proof.
 -- Assumes nothing.
 use mathlib.Core.Path.{_≡_, refl, sym, _∙_, ap}
 use mathlib.Core.HLevel.{Σ-prop-path, Σ-set, hedberg, prop→set}
 use Prim.Native.Nat.{ℕ, zero, suc, _+_, _*_, _-_, _/_, _%_, _<_}
 use native.Mathlib.Bridge.{le-prop}
 use native.Mathlib.Decide.{ℕ-discrete}
-use native.Mathlib.Nat.{mod-lt, mod-add-mod, add-mod-mod, mod-add-div, add-mul-mod-self-left, mod-eq-of-lt, mod-self, mod-mod, zero-mod, add-assoc, add-comm, add-zero, mul-assoc, mul-comm, mul-one, mul-add}
+use native.Mathlib.Nat.{mod-lt, mod-add-mod, add-mod-mod, mod-add-div, add-mul-mod-self-left, mod-eq-of-lt, mod-self}
+use native.Mathlib.Nat.{mod-mod, zero-mod, add-assoc, add-comm, add-zero, mul-assoc, mul-comm, mul-one, mul-add}
 use native.Mathlib.Omega.{arith}
 use Rattle.algebra.specs.Ring
 use Rattle.algebra.specs.Ring.{CommRing}
@@ -52,11 +53,13 @@ module _ (m : ℕ) (pos : 0 < m) where
     add = λ a b. remainder (a .0 + b .0);
     mul = λ a b. remainder (a .0 * b .0);
     neg = λ a. remainder (m - a .0);
-    add-assoc = λ a b c. below-eq (mod-add-mod (a .0 + b .0) m (c .0) ∙ ap (λ t. t % m) (add-assoc (a .0) (b .0) (c .0)) ∙ sym (add-mod-mod (a .0) (b .0 + c .0) m));
+    add-assoc = λ a b c. below-eq (mod-add-mod (a .0 + b .0) m (c .0) ∙ ap (λ t. t % m) (add-assoc (a .0) (b .0) (c .0))
+        ∙ sym (add-mod-mod (a .0) (b .0 + c .0) m));
     add-comm = λ a b. below-eq (ap (λ t. t % m) (add-comm (a .0) (b .0)));
     add-zero = λ a. below-eq (add-mod-mod (a .0) 0 m ∙ ap (λ t. t % m) (add-zero (a .0)) ∙ mod-eq-of-lt (a .1));
     add-neg = λ a. below-eq (add-mod-mod (a .0) (m - a .0) m ∙ ap (λ t. t % m) (add-complement a) ∙ mod-self m ∙ sym (zero-mod m));
-    mul-assoc = λ a b c. below-eq (mod-mul-mod (a .0 * b .0) (c .0) m ∙ ap (λ t. t % m) (mul-assoc (a .0) (b .0) (c .0)) ∙ sym (mul-mod-mod (a .0) (b .0 * c .0) m));
+    mul-assoc = λ a b c. below-eq (mod-mul-mod (a .0 * b .0) (c .0) m ∙ ap (λ t. t % m) (mul-assoc (a .0) (b .0) (c .0))
+        ∙ sym (mul-mod-mod (a .0) (b .0 * c .0) m));
     mul-comm = λ a b. below-eq (ap (λ t. t % m) (mul-comm (a .0) (b .0)));
     mul-one = λ a. below-eq (mul-mod-mod (a .0) 1 m ∙ ap (λ t. t % m) (mul-one (a .0)) ∙ mod-eq-of-lt (a .1));
     mul-add = λ a b c. below-eq (mul-mod-mod (a .0) (b .0 + c .0) m ∙ ap (λ t. t % m) (mul-add (a .0) (b .0) (c .0))
@@ -131,4 +134,5 @@ module _ (m : ℕ) (pos : 0 < m) where
       ∙ sym (sum-last Zmod n (λ i. res (f i)))
 
   pub inverse-of-unit : (x : ℕ) → 1 < m → IsUnit Zmod (res x) → (y : ℕ) × (x * y % m ≡ 1)
-  inverse-of-unit x h (a, e) = (val a, mod-of-res (x * val a) 1 (res-mul x (val a) ∙ ap (Zmod .mul (res x)) (res-val a) ∙ e ∙ sym res-one) ∙ mod-eq-of-lt h)
+  inverse-of-unit x h (a, e) =
+      (val a, mod-of-res (x * val a) 1 (res-mul x (val a) ∙ ap (Zmod .mul (res x)) (res-val a) ∙ e ∙ sym res-one) ∙ mod-eq-of-lt h)

@@ -23,7 +23,8 @@ pub record CommRing : Type 1 where
   pub mul-add : (a b c : Car) → mul a (add b c) ≡ add (mul a b) (mul a c)
 
 module _ (R : CommRing) where
-  open CommRing R using (Car, zero as 𝟘, one as 𝟙, add as _+_, mul as _*_, neg as -_, add-assoc, add-comm, add-zero, add-neg, mul-assoc, mul-comm, mul-one, mul-add)
+  open CommRing R using (Car, zero as 𝟘, one as 𝟙, add as _+_, mul as _*_, neg as -_)
+  open CommRing R using (add-assoc, add-comm, add-zero, add-neg, mul-assoc, mul-comm, mul-one, mul-add)
 
   infixl 65 _+_
   infixl 70 _*_

@@ -7,7 +7,8 @@
 use mathlib.Core.Path.{_≡_, refl, sym, _∙_, ap, fun-ext}
 use mathlib.Core.HLevel.{→-set}
 use Prim.Native.Nat.{ℕ, zero, suc, _-_}
-use Rattle.algebra.specs.Diagonal.{diag, diag-zero, diag-first, diag-cong, diag-vanish, diag-add, diag-mul-left, diag-mul-right, diag-flip, diag-assoc, diag-sum}
+use Rattle.algebra.specs.Diagonal.{diag, diag-zero, diag-first, diag-cong, diag-vanish, diag-add, diag-mul-left}
+use Rattle.algebra.specs.Diagonal.{diag-mul-right, diag-flip, diag-assoc, diag-sum}
 use Rattle.algebra.specs.Ring
 use Rattle.algebra.specs.Ring.{CommRing}
 use Rattle.algebra.specs.Sum.{sum, sum-empty, sum-last}
@@ -33,18 +34,21 @@ module _ (R : CommRing) where
 
   convolution-assoc : (f g h : ℕ → Car) → convolution (convolution f g) h ≡ convolution f (convolution g h)
   unfolding convolution
-  convolution-assoc f g h = fun-ext λ n. diag-cong R n (λ s k e. sym (diag-mul-right R s (λ i j. f i ⊗ g j) (h k))) ∙ diag-assoc R n (λ i j k. f i ⊗ g j ⊗ h k)
+  convolution-assoc f g h = fun-ext λ n. diag-cong R n (λ s k e. sym (diag-mul-right R s (λ i j. f i ⊗ g j) (h k)))
+      ∙ diag-assoc R n (λ i j k. f i ⊗ g j ⊗ h k)
       ∙ diag-cong R n (λ i t e. diag-cong R t (λ j k e. R .mul-assoc (f i) (g j) (h k)) ∙ diag-mul-left R t (f i) (λ j k. g j ⊗ h k))
 
   convolution-one : (f : ℕ → Car) (n : ℕ) → convolution constantOne f n ≡ f n
   unfolding convolution
   convolution-one f zero = diag-zero R (λ i j. constantOne i ⊗ f j) ∙ Ring.one-mul R (f 0)
-  convolution-one f (suc n) = diag-first R n (λ i j. constantOne i ⊗ f j) ∙ ap (λ t. 𝟙 ⊗ f (suc n) ⊕ t) (diag-vanish R n (λ i j e. Ring.zero-mul R (f j)))
+  convolution-one f (suc n) = diag-first R n (λ i j. constantOne i ⊗ f j)
+      ∙ ap (λ t. 𝟙 ⊗ f (suc n) ⊕ t) (diag-vanish R n (λ i j e. Ring.zero-mul R (f j)))
       ∙ R .add-zero (𝟙 ⊗ f (suc n)) ∙ Ring.one-mul R (f (suc n))
 
   convolution-add : (f g h : ℕ → Car) → convolution f (λ n. g n ⊕ h n) ≡ (λ n. convolution f g n ⊕ convolution f h n)
   unfolding convolution
-  convolution-add f g h = fun-ext λ n. diag-cong R n (λ i j e. R .mul-add (f i) (g j) (h j)) ∙ diag-add R n (λ i j. f i ⊗ g j) (λ i j. f i ⊗ h j)
+  convolution-add f g h = fun-ext λ n. diag-cong R n (λ i j e. R .mul-add (f i) (g j) (h j))
+      ∙ diag-add R n (λ i j. f i ⊗ g j) (λ i j. f i ⊗ h j)
 
   pub Ser : CommRing
   Ser = record {
@@ -115,4 +119,5 @@ module _ (R : CommRing) where
 
   pub co-sum : (n : ℕ) (f : ℕ → Ser .Car) (k : ℕ) → co (sum Ser n f) k ≡ sum R n (λ i. co (f i) k)
   co-sum zero f k = ap (λ s. co s k) (sum-empty Ser f) ∙ co-zero k ∙ sym (sum-empty R (λ i. co (f i) k))
-  co-sum (suc n) f k = ap (λ s. co s k) (sum-last Ser n f) ∙ co-add (sum Ser n f) (f n) k ∙ ap (λ t. t ⊕ co (f n) k) (co-sum n f k) ∙ sym (sum-last R n (λ i. co (f i) k))
+  co-sum (suc n) f k = ap (λ s. co s k) (sum-last Ser n f) ∙ co-add (sum Ser n f) (f n) k ∙ ap (λ t. t ⊕ co (f n) k) (co-sum n f k)
+      ∙ sym (sum-last R n (λ i. co (f i) k))

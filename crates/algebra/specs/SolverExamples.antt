@@ -58,7 +58,8 @@ module _ (R : CommRing) where
   inverse-mul x y x′ y′ h h′ = linear R (x ∷ y ∷ x′ ∷ y′ ∷ []) (both R (scaled R (x′ * y′) h) (scaled R 𝟙 h′)) (search reify depth 20) tt
 
   -- equations that say what an atom is can be put in first: the determinant of two solutions of a three-term recurrence
-  determinant-step : (a b c f₀ f₁ f₂ g₀ g₁ g₂ : Car) → f₂ ≡ (a + b) * f₁ + c * f₀ → g₂ ≡ (a + b) * g₁ + c * g₀ → g₂ * f₁ - g₁ * f₂ ≡ - c * (g₁ * f₀ - g₀ * f₁)
+  determinant-step : (a b c f₀ f₁ f₂ g₀ g₁ g₂ : Car) → f₂ ≡ (a + b) * f₁ + c * f₀ → g₂ ≡ (a + b) * g₁ + c * g₀
+      → g₂ * f₁ - g₁ * f₂ ≡ - c * (g₁ * f₀ - g₀ * f₁)
   determinant-step a b c f₀ f₁ f₂ g₀ g₁ g₂ p q = rw (p, q) (ring R (a ∷ b ∷ c ∷ f₀ ∷ f₁ ∷ g₀ ∷ g₁ ∷ []) (search reify depth 20) tt)
 
   -- ---- the ring of power series is a ring like any other
@@ -68,7 +69,8 @@ module _ (R : CommRing) where
     infixl 65 _⊕_
     infixl 70 _⊗_
     -- (a + b x)(c + d x), where a constant C a is an atom
-    lines-mul : (a b c d : Car) → (C R a ⊕ C R b ⊗ X R) ⊗ (C R c ⊕ C R d ⊗ X R) ≡ C R a ⊗ C R c ⊕ (C R a ⊗ C R d ⊕ C R b ⊗ C R c) ⊗ X R ⊕ C R b ⊗ C R d ⊗ (X R ⊗ X R)
+    lines-mul : (a b c d : Car) → (C R a ⊕ C R b ⊗ X R) ⊗ (C R c ⊕ C R d ⊗ X R)
+        ≡ C R a ⊗ C R c ⊕ (C R a ⊗ C R d ⊕ C R b ⊗ C R c) ⊗ X R ⊕ C R b ⊗ C R d ⊗ (X R ⊗ X R)
     lines-mul a b c d = ring (Ser R) (C R a ∷ C R b ∷ C R c ∷ C R d ∷ X R ∷ []) (search reify depth 20) tt
 
     -- a law of an atom enters as an equation: C (a b) ≡ C a · C b, taken f times

@@ -64,7 +64,8 @@ module _ (R : CommRing) where
   pub sum-split : (n k : ℕ) (f : ℕ → Car) → sum (n + k) f ≡ sum n f ⊕ sum k (λ i. f (n + i))
   unfolding sum
   sum-split n zero f = ap (λ t. sum t f) (Nat.add-zero n) ∙ sym (add-zero (sum n f))
-  sum-split n (suc k) f = ap (λ t. sum t f) (Nat.add-suc n k) ∙ ap (λ t. t ⊕ f (n + k)) (sum-split n k f) ∙ add-assoc (sum n f) (sum k (λ i. f (n + i))) (f (n + k))
+  sum-split n (suc k) f = ap (λ t. sum t f) (Nat.add-suc n k) ∙ ap (λ t. t ⊕ f (n + k)) (sum-split n k f)
+      ∙ add-assoc (sum n f) (sum k (λ i. f (n + i))) (f (n + k))
 
   -- terms that are zero from n on can be left out
   pub sum-truncate : (n k : ℕ) (f : ℕ → Car) → ((i : ℕ) → n ≤ i → f i ≡ 𝟘) → sum (n + k) f ≡ sum n f
@@ -86,7 +87,8 @@ module _ (R : CommRing) where
 
       from : sum (suc (n - suc k)) (λ i. f (k + i)) ≡ f k
       from = sum-first (n - suc k) (λ i. f (k + i))
-          ∙ ap₂ _⊕_ (ap f (Nat.add-zero k)) (sum-vanish (n - suc k) (λ i p. z (k + suc i) (omega arith) (λ e. omega arith))) ∙ add-zero (f k)
+          ∙ ap₂ _⊕_ (ap f (Nat.add-zero k)) (sum-vanish (n - suc k) (λ i p. z (k + suc i) (omega arith) (λ e. omega arith)))
+          ∙ add-zero (f k)
 
   -- ---- order
   pub sum-exchange : (m n : ℕ) (f : ℕ → ℕ → Car) → sum m (λ i. sum n (λ j. f i j)) ≡ sum n (λ j. sum m (λ i. f i j))

@@ -36,7 +36,8 @@ module _ (R : CommRing) where
   unit-neg {x} (y, e) = (⊖ y, linear R (x ∷ y ∷ []) (scaled R 𝟙 e) (search reify depth 20) tt)
 
   pub unit-mul : {x y : Car} → IsUnit x → IsUnit y → IsUnit (x ⊗ y)
-  unit-mul {x} {y} (v, p) (w, q) = (v ⊗ w, linear R (x ∷ y ∷ v ∷ w ∷ []) (both R (scaled R (y ⊗ w) p) (scaled R 𝟙 q)) (search reify depth 20) tt)
+  unit-mul {x} {y} (v, p) (w, q) =
+      (v ⊗ w, linear R (x ∷ y ∷ v ∷ w ∷ []) (both R (scaled R (y ⊗ w) p) (scaled R 𝟙 q)) (search reify depth 20) tt)
 
   pub unit-left : (x y : Car) → IsUnit (x ⊗ y) → IsUnit x
   unit-left x y (z, e) = (y ⊗ z, sym (R .mul-assoc x y z) ∙ e)

@@ -38,7 +38,8 @@ module _ (R : CommRing) where
   pub co-C-mul : (c : Car) (f : Series) (n : ℕ) → co R (C c * f) n ≡ c ⊗ co R f n
   co-C-mul c f zero = co-mul-zero R (C c) f ∙ ap (λ t. t ⊗ co R f 0) (co-C-zero c)
   co-C-mul c f (suc n) = co-mul R (C c) f (suc n) ∙ diag-first R n (λ i j. co R (C c) i ⊗ co R f j)
-      ∙ ap₂ _⊕_ (ap (λ t. t ⊗ co R f (suc n)) (co-C-zero c)) (diag-vanish R n (λ i j e. ap (λ t. t ⊗ co R f j) (co-C-suc c i) ∙ Ring.zero-mul R (co R f j)))
+      ∙ ap₂ _⊕_ (ap (λ t. t ⊗ co R f (suc n)) (co-C-zero c))
+      (diag-vanish R n (λ i j e. ap (λ t. t ⊗ co R f j) (co-C-suc c i) ∙ Ring.zero-mul R (co R f j)))
       ∙ R .add-zero (c ⊗ co R f (suc n))
 
   pub C-zero : C 𝟘 ≡ 0#
@@ -97,7 +98,8 @@ module _ (R : CommRing) where
 
   pub co-X-mul-suc : (f : Series) (n : ℕ) → co R (X * f) (suc n) ≡ co R f n
   co-X-mul-suc f n = co-mul R X f (suc n) ∙ diag-first R n (λ i j. co R X i ⊗ co R f j)
-      ∙ ap₂ _⊕_ (ap (λ t. t ⊗ co R f (suc n)) co-X-zero ∙ Ring.zero-mul R (co R f (suc n))) (diag-cong R n (λ i j e. ap (λ t. t ⊗ co R f j) (co-X-suc i)))
+      ∙ ap₂ _⊕_ (ap (λ t. t ⊗ co R f (suc n)) co-X-zero ∙ Ring.zero-mul R (co R f (suc n)))
+      (diag-cong R n (λ i j e. ap (λ t. t ⊗ co R f j) (co-X-suc i)))
       ∙ Ring.zero-add R (diag R n (λ i j. co R 1# i ⊗ co R f j)) ∙ sym (co-mul R 1# f n) ∙ ap (λ s. co R s n) (Ring.one-mul (Ser R) f)
 
   pub X-mul-gen : (p : ℕ → Car) → X * gen R p ≡ gen R (shift p)

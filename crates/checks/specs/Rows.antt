@@ -1,7 +1,8 @@
 -- The tests on the rows of a lent family, by passes over its lists and a look at the closing row.
 --   inverseRows first f   10 and 11 of a family: the inverses of the a, and of the c from place first on
 --   Entered               what 9 asks for: the entries of the three lists and those of the closing row are below m
---   AInverted, CInverted  what 10 and 11 ask for: the a, or the c from place first on, and those of the closing row have inverses
+--   Inverted              what 10 and 11 ask for: the numbers of a column from place first on, that of the closing row too, have inverses
+--   LackAnswer            what is answered to whether one of them has none
 -- Proved: 9 passes if and only if the rows are so (entered-passes); what is answered to 10 and 11 where they are or are not, and that one
 -- product settles them (joint-passes); what a pass over a list found. Assumes nothing.
 use mathlib.Core.Path.{_≡_, sym, _∙_, ap, subst}
@@ -93,88 +94,92 @@ module _ (m r : ℕ) (a b c : List ℕ) (close : Row) (long : Long r a b c) wher
         cBelow = closed (λ x. x < m) (take r c) (close .c) (some-notBelow-false m (take r c) (close .c) .0 (e .inC)) (e .closing .cBelow) i;
       }
 
--- ---- 10 and 11
--- count: how many c of the list are asked for their inverses, the last of the first r;  s: the place where they begin
-module _ (m r : ℕ) (a c : List ℕ) (first count closeA closeC : ℕ) where
+-- ---- a column of rows
+abbrev pub Inverted : ℕ → ℕ → ℕ → List ℕ → ℕ → Type 0
+Inverted m first r list close = (i : ℕ) → first ≤ i → i ≤ r → HasInverse m (getD (take r list) i close)
+
+abbrev pub LackAnswer : ℕ → ℕ → ℕ → List ℕ → ℕ → Bool → Type 0
+LackAnswer m first r list close true = Inverted m first r list close → ⊥
+LackAnswer m first r list close false = Inverted m first r list close
+
+-- count: how many numbers of the list are asked for their inverses, the last of the first r
+module _ (m first r count : ℕ) (counted : count ≡ r - first) (list : List ℕ) (close : ℕ) (pos : 0 < m) (long : r ≤ length list) where
   abbrev s : ℕ
   s = r - count
 
   abbrev asked : List ℕ
-  asked = take (r - s) (drop s c)
+  asked = take (r - s) (drop s list)
 
-  abbrev AInverted : Type 0
-  AInverted = (some (noInverse m) (take r a) ≡ false) × HasInverse m closeA
+  asked-entry : (i : ℕ) → i < r - s → getD asked i 0 ≡ getD (take r list) (s + i) close
+  asked-entry i h = getD-take (r - s) (drop s list) i 0 h ∙ getD-drop s list i 0 ∙ entry-inside r list long (s + i) close (omega arith)
 
-  abbrev CInverted : Type 0
-  CInverted = (some (noInverse m) asked ≡ false) × (first ≤ r → HasInverse m closeC)
+  asked-length : length asked ≡ r - s
+  asked-length = length-take-le (r - s) (drop s list) (omega (arith, length-drop s list))
 
-  module _ (pos : 0 < m) (aLong : r ≤ length a) (cLong : r ≤ length c) (counted : count ≡ r - first) (b : List ℕ) (closeB : ℕ) where
-    abbrev f : Family
-    f = lent m r a b c (rowOf closeA closeB closeC)
+  pub column-inverted : Inverted m first r list close ↔ ((some (noInverse m) asked ≡ false) × (first ≤ r → HasInverse m close))
+  column-inverted = (to, from)
+    where
+      to : Inverted m first r list close → (some (noInverse m) asked ≡ false) × (first ≤ r → HasInverse m close)
+      to all = (
+        some-noInverse-false m asked 0 pos .1
+            (λ i h. let l : i < r - s = omega (arith, asked-length) in rw (asked-entry i l) (all (s + i) (omega arith) (omega arith))),
+        λ l. subst (HasInverse m) (sym (entry-past r list long r close (omega arith))) (all r l (omega arith)),
+      )
 
-    n-is : size f ≡ suc r
-    n-is = ap suc (length-take-le r a aLong)
+      from : (some (noInverse m) asked ≡ false) × (first ≤ r → HasInverse m close) → Inverted m first r list close
+      from p i l h = by-cases (decLt i r)
+          (λ g.
+          let place : s + (i - s) ≡ i = omega arith in
+          let there = some-noInverse-false m asked 0 pos .0 (p .0) (i - s) (omega (arith, asked-length)) in
+          subst (HasInverse m) (asked-entry (i - s) (omega arith) ∙ ap (λ j. getD (take r list) j close) place) there)
+          (λ g. subst (HasInverse m) (entry-past r list long i close (omega arith)) (p .1 (omega arith)))
 
-    a-inverted : (aInverseTest f .holds ≡ false) ↔ AInverted
-    unfolding rowAt
-    a-inverted = Iff·trans (a-inverses-pass f pos) (
-      λ all. (
-        some-noInverse-false m (take r a) closeA pos .1 (λ i h. all i (omega arith)),
-        subst (HasInverse m) (sym (entry-past r a aLong r closeA (omega arith))) (all r (omega (arith, n-is))),
-      ),
-      λ p i h. closed (HasInverse m) (take r a) closeA (some-noInverse-false m (take r a) closeA pos .0 (p .0)) (p .1) i,
-    )
+-- ---- 10 and 11
+module _ (m r : ℕ) (a c : List ℕ) (first closeA closeC : ℕ) (pos : 0 < m) (aLong : r ≤ length a) (cLong : r ≤ length c)
+    (b : List ℕ) (closeB : ℕ) where
+  abbrev f : Family
+  f = lent m r a b c (rowOf closeA closeB closeC)
 
-    asked-entry : (i : ℕ) → i < r - s → getD asked i 0 ≡ getD (take r c) (s + i) closeC
-    asked-entry i h = getD-take (r - s) (drop s c) i 0 h ∙ getD-drop s c i 0 ∙ entry-inside r c cLong (s + i) closeC (omega arith)
+  abbrev whole : Verdict
+  whole = verdict (inverseRows first f) []
 
-    asked-length : length asked ≡ r - s
-    asked-length = length-take-le (r - s) (drop s c) (omega (arith, length-drop s c))
+  n-is : size f ≡ suc r
+  n-is = ap suc (length-take-le r a aLong)
 
-    c-inverted : (cInverseTest first f .holds ≡ false) ↔ CInverted
-    unfolding rowAt
-    c-inverted = Iff·trans (c-inverses-pass f pos first) (to, from)
-      where
-        to : ((i : ℕ) → first ≤ i → i < size f → HasInverse m (rowAt f i .c)) → CInverted
-        to all = (
-          some-noInverse-false m asked 0 pos .1
-              (λ i h.
-              let l : i < r - s = omega (arith, asked-length) in
-              rw (asked-entry i l) (all (s + i) (omega arith) (omega (arith, n-is)))),
-          λ l. subst (HasInverse m) (sym (entry-past r c cLong r closeC (omega arith))) (all r l (omega (arith, n-is))),
-        )
+  a-inverted : (aInverseTest f .holds ≡ false) ↔ Inverted m 0 r a closeA
+  unfolding rowAt
+  a-inverted = Iff·trans (a-inverses-pass f pos)
+      (λ all i l h. all i (omega (arith, n-is)), λ all i h. all i (omega arith) (omega (arith, n-is)))
 
-        from : CInverted → (i : ℕ) → first ≤ i → i < size f → HasInverse m (rowAt f i .c)
-        from p i l h = by-cases (decLt i r)
-            (λ g.
-            let place : s + (i - s) ≡ i = omega arith in
-            let there = some-noInverse-false m asked 0 pos .0 (p .0) (i - s) (omega (arith, asked-length)) in
-            subst (HasInverse m) (asked-entry (i - s) (omega arith) ∙ ap (λ j. getD (take r c) j closeC) place) there)
-            (λ g. subst (HasInverse m) (entry-past r c cLong i closeC (omega arith)) (p .1 (omega (arith, n-is))))
+  c-inverted : (cInverseTest first f .holds ≡ false) ↔ Inverted m first r c closeC
+  unfolding rowAt
+  c-inverted = Iff·trans (c-inverses-pass f pos first)
+      (λ all i l h. all i l (omega (arith, n-is)), λ all i l h. all i l (omega (arith, n-is)))
 
-    -- what is answered
-    abbrev whole : Verdict
-    whole = verdict (inverseRows first f) []
+  pub a-refused : (Inverted m 0 r a closeA → ⊥) → refused 10 ≡ whole
+  unfolding inverseRows aInverseTest
+  a-refused n = refuses (aInverseTest f) a-inverted (cInverseTest first f ∷ []) [] n
 
-    pub a-refused : (AInverted → ⊥) → refused 10 ≡ whole
-    unfolding inverseRows aInverseTest
-    a-refused n = refuses (aInverseTest f) a-inverted (cInverseTest first f ∷ []) [] n
-
-    past-a : AInverted → verdict (cInverseTest first f ∷ []) [] ≡ whole
+  module _ (p : Inverted m 0 r a closeA) where
+    past-a : verdict (cInverseTest first f ∷ []) [] ≡ whole
     unfolding inverseRows
-    past-a p = goes-on (aInverseTest f) a-inverted (cInverseTest first f ∷ []) [] p
+    past-a = goes-on (aInverseTest f) a-inverted (cInverseTest first f ∷ []) [] p
 
-    pub c-refused : AInverted → (CInverted → ⊥) → refused 11 ≡ whole
+    pub c-refused : (Inverted m first r c closeC → ⊥) → refused 11 ≡ whole
     unfolding cInverseTest
-    c-refused p n = refuses-alone (cInverseTest first f) c-inverted n ∙ past-a p
+    c-refused n = refuses-alone (cInverseTest first f) c-inverted n ∙ past-a
 
-    pub inverses-pass : AInverted → CInverted → finished [] ≡ whole
-    inverses-pass p q = finishes (cInverseTest first f) c-inverted q ∙ past-a p
+    pub inverses-pass : Inverted m first r c closeC → finished [] ≡ whole
+    inverses-pass q = finishes (cInverseTest first f) c-inverted q ∙ past-a
 
-    -- a product of all has an inverse; last: the closing c where it is asked
-    pub joint-passes : (last product : ℕ) → (first ≤ r → last ≡ closeC) → Joint m (take r a) closeA asked last product
-        → HasInverse m product → finished [] ≡ whole
-    joint-passes last product e joint h =
-        let all = joint .settles h in
-        inverses-pass (some-noInverse-false m (take r a) 0 pos .1 (all .0 .entries), all .0 .number)
-        (some-noInverse-false m asked 0 pos .1 (all .1 .entries), λ l. subst (HasInverse m) (e l) (all .1 .number))
+  -- a product of all has an inverse; last: the closing c where it is asked
+  pub joint-passes : (count last product : ℕ) (counted : count ≡ r - first) → (first ≤ r → last ≡ closeC)
+      → Joint m (take r a) closeA (asked m first r count counted c closeC pos cLong) last product → HasInverse m product
+      → finished [] ≡ whole
+  joint-passes count last product counted e joint h =
+      let all = joint .settles h in
+      let column = column-inverted m first r count counted c closeC pos cLong in
+      let none = some-noInverse-false m (take r a) 0 pos .1 (all .0 .entries) in
+      let entries = some-noInverse-false m (take r a) closeA pos .0 none in
+      inverses-pass (λ i l h. closed (HasInverse m) (take r a) closeA entries (all .0 .number) i)
+      (column .1 (some-noInverse-false m _ 0 pos .1 (all .1 .entries), λ l. subst (HasInverse m) (e l) (all .1 .number)))

@@ -13,7 +13,7 @@ ghost use Rattle.definitions.specs.Refusals.{outputTest, workTest, entriesTest,
 ghost use Rattle.definitions.specs.TextCall.{mostBytes, textOutputTest};
 ghost use Rattle.lists.specs.Lent.{lent, Long};
 ghost use Rattle.checks.specs.Passes.{BelowAnswer, FactorAnswer};
-ghost use Rattle.checks.specs.Rows.{inverseRows};
+ghost use Rattle.checks.specs.Rows.{LackAnswer, inverseRows};
 use definitions::Answer;
 use residue::Inversion;
 use residue::invert;
@@ -230,6 +230,25 @@ fn row_entries(
     Answer::Finished
 }
 
+// Whether a number of a column of rows has no inverse, of those from place first on up to row n: the entries of the list before place r,
+// then the closing number.
+fn lacks_inverse(m: u32, list: &[u32], first: usize, r: usize, close: u32) -> bool
+    requires { ⌜ (0 < m) × (r ≤ length (now list)) ⌝ }
+    ensures { λ answer. ⌜ LackAnswer m first r (now (list .entry)) close answer ⌝ }
+{
+    let start = r - lists::excess(r, first);
+    let Factors::Invertible = invertible(m, &list[start..r]) else {
+        return true;
+    };
+    if r < first {
+        return false;
+    }
+    let Inversion::Found(_) = invert(m, close) else {
+        return true;
+    };
+    false
+}
+
 // 10 and 11: the inverses of the a of all rows, then those of the c from place first on, whatever the b. One inverse settles both, that of
 // a product of all; only if it has none is it looked for whom to blame, among the a first.
 fn row_inverses(
@@ -252,21 +271,12 @@ fn row_inverses(
     let Inversion::Absent(_) = whole else {
         return Answer::Finished;
     };
-    let Factors::Invertible = invertible(m, &a[..r]) else {
+    if lacks_inverse(m, a, 0, r, close_a) {
         return Answer::Refused(10);
-    };
-    let Inversion::Found(_) = invert(m, close_a) else {
-        return Answer::Refused(10);
-    };
-    let Factors::Invertible = invertible(m, &c[start..r]) else {
-        return Answer::Refused(11);
-    };
-    if r < first {
-        return Answer::Finished;
     }
-    let Inversion::Found(_) = invert(m, close_c) else {
+    if lacks_inverse(m, c, first, r, close_c) {
         return Answer::Refused(11);
-    };
+    }
     Answer::Finished
 }
 

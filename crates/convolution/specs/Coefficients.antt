@@ -12,10 +12,10 @@ use native.Mathlib.Nat.{add-assoc, add-zero, mul-one, mul-zero, zero-add, zero-m
 use native.Mathlib.Omega.{arith}
 use lib.ListN.{length, getD, List·getD-eq-default}
 use Rattle.definitions.specs.Number.{sum}
-use Rattle.reduction.specs.Reciprocal.{word}
-use Rattle.reduction.specs.Wrapping.{Reducible, WrapsAfter}
 use Rattle.numbers.specs.Products.{Below, productAt, transposedAt}
 use Rattle.numbers.specs.Sums.{sum-zero, sum-both}
+use Rattle.reduction.specs.Reciprocal.{word}
+use Rattle.reduction.specs.Wrapping.{Reducible, WrapsAfter}
 use Rattle.convolution.specs.Totals.{Lesser, SmallNumbers, Totalling, pair-fits, totalling-starts, totalling-next, totalling-ends}
 
 abbrev productTerm : List ℕ → List ℕ → ℕ → ℕ → ℕ
@@ -54,17 +54,21 @@ product-entries p p′ q k e = ap (sum (suc k)) (fun-ext (λ i. ap (λ x. x * ge
 pub product-one : (p : List ℕ) (k : ℕ) → productAt p (1 ∷ 0 ∷ []) k ≡ getD p k 0
 unfolding productAt sum
 product-one p k =
-    let before : sum k (productTerm p (1 ∷ 0 ∷ []) k) ≡ 0 = sum-zero k _ (λ i l. ap (λ x. getD p i 0 * x) (none (k - i) (omega arith)) ∙ mul-zero (getD p i 0)) in
-    let last : productTerm p (1 ∷ 0 ∷ []) k k ≡ getD p k 0 = ap (λ j. getD p k 0 * getD (1 ∷ 0 ∷ []) j 0) (sub-self k) ∙ mul-one (getD p k 0) in
-    ap₂ _+_ before last ∙ zero-add (getD p k 0)
+    ap₂ _+_ (sum-zero k _ before) last ∙ zero-add (getD p k 0)
   where
     none : (j : ℕ) → 0 < j → _≡_ {A = ℕ} (getD (1 ∷ 0 ∷ []) j 0) 0
     none zero h = absurd (omega arith)
     none (suc zero) h = refl
     none (suc (suc j)) h = refl
 
-    sub-self : (k : ℕ) → k - k ≡ 0
-    sub-self k = omega arith
+    before : (i : ℕ) → i < k → productTerm p (1 ∷ 0 ∷ []) k i ≡ 0
+    before i l = ap (λ x. getD p i 0 * x) (none (k - i) (omega arith)) ∙ mul-zero (getD p i 0)
+
+    here : k - k ≡ 0
+    here = omega arith
+
+    last : productTerm p (1 ∷ 0 ∷ []) k k ≡ getD p k 0
+    last = ap (λ j. getD p k 0 * getD (1 ∷ 0 ∷ []) j 0) here ∙ mul-one (getD p k 0)
 
 -- ---- two products
 pub record ProductsInput (m reciprocal start : ℕ) (p q r s : List ℕ) (k : ℕ) : Type 0 where
@@ -87,8 +91,8 @@ module _ (start : ℕ) (p q r s : List ℕ) (k : ℕ) where
     pub total : Totalling start (k + 1 - length q) end productsTerm i low wraps
 
 module _ (m reciprocal start : ℕ) (p q r s : List ℕ) (k : ℕ) (input : ProductsInput m reciprocal start p q r s k) (end : ℕ) where
-  abbrev Loop : ℕ → ℕ → ℕ → Type 0
-  Loop = Multiplying start p q r s k end
+  abbrev ProductsLoop : ℕ → ℕ → ℕ → Type 0
+  ProductsLoop = Multiplying start p q r s k end
 
   abbrev first : ℕ
   first = k + 1 - length q
@@ -96,7 +100,7 @@ module _ (m reciprocal start : ℕ) (p q r s : List ℕ) (k : ℕ) (input : Prod
   abbrev f : ℕ → ℕ
   f = productsTerm start p q r s k
 
-  pub multiplying-starts : (i : ℕ) → i ≡ first → Lesser (k + 1) (length p) end → Loop i start 0
+  pub multiplying-starts : (i : ℕ) → i ≡ first → Lesser (k + 1) (length p) end → ProductsLoop i start 0
   multiplying-starts i e ends = rw e record {
     ends = ends;
     total = totalling-starts start first end f (omega (arith, input .startBelow, input .reducible .most)) (within (decLt end (k + 1)))
@@ -107,11 +111,12 @@ module _ (m reciprocal start : ℕ) (p q r s : List ℕ) (k : ℕ) (input : Prod
       within (yes h) = let all : end ≡ length p = ends .one h in omega (arith, input .reached)
       within (no h) = omega arith
 
-  module _ (i low wraps : ℕ) (h : Loop i low wraps) where
+  module _ (i low wraps : ℕ) (h : ProductsLoop i low wraps) where
     pub multiplying-small : SmallNumbers (getD p i 0) (getD q (k - i) 0) (getD r i 0) (getD s (k - i) 0)
     multiplying-small = small (input .reducible .most) (input .pBelow i) (input .qBelow (k - i)) (input .rBelow i) (input .sBelow (k - i))
 
-    pub multiplying-next : i < end → (x next w : ℕ) → x ≡ f i → next ≡ (low + x) % word → WrapsAfter wraps next x w → Loop (i + 1) next w
+    pub multiplying-next : i < end → (x next w : ℕ) → x ≡ f i → next ≡ (low + x) % word → WrapsAfter wraps next x w
+        → ProductsLoop (i + 1) next w
     multiplying-next l x next w e n a = record {
       ends = h .ends;
       total = totalling-next start first end f i low wraps x next w l (h .total) e (rw e (pair-fits _ _ _ _ multiplying-small)) n a;
@@ -121,7 +126,8 @@ module _ (m reciprocal start : ℕ) (p q r s : List ℕ) (k : ℕ) (input : Prod
     unfolding productAt
     multiplying-ends l v e =
         e ∙ ap (λ x. x % m) (totalling-ends start first end f (suc k) i low wraps l (h .total) (omega (arith, h .ends .first))
-        (λ j a b. let out = behind j a b in both-zero (past-first p q (k - j) j out) (past-first r s (k - j) j (omega (arith, input .rLong))))
+        (λ j a b. let out = behind j a b in
+        both-zero (past-first p q (k - j) j out) (past-first r s (k - j) j (omega (arith, input .rLong))))
         ∙ ap (λ x. start + x) (sum-both (suc k) (productTerm p q k) (productTerm r s k)) ∙ sym (add-assoc start _ _))
       where
         behind : (j : ℕ) → end ≤ j → j < suc k → length p ≤ j
@@ -146,24 +152,23 @@ pub record Transposing (p w : List ℕ) (i end j low wraps : ℕ) : Type 0 where
   pub total : Totalling 0 0 end (transposedTerm p w i) j low wraps
 
 module _ (m reciprocal : ℕ) (p w : List ℕ) (input : TransposedInput m reciprocal p w) (i end : ℕ) where
-  abbrev Loop₁ : ℕ → ℕ → ℕ → Type 0
-  Loop₁ = Transposing p w i end
+  abbrev TransposedLoop : ℕ → ℕ → ℕ → Type 0
+  TransposedLoop = Transposing p w i end
 
-  pub transposing-starts : (room : ℕ) → room ≡ length w - i → Lesser room (length p) end → Loop₁ 0 0 0
+  pub transposing-starts : (room : ℕ) → room ≡ length w - i → Lesser room (length p) end → TransposedLoop 0 0 0
   transposing-starts room e ends = record {
     ends = rw e at ends;
     total = totalling-starts 0 0 end (transposedTerm p w i) (omega arith) (omega arith) (λ j h. absurd (omega arith));
   }
 
-  module _ (j low wraps : ℕ) (h : Loop₁ j low wraps) where
+  module _ (j low wraps : ℕ) (h : TransposedLoop j low wraps) where
     pub transposing-small : SmallNumbers (getD p j 0) (getD w (i + j) 0) 0 0
     transposing-small =
         let positive : 0 < m = omega (arith, input .pBelow 0) in
         small (input .reducible .most) (input .pBelow j) (input .wBelow (i + j)) positive positive
 
-    pub transposing-next : j < end → (x next k : ℕ) → x ≡ transposedTerm p w i j + 0 * 0 → next ≡ (low + x) % word → WrapsAfter wraps next x
-        k
-        → Loop₁ (j + 1) next k
+    pub transposing-next : j < end → (x next k : ℕ) → x ≡ transposedTerm p w i j + 0 * 0
+        → next ≡ (low + x) % word → WrapsAfter wraps next x k → TransposedLoop (j + 1) next k
     transposing-next l x next k e n a = record {
       ends = h .ends;
       total = totalling-next 0 0 end (transposedTerm p w i) j low wraps x next k l (h .total) (e ∙ add-zero (transposedTerm p w i j))
@@ -194,25 +199,25 @@ module _ (p v q u : List ℕ) (i : ℕ) where
     pub total : Totalling 0 0 end transposedTerms j low wraps
 
 module _ (m reciprocal : ℕ) (p v q u : List ℕ) (input : TransposedSumInput m reciprocal p v q u) (i end : ℕ) where
-  abbrev Loop₂ : ℕ → ℕ → ℕ → Type 0
-  Loop₂ = TransposingBoth p v q u i end
+  abbrev TransposedSumLoop : ℕ → ℕ → ℕ → Type 0
+  TransposedSumLoop = TransposingBoth p v q u i end
 
   abbrev g : ℕ → ℕ
   g = transposedTerms p v q u i
 
-  pub transposing-both-starts : (room : ℕ) → room ≡ length v - i → Lesser room (length p) end → Loop₂ 0 0 0
+  pub transposing-both-starts : (room : ℕ) → room ≡ length v - i → Lesser room (length p) end → TransposedSumLoop 0 0 0
   transposing-both-starts room e ends = record {
     ends = rw e at ends;
     total = totalling-starts 0 0 end g (omega arith) (omega arith) (λ j h. absurd (omega arith));
   }
 
-  module _ (j low wraps : ℕ) (h : Loop₂ j low wraps) where
+  module _ (j low wraps : ℕ) (h : TransposedSumLoop j low wraps) where
     pub transposing-both-small : SmallNumbers (getD p j 0) (getD v (i + j) 0) (getD q j 0) (getD u (i + j) 0)
     transposing-both-small =
         small (input .reducible .most) (input .pBelow j) (input .vBelow (i + j)) (input .qBelow j) (input .uBelow (i + j))
 
-    pub transposing-both-next : j < end → (x next k : ℕ) → x ≡ g j → next ≡ (low + x) % word → WrapsAfter wraps next x k → Loop₂ (j + 1)
-        next k
+    pub transposing-both-next : j < end → (x next k : ℕ) → x ≡ g j
+        → next ≡ (low + x) % word → WrapsAfter wraps next x k → TransposedSumLoop (j + 1) next k
     transposing-both-next l x next k e n a = record {
       ends = h .ends;
       total = totalling-next 0 0 end g j low wraps x next k l (h .total) e (rw e (pair-fits _ _ _ _ transposing-both-small)) n a;

@@ -4,16 +4,16 @@
 --   MakeUp low wraps t    low and the wraps come to t
 --   Totalling             a sum in progress: of the terms f those before i are in, and those before first are zero
 -- Proved: how a sum begins, goes on and ends. Assumes nothing.
-use mathlib.Core.Path.{_≡_, _∙_, ap, ap₂}
-use Prim.Native.Nat.{ℕ, suc, _+_, _*_, _%_, _≤_, _<_}
+use mathlib.Core.Path.{_≡_, sym, _∙_, ap, ap₂}
+use Prim.Native.Nat.{ℕ, _+_, _*_, _%_, _≤_, _<_}
 use native.Mathlib.Decide.{decLt}
 use native.Mathlib.Nat.{add-assoc, mul-le-mul}
 use native.Mathlib.Numerals.{add-one}
 use native.Mathlib.Omega.{arith}
 use Rattle.definitions.specs.Number.{sum}
+use Rattle.numbers.specs.Sums.{sum-zero, sum-cut}
 use Rattle.reduction.specs.Reciprocal.{word}
 use Rattle.reduction.specs.Wrapping.{WrapsAfter, wraps-next}
-use Rattle.numbers.specs.Sums.{sum-zero, sum-cut}
 
 pub record Lesser (x y r : ℕ) : Type 0 where
   pub first : r ≤ x
@@ -67,15 +67,12 @@ module _ (start first end : ℕ) (f : ℕ → ℕ) where
     few = more (decLt next x);
     fits = omega arith;
     whole = wraps-next low wraps x next r (h .fits) small n w ∙ ap₂ _+_ (h .whole) e ∙ add-assoc start (sum i f) (f i)
-        ∙ ap (λ k. start + sum k f) (sym-one i);
+        ∙ ap (λ k. start + sum k f) (sym (add-one i));
   }
     where
       more : Dec (next < x) → r ≤ i + 1
       more (yes p) = omega (arith, w .wrapped p, h .few)
       more (no p) = let same : r ≡ wraps = w .fitted (omega arith) in omega (arith, h .few)
-
-      sym-one : (k : ℕ) → suc k ≡ k + 1
-      sym-one k = omega arith
 
   -- the terms from the end on are zero too
   pub totalling-ends : (n i low wraps : ℕ) → end ≤ i → Totalling start first end f i low wraps → end ≤ n

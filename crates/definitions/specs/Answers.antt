@@ -11,7 +11,8 @@ use Prim.Native.Nat.{ℕ}
 use lib.ListN.{length, drop, replicate}
 use Rattle.definitions.specs.Family.{Family}
 use Rattle.definitions.specs.Orthogonality.{moments, norms}
-use Rattle.definitions.specs.Refusals.{Test, Verdict, finished, refused, verdict, workLength, plainTests, treeTests, momentsTests, normsTests}
+use Rattle.definitions.specs.Refusals.{Test, Verdict, finished, refused, verdict, workLength}
+use Rattle.definitions.specs.Refusals.{plainTests, treeTests, momentsTests, normsTests}
 use Rattle.definitions.specs.declared.Answer.{Answer}
 use Rattle.definitions.specs.declared.Valued.{Valued}
 

@@ -1,6 +1,6 @@
 -- The family and its polynomials.
 --   Modulus m      m is a channel number of the paper: from 2 to 2147483647
---   Row            three numbers a, b, c
+--   Row            three numbers a, b, c;  ones  the closing row 1 1 1;  RowBelow  all three are below m
 --   Family         the modulus, the lists a, b and c, and the closing row, which is row n
 --   F f j i        the coefficient of x^i in F_j; G f j i the same of G_j
 --   Accepted f     what the paper accepts;  Convertible f  the fewer inverses that the laws need

@@ -10,8 +10,12 @@ use Prim.Native.Nat.{ℕ}
 use Rattle.definitions.specs.Number.{sum, table, negative, inverseBelow, inverse}
 use Rattle.definitions.specs.Family.{Family, family, size, rowAt, timesX, term, F, G}
 use Rattle.definitions.specs.Conversion.{expand, adjoint, top, lessTop, decomposeBelow, decompose}
-use Rattle.definitions.specs.Orthogonality.{reversal, nextQuotient, quotient, momentCount, moments, signedProduct, norm, norms, product, momentTotal, normTotal}
-use Rattle.definitions.specs.Refusals.{Verdict, finished, refused, verdict, some, someFrom, someRow, differ, notBelow, noInverse, workLength, modulusTest, lengthsTest, rowCountTest, curveLengthTest, outputTest, workTest, entriesTest, aInverseTest, cInverseTest, curveEntriesTest, shapeTests, familyRows, numberTest, numberInverseTest, plainTests, momentsTests, normsTests, inverseTests}
+use Rattle.definitions.specs.Orthogonality.{reversal, nextQuotient, quotient, momentCount, moments, signedProduct}
+use Rattle.definitions.specs.Orthogonality.{norm, norms, product, momentTotal, normTotal}
+use Rattle.definitions.specs.Refusals.{Verdict, finished, refused, verdict, some, someFrom, someRow, differ, notBelow, noInverse}
+use Rattle.definitions.specs.Refusals.{workLength, modulusTest, lengthsTest, rowCountTest, curveLengthTest, outputTest, workTest}
+use Rattle.definitions.specs.Refusals.{entriesTest, aInverseTest, cInverseTest, curveEntriesTest, shapeTests, familyRows}
+use Rattle.definitions.specs.Refusals.{numberTest, numberInverseTest, plainTests, momentsTests, normsTests, inverseTests}
 
 pub data Call : Type 0 where
   Expand : Family → List ℕ → Call
@@ -24,14 +28,19 @@ pub data Call : Type 0 where
 
 -- whoever unfolds it unfolds the definitions that it leads to
 unfoldable pub handed : Call → Verdict
-unfolding sum table negative inverseBelow inverse rowAt timesX term F G expand adjoint top lessTop decomposeBelow decompose reversal nextQuotient quotient moments signedProduct norm norms product momentTotal normTotal verdict some differ notBelow noInverse someFrom someRow modulusTest lengthsTest rowCountTest curveLengthTest outputTest workTest entriesTest aInverseTest cInverseTest curveEntriesTest shapeTests familyRows numberTest numberInverseTest plainTests momentsTests normsTests inverseTests
+unfolding sum table negative inverseBelow inverse rowAt timesX term F G expand adjoint top lessTop decomposeBelow decompose
+    reversal nextQuotient quotient moments signedProduct norm norms product momentTotal normTotal verdict some differ notBelow
+    noInverse someFrom someRow modulusTest lengthsTest rowCountTest curveLengthTest outputTest workTest entriesTest aInverseTest
+    cInverseTest curveEntriesTest shapeTests familyRows numberTest numberInverseTest plainTests momentsTests normsTests
+    inverseTests
 handed (Expand f u) = verdict (plainTests f u (size f)) (expand f u)
 handed (Adjoint f u) = verdict (plainTests f u (size f)) (adjoint f u)
 handed (Decompose f p) = verdict (plainTests f p (size f)) (decompose f p)
 handed (Moments f) = verdict (momentsTests f (momentCount f) workLength) (moments f)
 handed (Norms f) = verdict (normsTests f (size f)) (norms f)
 handed (Inverse m x) = verdict (inverseTests m x) (inverse m x ∷ [])
-handed (Totals f u v) = finished (momentTotal (f .m) (size f) (expand f u) (expand f v) (moments f) ∷ normTotal (f .m) (size f) u v (norms f) ∷ [])
+handed (Totals f u v) =
+    finished (momentTotal (f .m) (size f) (expand f u) (expand f v) (moments f) ∷ normTotal (f .m) (size f) u v (norms f) ∷ [])
 
 pub record Figure : Type 0 where
   pub call : Call

@@ -11,7 +11,8 @@ use mathlib.Core.List.{List, [], _∷_}
 use Prim.Native.Nat.{ℕ, zero, suc, _+_, _*_, _-_}
 use lib.Dec.{eqb, leb}
 use lib.ListN.{length}
-use Rattle.definitions.specs.Text.{greatestNumber, newline, space, nought, modulusKey, aKey, bKey, cKey, operationKey, curveKey, name, WrittenJob}
+use Rattle.definitions.specs.Text.{greatestNumber, newline, space, nought, modulusKey, aKey}
+use Rattle.definitions.specs.Text.{bKey, cKey, operationKey, curveKey, name, WrittenJob}
 use Rattle.definitions.specs.declared.Operation.{Operation}
 
 pub data Front (A : Type 0) : Type 0 where

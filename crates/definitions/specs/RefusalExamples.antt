@@ -4,15 +4,18 @@
 --   number v        the number of a verdict, and 0 for a finished one
 -- plain-order, tree-order, moments-order, norms-order and text-order: the number that each input gives. So no test of a call is left out,
 -- none stands before one of a lower number, and each condition holds where it must; a test that a call skips gives way to the next.
+-- closing-order: the tests on rows look at the closing row. c-from: from which row on 11 looks at the c.
 -- curves-asked: which operations of a job take a curve, and which none. greatest-written: the greatest modulus in a text, and one more.
 -- Assumes nothing.
 use mathlib.Core.Path.{_≡_, refl}
+use mathlib.Core.Bool.{true, false}
 use mathlib.Core.List.{List, [], _∷_, _++_, map}
 use Prim.Native.Nat.{ℕ, suc}
 use Prim.Native.String.{String}
 use lib.ListN.{replicate}
-use Rattle.definitions.specs.Family.{Family, family}
-use Rattle.definitions.specs.Refusals.{Test, Verdict, finished, refused, verdict, workLength, plainTests, treeTests, momentsTests, normsTests}
+use Rattle.definitions.specs.Family.{Row, Family, family, rowOf}
+use Rattle.definitions.specs.Refusals.{Test, Verdict, finished, refused, verdict, workLength, cInverseTest, familyRows}
+use Rattle.definitions.specs.Refusals.{plainTests, treeTests, momentsTests, normsTests}
 use Rattle.definitions.specs.Figures.{handed, R}
 use Rattle.definitions.specs.Text.{bytes, WrittenJob, jobText}
 use Rattle.definitions.specs.TextCall.{textOutputLength, textTests}
@@ -83,6 +86,20 @@ pub norms-order : numbers (λ x. normsTests (x .family) (x .output)) 2
     ≡ 3 ∷ 4 ∷ 4 ∷ 4 ∷ 5 ∷ 7 ∷ 7 ∷ 7 ∷ 7 ∷ 9 ∷ 9 ∷ 9 ∷ 9 ∷ 10 ∷ 11 ∷ 0 ∷ 0 ∷ []
 unfolding handed
 norms-order = refl
+
+-- the closing row is row n: one row 1 0 1 modulo 15, closed by rows with every fault and then one fault after another mended
+abbrev pub closedBy : Row → Family
+closedBy row = record { m = 15; a = 1 ∷ []; b = 0 ∷ []; c = 1 ∷ []; close = row }
+
+pub closing-order : map (λ row. number (verdict (familyRows (closedBy row)) []))
+    (rowOf 15 0 0 ∷ rowOf 0 15 0 ∷ rowOf 0 0 15 ∷ rowOf 0 0 0 ∷ rowOf 1 0 0 ∷ rowOf 1 0 1 ∷ []) ≡ 9 ∷ 9 ∷ 9 ∷ 10 ∷ 11 ∷ 0 ∷ []
+unfolding handed
+closing-order = refl
+
+-- 11 from the first row on and from the second on, where the first c is 0
+pub c-from : map (λ first. cInverseTest first (row 1 0 0) .holds) (0 ∷ 1 ∷ []) ≡ true ∷ false ∷ []
+unfolding handed
+c-from = refl
 
 abbrev pub written : Operation → Family → List ℕ → WrittenJob
 written operation f u = record { modulus = f .m; a = f .a; b = f .b; c = f .c; operation = operation; curve = u }

@@ -10,14 +10,14 @@ use mathlib.Core.List.{List, [], _∷_, map}
 use Prim.Native.Nat.{ℕ}
 use Prim.Native.String.{String}
 use lib.ListN.{replicate}
-use Rattle.definitions.specs.Number.{sum, table, negative, inverseBelow, inverse}
-use Rattle.definitions.specs.Family.{rowAt, timesX, term, F, G}
-use Rattle.definitions.specs.Conversion.{expand, adjoint, top, lessTop, decomposeBelow, decompose}
-use Rattle.definitions.specs.Orthogonality.{reversal, nextQuotient, quotient, moments, signedProduct, norm, norms}
-use Rattle.definitions.specs.Refusals.{Verdict, finished, refused, verdict, some, differ, notBelow, noInverse, someFrom, someRow, workLength, modulusTest, lengthsTest, rowCountTest, curveLengthTest, workTest, entriesTest, aInverseTest, cInverseTest, curveEntriesTest, shapeTests, familyRows}
-use Rattle.definitions.specs.Text.{bytes, decimalWithin, decimal, spaced, numbers, line, name, WrittenJob, jobText, answerText, refusalText}
-use Rattle.definitions.specs.Reading.{found, readKey, isDigit, readDigits, readNumber, readOn, readSome, readNumbers, readName, ended, readLine, readLines, readJob}
-use Rattle.definitions.specs.TextCall.{textOutputLength, textLengthTest, curveCount, textOutputTest, jobTests, formTests, textTests, converted, result, replyTo, reply}
+use Rattle.definitions.specs.Refusals.{Verdict, finished, refused, verdict, workLength}
+use Rattle.definitions.specs.Figures.{handed}
+use Rattle.definitions.specs.Text.{bytes, decimalWithin, decimal, spaced, numbers, line}
+use Rattle.definitions.specs.Text.{name, WrittenJob, jobText, answerText, refusalText}
+use Rattle.definitions.specs.Reading.{found, readKey, isDigit, readDigits, readNumber, readOn, readSome}
+use Rattle.definitions.specs.Reading.{readNumbers, readName, ended, readLine, readLines, readJob}
+use Rattle.definitions.specs.TextCall.{textOutputLength, textLengthTest, curveCount, textOutputTest, jobTests}
+use Rattle.definitions.specs.TextCall.{formTests, textTests, converted, result, replyTo, reply}
 use Rattle.definitions.specs.Printing.{shown, printed}
 use Rattle.definitions.specs.declared.Operation.{Operation}
 
@@ -47,11 +47,13 @@ text gives hands = record { text = text; output = textOutputLength; work = workL
 
 -- whoever unfolds it unfolds the definitions that it leads to
 unfoldable pub verdictOn : List ℕ → ℕ → ℕ → Verdict
-unfolding sum table negative inverseBelow inverse rowAt timesX term F G expand adjoint top lessTop decomposeBelow decompose reversal nextQuotient quotient moments signedProduct norm norms verdict some differ notBelow noInverse someFrom someRow modulusTest lengthsTest rowCountTest curveLengthTest workTest entriesTest aInverseTest cInverseTest curveEntriesTest shapeTests familyRows decimalWithin decimal spaced numbers line name answerText readKey isDigit readDigits readNumber readOn readSome readNumbers readName ended readLine readLines readJob textLengthTest curveCount textOutputTest jobTests formTests textTests converted result replyTo reply
+unfolding handed decimalWithin decimal spaced numbers line name answerText readKey isDigit readDigits readNumber readOn readSome
+    readNumbers readName ended readLine readLines readJob textLengthTest curveCount textOutputTest jobTests formTests textTests
+    converted result replyTo reply
 verdictOn t output work = verdict (textTests t output work) (reply t)
 
-abbrev pub handed : Sample → Verdict
-handed s = verdictOn (bytes (s .text)) (s .output) (s .work)
+abbrev pub verdictOf : Sample → Verdict
+verdictOf s = verdictOn (bytes (s .text)) (s .output) (s .work)
 
 abbrev pub samples : List Sample
 samples =
@@ -81,7 +83,7 @@ samples =
     ∷ record { text = paperText; output = 4096; work = 16383; hands = refused 8 }
     ∷ []
 
-pub samples-hold : map handed samples ≡ map (λ s. s .hands) samples
+pub samples-hold : map verdictOf samples ≡ map (λ s. s .hands) samples
 unfolding verdictOn
 samples-hold = refl
 
@@ -89,11 +91,13 @@ samples-hold = refl
 abbrev pub rowsOf : ℕ → WrittenJob
 rowsOf r = record { modulus = 7; a = replicate r 1; b = replicate r 0; c = replicate r 1; operation = Operation.Expand; curve = [] }
 
-pub bytes-counted : (verdictOn (replicate 8192 48) textOutputLength workLength ≡ refused 2) × (verdictOn (replicate 8193 48) textOutputLength workLength ≡ refused 1)
+pub bytes-counted : (verdictOn (replicate 8192 48) textOutputLength workLength ≡ refused 2)
+    × (verdictOn (replicate 8193 48) textOutputLength workLength ≡ refused 1)
 unfolding verdictOn
 bytes-counted = (refl, refl)
 
-pub rows-counted : (verdictOn (jobText (rowsOf 127)) textOutputLength workLength ≡ refused 6) × (verdictOn (jobText (rowsOf 128)) textOutputLength workLength ≡ refused 5)
+pub rows-counted : (verdictOn (jobText (rowsOf 127)) textOutputLength workLength ≡ refused 6)
+    × (verdictOn (jobText (rowsOf 128)) textOutputLength workLength ≡ refused 5)
 unfolding verdictOn jobText
 rows-counted = (refl, refl)
 

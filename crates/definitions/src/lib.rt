@@ -1,4 +1,5 @@
-// How the calls answer, and what a job may ask for. An answer is the finished kind or a refusal number (the scope paper, 'Who causes which refusal');
+// How the calls answer, and what a job may ask for. An answer is the finished kind or a refusal number (the scope paper,
+// 'Who causes which refusal');
 // specs/Answers.antt gives the paper's number and values for each case, and every promise goes through that definition.
 
 // The answer of a call whose result stands in a lent output.

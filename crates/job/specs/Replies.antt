@@ -11,8 +11,8 @@ use native.Mathlib.Nat.{sub-zero}
 use native.Mathlib.Omega.{arith}
 use lib.ListN.{length, take, drop, length-take, length-append}
 use lib.Seq.{length-take-le, take-at}
-use Rattle.definitions.specs.Answers.{answered, valued, after, cleared, ConvertedIn}
-use Rattle.definitions.specs.Family.{Family, family}
+use Rattle.definitions.specs.Answers.{answered, valued, after, cleared}
+use Rattle.definitions.specs.Family.{Family, ones}
 use Rattle.definitions.specs.Refusals.{finished, refused, verdict}
 use Rattle.definitions.specs.Text.{answerText}
 use Rattle.definitions.specs.TextCall.{converted}
@@ -20,8 +20,10 @@ use Rattle.definitions.specs.declared.Answer.{Answer}
 use Rattle.definitions.specs.declared.Operation.{Operation}
 use Rattle.definitions.specs.declared.Valued.{Valued}
 use Rattle.acceptance.specs.Verdicts.{None, verdict-finished, withValues, verdict-values}
-use Rattle.operations.specs.Lists.{Parts, sized-by-tests, result-length}
-use Rattle.operations.specs.Tests.{resultCount, valueTests, sizesOf, Fits, sizes-fit, result-few}
+use Rattle.lists.specs.Lent.{lent, Long}
+use Rattle.verdicts.specs.Sizes.{valueTests, sizesOf, Fits, sizes-fit}
+use Rattle.operations.specs.Results.{resultCount, result-length, result-few}
+use Rattle.operations.specs.Lists.{Parts, ConvertedFront, sized-by-tests}
 use Rattle.writer.specs.Answer.{Room, AnswerWritten}
 
 abbrev pub withLength : ℕ → Answer → Valued
@@ -29,11 +31,9 @@ withLength n Answer.Finished = Valued.Value n
 withLength n (Answer.Refused k) = Valued.Refused k
 
 pub record Ready (operation : Operation) (m : ℕ) (a b c : List ℕ) (r : ℕ) (u : List ℕ) (entries : ℕ) (output work : List ℕ) : Type 0 where
-  pub aFront : r ≤ length a
-  pub bFront : r ≤ length b
-  pub cFront : r ≤ length c
+  pub rowsFront : Long r a b c
   pub curveFront : entries ≤ length u
-  pub passed : None (sizesOf operation (family m (take r a) (take r b) (take r c)) (take entries u) (length output) (length work))
+  pub passed : None (sizesOf operation (lent m r a b c ones) (take entries u) (length output) (length work))
 
 unfoldable pub replyText : Operation → Family → List ℕ → List ℕ
 replyText operation f u = answerText operation (converted operation f u)
@@ -46,13 +46,13 @@ pub record Replied (operation : Operation) (f : Family) (u : List ℕ) (r : Valu
 module _ (operation : Operation) (m : ℕ) (a b c : List ℕ) (r : ℕ) (us : List ℕ) (entries : ℕ) (output work : List ℕ)
     (ready : Ready operation m a b c r us entries output work) where
   abbrev f : Family
-  f = family m (take r a) (take r b) (take r c)
+  f = lent m r a b c ones
 
   abbrev u : List ℕ
   u = take entries us
 
   row-count : length (take r a) ≡ r
-  row-count = length-take-le r a (ready .aFront)
+  row-count = length-take-le r a (ready .rowsFront .aLong)
 
   fits : Fits operation (length (take r a)) (length (take r b)) (length (take r c)) (length u) (length output) (length work)
   fits = sizes-fit m operation _ _ _ _ (length output) (length work) (ready .passed)
@@ -66,9 +66,7 @@ module _ (operation : Operation) (m : ℕ) (a b c : List ℕ) (r : ℕ) (us : Li
 
     pub parts : (list : List ℕ) → 255 ≤ length list → Parts operation m a b c r us entries list count (length work)
     parts list l = record {
-      aFront = ready .aFront;
-      bFront = ready .bFront;
-      cFront = ready .cFront;
+      rowsFront = ready .rowsFront;
       curveFront = ready .curveFront;
       outputFront = omega (arith, count-few);
       sized = sized-by-tests operation f u (length output) (length work) count (ready .passed) (countIs ∙ ap (resultCount operation) (sym row-count));
@@ -76,7 +74,7 @@ module _ (operation : Operation) (m : ℕ) (a b c : List ℕ) (r : ℕ) (us : Li
 
     -- the conversion has answered, and its list stands at the front of list′
     module _ (tested : Answer) (list list′ work′ : List ℕ)
-        (done : ConvertedIn (valueTests f u) (converted operation f u ++ drop count list) tested list list′ work work′) where
+        (done : ConvertedFront operation f u count tested list list′ work work′) where
       pub values-refused : (k : ℕ) → tested ≡ Answer.Refused k → (v : Valued) → v ≡ withLength 0 tested → Replied operation f u v output output work work′
       values-refused k q v is =
           let n = length (replyText operation f u) in

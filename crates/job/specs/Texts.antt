@@ -8,7 +8,7 @@ use native.Mathlib.Omega.{arith}
 use lib.Dec.{ltb}
 use lib.ListN.{length, take, replicate, length-take, length-replicate}
 use Rattle.definitions.specs.Answers.{answered}
-use Rattle.definitions.specs.Family.{Family, family}
+use Rattle.definitions.specs.Family.{Family, ones}
 use Rattle.definitions.specs.Reading.{found, malformed, readJob}
 use Rattle.definitions.specs.Refusals.{Test, refused, verdict, test}
 use Rattle.definitions.specs.Text.{WrittenJob, meant, answerText}
@@ -17,9 +17,10 @@ use Rattle.definitions.specs.declared.Answer.{Answer}
 use Rattle.definitions.specs.declared.Operation.{Operation}
 use Rattle.definitions.specs.declared.Valued.{Valued}
 use Rattle.acceptance.specs.Verdicts.{None, verdict-here, verdict-next, verdict-finished, verdict-stops, verdict-goes-on}
-use Rattle.operations.specs.Tests.{sizeTests, valueTests, sizesOf, job-tests, Fits, sizes-fit, curve-few}
+use Rattle.lists.specs.Lent.{lent}
+use Rattle.verdicts.specs.Sizes.{sizeTests, valueTests, sizesOf, job-tests, Fits, sizes-fit, curve-few}
 use Rattle.reader.specs.Storing.{Stored, kept-front}
-use Rattle.form.specs.Form.{JobAt}
+use Rattle.form.specs.JobForm.{JobAt}
 use Rattle.job.specs.Replies.{withLength, Ready, replyText, Replied}
 
 pub short-text : (t : List ℕ) (r : Answer) → answered r ≡ verdict (test 1 (ltb mostBytes (length t)) ∷ []) [] → r ≡ Answer.Finished
@@ -103,7 +104,7 @@ module _ (t : List ℕ) (modulus : ℕ) (operation : Operation) (na nb nc nv : �
       fits = sizes-fit modulus operation na nb nc nv (length output) (length work) passed
 
       abbrev loaded : Family
-      loaded = family modulus (take na a) (take na b) (take na c)
+      loaded = lent modulus na a b c ones
 
       family-is : loaded ≡ meant w .family
       family-is =
@@ -130,9 +131,11 @@ module _ (t : List ℕ) (modulus : ℕ) (operation : Operation) (na nb nc nv : �
 
       pub ready : Ready operation modulus a b c na v nv output work
       ready = record {
-        aFront = front-room na a a-long;
-        bFront = front-room na b (b-long ∙ fits .bRows);
-        cFront = front-room na c (c-long ∙ fits .cRows);
+        rowsFront = record {
+          aLong = front-room na a a-long;
+          bLong = front-room na b (b-long ∙ fits .bRows);
+          cLong = front-room na c (c-long ∙ fits .cRows);
+        };
         curveFront = front-room nv v curve-long;
         passed = rw (a-long, b-long, c-long, curve-long) passed;
       }

@@ -2,13 +2,14 @@
 // Nothing is written before every test has passed, and it has no 'requires'.
 ghost use mathlib.Core.Path.{_≡_};
 ghost use lib.ListN.{take};
-ghost use Rattle.definitions.specs.Family.{family};
+ghost use Rattle.definitions.specs.Family.{ones};
 ghost use Rattle.definitions.specs.TextCall.{TextConverted};
+ghost use Rattle.lists.specs.Lent.{lent};
 ghost use Rattle.job.specs.Replies.{withLength, Ready, Replied};
 use definitions::Answer;
 use definitions::Operation;
 use definitions::Valued;
-use form::Form;
+use form::JobForm;
 
 // An answer with a length in its finished kind.
 fn with_length(answer: Answer, length: u32) -> Valued
@@ -34,9 +35,8 @@ fn answer(
     work: &mut [u32],
 ) -> Valued
     requires { ⌜ Ready operation modulus (now a) (now b) (now c) rows (now curve) entries (now output) (now work) ⌝ }
-    ensures { λ r. ⌜ Replied operation
-        (family modulus (take rows (now (a .entry))) (take rows (now (b .entry))) (take rows (now (c .entry)))) (take entries (now (curve .entry)))
-        r (now (output .entry)) (now (output .exit)) (now (work .entry)) (now (work .exit)) ⌝ }
+    ensures { λ r. ⌜ Replied operation (lent modulus rows (now (a .entry)) (now (b .entry)) (now (c .entry)) ones) (take entries (now (curve .entry))) r
+        (now (output .entry)) (now (output .exit)) (now (work .entry)) (now (work .exit)) ⌝ }
 {
     let mut list = [0u32; 255];
     let count = operations::result_count(operation, rows);
@@ -76,7 +76,7 @@ pub fn convert_text(text: &[u8], output: &mut [u8], work: &mut [u32]) -> Valued
     let mut ys = lists::zeros();
     let mut zs = lists::zeros();
     let mut us = lists::zeros();
-    let Form::Job {
+    let JobForm::Job {
         modulus,
         operation,
         a,
@@ -87,7 +87,7 @@ pub fn convert_text(text: &[u8], output: &mut [u8], work: &mut [u32]) -> Valued
     else {
         return Valued::Refused(2);
     };
-    let sized = operations::sizes(modulus, operation, a, b, c, curve, output.len(), work.len());
+    let sized = verdicts::sizes(modulus, operation, a, b, c, curve, output.len(), work.len());
     let Answer::Finished = sized else {
         return with_length(sized, 0);
     };

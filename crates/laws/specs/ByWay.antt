@@ -10,11 +10,11 @@ use native.Mathlib.Omega.{arith}
 use lib.ListN.{length, drop, replicate, length-replicate, length-append, length-drop}
 use lib.Seq.{drop-at}
 use Rattle.definitions.specs.Answers.{answered, after, cleared, Converted, ConvertedIn}
-use Rattle.definitions.specs.Family.{Family, Curve, family}
+use Rattle.definitions.specs.Family.{Family, Curve}
 use Rattle.definitions.specs.Refusals.{verdict, plainTests, treeTests, workLength}
 use Rattle.definitions.specs.declared.Answer.{Answer}
-use Rattle.acceptance.specs.Acceptance.{PlainInput, TreeInput, plain-passes, tree-passes}
-use Rattle.acceptance.specs.Verdicts.{None, verdict-finished, work-passes}
+use Rattle.acceptance.specs.Acceptance.{PlainInput, TreeInput, plain-passes, tree-passes, tree-finished}
+use Rattle.acceptance.specs.Verdicts.{None}
 use Rattle.laws.specs.Laws.{TwoCallsInput, wayTests, workLeft, Made}
 use Rattle.laws.specs.declared.Way.{Way}
 
@@ -31,26 +31,25 @@ module _ (convert : Family → List ℕ → List ℕ) (f : Family) (u : List ℕ
       → Made convert Way.Tree f u r output output′ work work′
   by-tree work′ made = record { answer = made .answer; written = made .written; worked = made .wiped }
 
--- ---- the tests of a way; what is accepted is stated of a family's modulus and lists (theory, Acceptance)
-module _ (m : ℕ) (a b c u : List ℕ) (output work : ℕ) where
-  pub way-input : (way : Way) → None (wayTests way (family m a b c) u output work) → PlainInput (family m a b c) u output
-  way-input Way.Plain none = plain-passes m a b c u output .0 none
-  way-input Way.Tree none = tree-passes m a b c u output work .0 none .plain
+-- ---- the tests of a way
+module _ (f : Family) (u : List ℕ) (output work : ℕ) where
+  pub way-input : (way : Way) → None (wayTests way f u output work) → PlainInput f u output
+  way-input Way.Plain none = plain-passes f u output .0 none
+  way-input Way.Tree none = tree-passes f u output work .0 none .plain
 
-  way-passes : (way : Way) → TreeInput (family m a b c) u output work → None (wayTests way (family m a b c) u output work)
-  way-passes Way.Plain input = plain-passes m a b c u output .1 (input .plain)
-  way-passes Way.Tree input = tree-passes m a b c u output work .1 input
+  way-passes : (way : Way) → TreeInput f u output work → None (wayTests way f u output work)
+  way-passes Way.Plain input = plain-passes f u output .1 (input .plain)
+  way-passes Way.Tree input = tree-passes f u output work .1 input
 
 -- two conversions in turn, the second on another curve of the family
-pub two-calls-pass : (first second : Way) (m : ℕ) (a b c u v one two work : List ℕ) → TwoCallsInput (family m a b c) u one two work
-    → Curve (family m a b c) v
-    → None (wayTests first (family m a b c) u (length one) (length work)) × None (wayTests second (family m a b c) v (length two) (length work))
-two-calls-pass first second m a b c u v one two work input curve = (
-  way-passes m a b c u (length one) (length work) first (record {
+pub two-calls-pass : (first second : Way) (f : Family) (u v one two work : List ℕ) → TwoCallsInput f u one two work → Curve f v
+    → None (wayTests first f u (length one) (length work)) × None (wayTests second f v (length two) (length work))
+two-calls-pass first second f u v one two work input curve = (
+  way-passes f u (length one) (length work) first (record {
     plain = record { accepted = input .accepted; curve = input .curve; outputLength = input .oneLength };
     workLong = input .workLong;
   }),
-  way-passes m a b c v (length two) (length work) second (record {
+  way-passes f v (length two) (length work) second (record {
     plain = record { accepted = input .accepted; curve = curve; outputLength = input .twoLength };
     workLong = input .workLong;
   }),
@@ -71,12 +70,8 @@ pub cleared-after : (way : Way) (work : List ℕ) → cleared (workLeft way work
 cleared-after Way.Plain work = refl
 cleared-after Way.Tree work = cleared-twice work
 
-work-tested : (f : Family) (u : List ℕ) (output work : ℕ) → None (treeTests f u output work) → workLength ≤ work
-unfolding treeTests
-work-tested f u output work (e3, (e4, (e5, (e6, (e7, (e8, rest)))))) = work-passes work .0 e8
-
 pub work-length : (way : Way) (f : Family) (u : List ℕ) (r : Answer) (output : ℕ) (work : List ℕ)
     → answered r ≡ verdict (wayTests way f u output (length work)) [] → r ≡ Answer.Finished → length (workLeft way work) ≡ length work
 work-length Way.Plain f u r output work e q = refl
-work-length Way.Tree f u r output work e q = cleared-length work
-    (work-tested f u output (length work) (verdict-finished (treeTests f u output (length work)) [] .0 (sym e ∙ ap answered q)))
+work-length Way.Tree f u r output work e q =
+    cleared-length work (tree-finished f u output (length work) [] .0 (sym e ∙ ap answered q) .workLong)

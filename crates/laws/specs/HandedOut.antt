@@ -4,14 +4,14 @@ use mathlib.Core.Path.{_≡_, sym, _∙_, ap}
 use mathlib.Core.List.{List, []}
 use Prim.Native.Nat.{ℕ}
 use lib.ListN.{length}
-use Rattle.definitions.specs.Answers.{answered, after, cleared, Converted, ConvertedIn}
+use Rattle.definitions.specs.Answers.{answered, after, cleared, NormsCall, MomentsCall}
 use Rattle.definitions.specs.Conversion.{expand}
 use Rattle.definitions.specs.Family.{Family}
 use Rattle.definitions.specs.Orthogonality.{moments, norms}
 use Rattle.definitions.specs.Refusals.{Test, verdict, momentsTests, normsTests}
 use Rattle.definitions.specs.declared.Answer.{Answer}
 use Rattle.laws.specs.ByWay.{work-length}
-use Rattle.laws.specs.Chain.{chain-refused, chain-next}
+use Rattle.acceptance.specs.Stages.{all-remain, stage-refuses, stage-passes, stages-end}
 use Rattle.laws.specs.Laws.{Lists, lists, wayTests, workLeft, Made, tests₁, tests₂, tests₃, lawTests, work₁, work₂, work₃, HandedOut}
 use Rattle.laws.specs.declared.Way.{Way}
 
@@ -61,9 +61,9 @@ module _ (first second : Way) (f : Family) (u v : List ℕ) (lent : Lists) (r₁
   pub first-refused : (k : ℕ) → r₁ ≡ Answer.Refused k
       → HandedOut first second f u v lent r₁ (lists s′ (lent .t) (lent .moment) (lent .norm) w₁)
   first-refused k q =
-      let e₂ = chain-refused T₁ later₂ r₁ (one .answer) k q in
-      let e₃ = chain-refused T₂ later₃ r₁ e₂ k q in
-      let e₄ = chain-refused T₃ later₄ r₁ e₃ k q in
+      let e₂ = stage-refuses T₁ later₂ all-remain r₁ (one .answer) k q in
+      let e₃ = stage-refuses T₂ later₃ all-remain r₁ e₂ k q in
+      let e₄ = stage-refuses T₃ later₄ all-remain r₁ e₃ k q in
       record {
         answer = e₄;
         lists = record {
@@ -81,7 +81,7 @@ module _ (first second : Way) (f : Family) (u v : List ℕ) (lent : Lists) (r₁
         ∙ work-length first f u r₁ (length (lent .s)) (lent .work) (one .answer) q₁
 
     e₂ : answered r₂ ≡ verdict T₂ []
-    e₂ = chain-next T₁ later₂ r₁ (one .answer) q₁ r₂
+    e₂ = stages-end later₂ (stage-passes T₁ later₂ all-remain r₁ (one .answer) q₁) r₂
         (two .answer ∙ ap (λ k. verdict (wayTests second f v (length (lent .t)) k) []) length₁)
 
     t-is : t′ ≡ after (verdict T₂ []) (expand f v) (lent .t)
@@ -94,8 +94,8 @@ module _ (first second : Way) (f : Family) (u v : List ℕ) (lent : Lists) (r₁
     pub second-refused : (k : ℕ) → r₂ ≡ Answer.Refused k
         → HandedOut first second f u v lent r₂ (lists s′ t′ (lent .moment) (lent .norm) w₂)
     second-refused k q =
-        let e₃ = chain-refused T₂ later₃ r₂ e₂ k q in
-        let e₄ = chain-refused T₃ later₄ r₂ e₃ k q in
+        let e₃ = stage-refuses T₂ later₃ all-remain r₂ e₂ k q in
+        let e₄ = stage-refuses T₃ later₄ all-remain r₂ e₃ k q in
         record {
           answer = e₄;
           lists = record {
@@ -108,13 +108,13 @@ module _ (first second : Way) (f : Family) (u v : List ℕ) (lent : Lists) (r₁
         }
 
     module _ (q₂ : r₂ ≡ Answer.Finished) (r₃ : Answer) (moment′ w₃ : List ℕ)
-        (three : ConvertedIn (momentsTests f (length (lent .moment)) (length w₂)) (moments f) r₃ (lent .moment) moment′ w₂ w₃) where
+        (three : MomentsCall f r₃ (lent .moment) moment′ w₂ w₃) where
       length₂ : length w₂ ≡ length (lent .work)
       length₂ = ap length (two .worked ∙ ap (λ x. after (answered x) (workLeft second w₁) w₁) q₂)
           ∙ work-length second f v r₂ (length (lent .t)) w₁ (two .answer) q₂ ∙ length₁
 
       e₃ : answered r₃ ≡ verdict T₃ []
-      e₃ = chain-next T₂ later₃ r₂ e₂ q₂ r₃ (three .answer ∙ ap (λ k. verdict (momentsTests f (length (lent .moment)) k) []) length₂)
+      e₃ = stages-end later₃ (stage-passes T₂ later₃ all-remain r₂ e₂ q₂) r₃ (three .answer ∙ ap (λ k. verdict (momentsTests f (length (lent .moment)) k) []) length₂)
 
       moments-are : moment′ ≡ after (verdict T₃ []) (moments f) (lent .moment)
       moments-are = settles T₃ r₃ (moments f) (lent .moment) e₃ moment′ (three .written)
@@ -124,7 +124,7 @@ module _ (first second : Way) (f : Family) (u v : List ℕ) (lent : Lists) (r₁
 
       pub third-refused : (k : ℕ) → r₃ ≡ Answer.Refused k → HandedOut first second f u v lent r₃ (lists s′ t′ moment′ (lent .norm) w₃)
       third-refused k q =
-          let e₄ = chain-refused T₃ later₄ r₃ e₃ k q in
+          let e₄ = stage-refuses T₃ later₄ all-remain r₃ e₃ k q in
           record {
             answer = e₄;
             lists = record {
@@ -136,10 +136,10 @@ module _ (first second : Way) (f : Family) (u v : List ℕ) (lent : Lists) (r₁
             };
           }
 
-      module _ (q₃ : r₃ ≡ Answer.Finished) (r₄ : Answer) (norm′ : List ℕ) (four : Converted later₄ (norms f) r₄ (lent .norm) norm′) where
+      module _ (q₃ : r₃ ≡ Answer.Finished) (r₄ : Answer) (norm′ : List ℕ) (four : NormsCall f r₄ (lent .norm) norm′) where
         pub all-handed-out : HandedOut first second f u v lent r₄ (lists s′ t′ moment′ norm′ w₃)
         all-handed-out =
-            let e₄ = chain-next T₃ later₄ r₃ e₃ q₃ r₄ (four .answer) in
+            let e₄ = stages-end later₄ (stage-passes T₃ later₄ all-remain r₃ e₃ q₃) r₄ (four .answer) in
             record {
               answer = e₄;
               lists = record {

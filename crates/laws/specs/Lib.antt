@@ -1,8 +1,7 @@
 -- The laws over the calls, as propositions about the lists that the calls hand out. Assumes nothing.
 pub mod Laws
-pub mod Chain
 pub mod ByWay
-pub mod Returned
+pub mod RoundTrips
 pub mod Ways
 pub mod HandedOut
 pub mod Totalled

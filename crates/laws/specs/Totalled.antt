@@ -9,7 +9,7 @@ use native.Mathlib.Omega.{arith}
 use lib.ListN.{length}
 use Rattle.definitions.specs.Answers.{answered, cleared}
 use Rattle.definitions.specs.Conversion.{expand}
-use Rattle.definitions.specs.Family.{Family, Accepted, family}
+use Rattle.definitions.specs.Family.{Family, Accepted, rows}
 use Rattle.definitions.specs.Orthogonality.{moments, norms, momentTotal, normTotal, ProductLaw}
 use Rattle.definitions.specs.Refusals.{Test, finished, verdict, momentsTests, normsTests}
 use Rattle.definitions.specs.declared.Answer.{Answer}
@@ -20,16 +20,13 @@ use Rattle.theory.specs.ProductLaw.{product-law}
 use Rattle.acceptance.specs.Verdicts.{None, verdict-finished, none-append, withValues, verdict-values}
 use Rattle.totals.specs.Totals.{MomentTotalInput, NormTotalInput}
 use Rattle.laws.specs.ByWay.{way-input, two-calls-pass, cleared-after}
-use Rattle.laws.specs.Chain.{list-new}
+use Rattle.acceptance.specs.Stages.{list-new}
 use Rattle.laws.specs.Laws.{Lists, ProductLawInput, told, bothTotals, ProductLawHolds, wayTests, workLeft}
 use Rattle.laws.specs.Laws.{tests₁, tests₂, tests₃, lawTests, work₁, work₂, ListsHanded, HandedOut, Weighed}
 use Rattle.laws.specs.declared.Totals.{Totals}
 use Rattle.laws.specs.declared.Way.{Way}
 
-module _ (first second : Way) (m : ℕ) (a b c u v : List ℕ) (lent : Lists) where
-  abbrev f : Family
-  f = family m a b c
-
+module _ (first second : Way) (f : Family) (u v : List ℕ) (lent : Lists) where
   abbrev T₁ : List Test
   T₁ = tests₁ first second f u v lent
 
@@ -53,16 +50,16 @@ module _ (first second : Way) (m : ℕ) (a b c u v : List ℕ) (lent : Lists) wh
 
   passes : ProductLawInput f u v lent → None T₄
   passes input =
-      let curves : None T₁ × None later₂ = two-calls-pass first second m a b c u v (lent .s) (lent .t) (lent .work) (record {
+      let curves : None T₁ × None later₂ = two-calls-pass first second f u v (lent .s) (lent .t) (lent .work) (record {
         accepted = input .accepted;
         curve = input .uCurve;
         oneLength = input .sLength;
         twoLength = input .tLength;
         workLong = input .workLong;
       }) (input .vCurve) in
-      let moment : None later₃ = moments-passes m a b c (length (lent .moment)) (length (lent .work)) .1
+      let moment : None later₃ = moments-passes f (length (lent .moment)) (length (lent .work)) .1
       (record { accepted = input .accepted; outputLength = input .momentLength; workLong = input .workLong }) in
-      let norm : None later₄ = norms-passes m a b c (length (lent .norm)) .1
+      let norm : None later₄ = norms-passes f (length (lent .norm)) .1
       (record { accepted = input .accepted; outputLength = input .normLength }) in
       none-append T₃ later₄ .1 (none-append T₂ later₃ .1 (none-append T₁ later₂ .1 curves, moment), norm)
 
@@ -78,10 +75,10 @@ module _ (first second : Way) (m : ℕ) (a b c u v : List ℕ) (lent : Lists) wh
     none₁ = none-append T₁ later₂ .0 none₂ .0
 
     u-input : PlainInput f u (length (lent .s))
-    u-input = way-input m a b c u (length (lent .s)) (length (lent .work)) first none₁
+    u-input = way-input f u (length (lent .s)) (length (lent .work)) first none₁
 
     v-input : PlainInput f v (length (lent .t))
-    v-input = way-input m a b c v (length (lent .t)) (length (lent .work)) second (none-append T₁ later₂ .0 none₂ .1)
+    v-input = way-input f v (length (lent .t)) (length (lent .work)) second (none-append T₁ later₂ .0 none₂ .1)
 
     module _ (handed : Lists) (l : ListsHanded first second f u v lent handed) where
       s-new : handed .s ≡ expand f u
@@ -141,32 +138,32 @@ module _ (first second : Way) (m : ℕ) (a b c u v : List ℕ) (lent : Lists) wh
       none : None T₄
       none = verdict-finished T₄ [] .0 (sym (out .answer) ∙ ap answered q)
 
-      pub rows-few : length a ≤ 127
+      pub rows-few : rows f ≤ 127
       rows-few = u-input none .accepted .rowCount
 
-      positive : 0 < m
-      positive = let two : 2 ≤ m = u-input none .accepted .modulus .least in omega arith
+      positive : 0 < f .m
+      positive = let two : 2 ≤ f .m = u-input none .accepted .modulus .least in omega arith
 
-      pub moment-total-input : MomentTotalInput m (length a + 1) (handed .s) (handed .t) (handed .moment)
+      pub moment-total-input : MomentTotalInput (f .m) (rows f + 1) (handed .s) (handed .t) (handed .moment)
       moment-total-input =
-          let ls : length (handed .s) ≡ suc (length a) = ap length (s-new none handed (out .lists)) ∙ expand-curve f positive u .long in
-          let lt : length (handed .t) ≡ suc (length a) = ap length (t-new none handed (out .lists)) ∙ expand-curve f positive v .long in
-          let lm : length (handed .moment) ≡ 2 * suc (length a) - 1 = ap length (moments-new none handed (out .lists)) ∙ moments-length f in
+          let ls : length (handed .s) ≡ suc (rows f) = ap length (s-new none handed (out .lists)) ∙ expand-curve f positive u .long in
+          let lt : length (handed .t) ≡ suc (rows f) = ap length (t-new none handed (out .lists)) ∙ expand-curve f positive v .long in
+          let lm : length (handed .moment) ≡ 2 * suc (rows f) - 1 = ap length (moments-new none handed (out .lists)) ∙ moments-length f in
           record { positive = positive; least = omega arith; sLong = omega arith; tLong = omega arith; momentLong = omega arith }
 
-      pub norm-total-input : NormTotalInput m (length a + 1) u v (handed .norm)
+      pub norm-total-input : NormTotalInput (f .m) (rows f + 1) u v (handed .norm)
       norm-total-input =
-          let lu : length u ≡ suc (length a) = u-input none .curve .long in
-          let lv : length v ≡ suc (length a) = v-input none .curve .long in
-          let ld : length (handed .norm) ≡ suc (length a) = ap length (norms-new none handed (out .lists)) ∙ norms-curve f positive .long in
+          let lu : length u ≡ suc (rows f) = u-input none .curve .long in
+          let lv : length v ≡ suc (rows f) = v-input none .curve .long in
+          let ld : length (handed .norm) ≡ suc (rows f) = ap length (norms-new none handed (out .lists)) ∙ norms-curve f positive .long in
           record { positive = positive; uLong = omega arith; vLong = omega arith; normLong = omega arith }
 
-      pub totals-weighed : (x y : ℕ) → x ≡ momentTotal m (length a + 1) (handed .s) (handed .t) (handed .moment)
-          → y ≡ normTotal m (length a + 1) u v (handed .norm) → Weighed first second f u v lent (Totals.Weighed x y) handed
+      pub totals-weighed : (x y : ℕ) → x ≡ momentTotal (f .m) (rows f + 1) (handed .s) (handed .t) (handed .moment)
+          → y ≡ normTotal (f .m) (rows f + 1) u v (handed .norm) → Weighed first second f u v lent (Totals.Weighed x y) handed
       totals-weighed x y ex ey =
-          let n-is : length a + 1 ≡ suc (length a) = omega arith in
+          let n-is : rows f + 1 ≡ suc (rows f) = omega arith in
           weighed (Totals.Weighed x y)
           (ap₂ (λ p o. finished (p ∷ o ∷ []))
-          (ex ∙ ap (λ n. momentTotal m n (handed .s) (handed .t) (handed .moment)) n-is)
-          (ey ∙ ap (λ n. normTotal m n u v (handed .norm)) n-is)
+          (ex ∙ ap (λ n. momentTotal (f .m) n (handed .s) (handed .t) (handed .moment)) n-is)
+          (ey ∙ ap (λ n. normTotal (f .m) n u v (handed .norm)) n-is)
           ∙ sym (verdict-finished T₄ (bothTotals f u v handed) .1 none))

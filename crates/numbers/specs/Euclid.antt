@@ -8,13 +8,14 @@ use mathlib.Core.Path.{_≡_, sym, _∙_, ap, subst}
 use mathlib.Core.List.{[], _∷_}
 use mathlib.Core.Logic.{_↔_}
 use Prim.Native.Nat.{ℕ, zero, suc, _+_, _*_, _/_, _%_, _<_, _≤_, _∣_}
-use native.Mathlib.Nat.{div-add-mod', dvd-antisymm, dvd-mod-iff, dvd-mul-right-of-dvd, dvd-refl, dvd-zero, eq-one-of-dvd-one, le-refl, mod-eq-of-lt, mod-lt, mod-self, mul-comm, one-dvd, one-mul, zero-mod, zero-mul}
+use native.Mathlib.Nat.{div-add-mod', dvd-antisymm, dvd-mod-iff, dvd-mul-right-of-dvd, dvd-refl, dvd-zero, eq-one-of-dvd-one}
+use native.Mathlib.Nat.{le-refl, mod-eq-of-lt, mod-lt, mod-self, mul-comm, one-dvd, one-mul, zero-mod, zero-mul}
 use native.Mathlib.Omega.{arith}
-use Rattle.algebra.specs.Residues.{Zmod, res, res-of-mod, mod-of-res, res-mul}
+use Rattle.algebra.specs.Residues.{Zmod, res, mod-of-res}
 use Rattle.algebra.specs.Ring.{CommRing}
 use Rattle.algebra.specs.Solver.{linear, scaled, both, reify}
 use Rattle.definitions.specs.Number.{HasInverse, negative}
-use Rattle.numbers.specs.Residue.{bridge}
+use Rattle.numbers.specs.Residue.{bridge, residue-multiple}
 
 pub record GreatestFactor (g x m : ℕ) : Type 0 where
   pub dividesFirst : g ∣ x
@@ -39,20 +40,19 @@ pub record Euclid (m x r s t u : ℕ) : Type 0 where
   pub factors : (d : ℕ) → ((d ∣ r) × (d ∣ s)) ↔ ((d ∣ x) × (d ∣ m))
 
 -- r = q s + ρ, r ≡ t x and s ≡ u x give ρ ≡ (t - q u) x
-cofactor : (m : ℕ) → 0 < m → (x q ρ r s t u : ℕ) → q * s + ρ ≡ r → r % m ≡ t * x % m → s % m ≡ u * x % m → ρ % m ≡ (t + negative m (q * u)) % m * x % m
+cofactor : (m : ℕ) → 0 < m → (x q ρ r s t u : ℕ) → q * s + ρ ≡ r → r % m ≡ t * x % m → s % m ≡ u * x % m
+    → ρ % m ≡ (t + negative m (q * u)) % m * x % m
 cofactor m pos x q ρ r s t u whole first second = mod-of-res m pos ρ ((t + negative m (q * u)) % m * x) (simp bridge
     (linear R (ι x ∷ ι q ∷ ι ρ ∷ ι r ∷ ι s ∷ ι t ∷ ι u ∷ [])
     (both R (scaled R (R .one) (simp bridge at (ap ι whole)))
-    (both R (scaled R (R .one) (ring-form r t first)) (scaled R (R .neg (ι q)) (ring-form s u second)))) (search reify depth 20) tt))
+    (both R (scaled R (R .one) (residue-multiple m pos x r t first)) (scaled R (R .neg (ι q)) (residue-multiple m pos x s u second))))
+    (search reify depth 20) tt))
   where
     R : CommRing
     R = Zmod m pos
 
     ι : ℕ → R .Car
     ι = res m pos
-
-    ring-form : (y z : ℕ) → y % m ≡ z * x % m → ι y ≡ R .mul (ι z) (ι x)
-    ring-form y z e = res-of-mod m pos y (z * x) e ∙ res-mul m pos z x
 
 module _ (m x : ℕ) (two : 2 ≤ m) where
   pub euclid-start : Euclid m x m x 0 1

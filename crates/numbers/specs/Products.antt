@@ -5,6 +5,7 @@
 --   transposedAt p w i           the sum over j of p_j w_{i+j}, where w ends in zeros
 --   transposed m n p w           its terms i = 0 to n - 1: the transposed product of w with p (the report's mul^t)
 --   transposedSum m n p v q w    the sum of two of them
+--   Below m xs                   every entry of xs is below m
 -- Each entry is one remainder modulo m. Proved: lengths, and entries below m. The report, section 2. Assumes nothing.
 use mathlib.Core.Path.{_≡_}
 use mathlib.Core.List.{List}

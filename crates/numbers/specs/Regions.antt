@@ -13,7 +13,7 @@ use mathlib.Core.List.{List, [], _∷_, _++_}
 use mathlib.Core.Logic.{_⊎_, inl, inr}
 use Prim.Native.Nat.{ℕ, suc, _+_, _-_, _<_, _≤_}
 use native.Mathlib.Decide.{decLt}
-use native.Mathlib.Nat.{add-zero, add-assoc}
+use native.Mathlib.Nat.{add-zero}
 use native.Mathlib.Numerals.{add-one}
 use native.Mathlib.Omega.{arith}
 use lib.ListN.{length, getD, take, drop, set, length-append, length-drop, length-set, take-append-drop, List·getD-append}
@@ -57,7 +57,8 @@ pub part-equal : (w v : List ℕ) (at n : ℕ) → ((i : ℕ) → at ≤ i → i
 unfolding part
 part-equal w v at n e = table-equal n _ _ (λ i h. e (at + i) (omega arith) (omega arith))
 
-pub part-unique : (w : List ℕ) (at : ℕ) (xs : List ℕ) → ((i : ℕ) → i < length xs → getD w (at + i) 0 ≡ getD xs i 0) → part w at (length xs) ≡ xs
+pub part-unique : (w : List ℕ) (at : ℕ) (xs : List ℕ) → ((i : ℕ) → i < length xs → getD w (at + i) 0 ≡ getD xs i 0)
+    → part w at (length xs) ≡ xs
 unfolding part
 part-unique w at xs e = sym (table-unique xs (length xs) _ refl (λ i h. sym (e i h)))
 
@@ -65,7 +66,8 @@ part-unique w at xs e = sym (table-unique xs (length xs) _ refl (λ i h. sym (e 
 pub part-slice : (w : List ℕ) (at n : ℕ) → at + n ≤ length w → take n (drop at w) ≡ part w at n
 unfolding part
 part-slice w at n h =
-    table-unique (take n (drop at w)) n _ (length-take-le n (drop at w) (simp length-drop (omega arith))) (λ i l. getD-take n (drop at w) i 0 l ∙ getD-drop at w i 0)
+    table-unique (take n (drop at w)) n _ (length-take-le n (drop at w) (simp length-drop (omega arith)))
+    (λ i l. getD-take n (drop at w) i 0 l ∙ getD-drop at w i 0)
 
 pub part-take : (w : List ℕ) (n k : ℕ) (at : ℕ) → k ≤ n → take k (part w at n) ≡ part w at k
 part-take w n k at h =
@@ -83,7 +85,8 @@ part-below m w at n pos h i = reads (decLt i n)
     reads (no l) = rw (part-past w at n i (omega arith)) pos
 
 -- ---- a part that holds two lists side by side
-module _ (w : List ℕ) (at n k : ℕ) (xs ys : List ℕ) (first : length xs ≡ n) (second : length ys ≡ k) (holds : part w at (n + k) ≡ xs ++ ys) where
+module _ (w : List ℕ) (at n k : ℕ) (xs ys : List ℕ) (first : length xs ≡ n) (second : length ys ≡ k)
+    (holds : part w at (n + k) ≡ xs ++ ys) where
   pub part-left : part w at n ≡ xs
   part-left = ap (part w at) (sym first) ∙ part-unique w at xs (λ i h.
       sym (part-entry w at (n + k) i (omega arith)) ∙ ap (λ t. getD t i 0) holds ∙ List·getD-append xs ys 0 i h)
@@ -96,24 +99,29 @@ module _ (w : List ℕ) (at n k : ℕ) (xs ys : List ℕ) (first : length xs ≡
       ∙ getD-append-add xs ys i 0)
 
 -- entries below m
-pub part-residues : (m : ℕ) (w : List ℕ) (at n : ℕ) (xs : List ℕ) → part w at n ≡ xs → ((i : ℕ) → getD xs i 0 < m) → ResiduesIn m w at (at + n)
+pub part-residues : (m : ℕ) (w : List ℕ) (at n : ℕ) (xs : List ℕ) → part w at n ≡ xs → ((i : ℕ) → getD xs i 0 < m)
+    → ResiduesIn m w at (at + n)
 part-residues m w at n xs holds below i p q =
     let e : at + (i - at) ≡ i = omega arith in
     let l : i - at < n = omega arith in
-    let g : getD w i 0 ≡ getD xs (i - at) 0 = ap (λ j. getD w j 0) (sym e) ∙ sym (part-entry w at n (i - at) l) ∙ ap (λ t. getD t (i - at) 0) holds in
+    let g : getD w i 0 ≡ getD xs (i - at) 0 =
+    ap (λ j. getD w j 0) (sym e) ∙ sym (part-entry w at n (i - at) l) ∙ ap (λ t. getD t (i - at) 0) holds in
     rw g (below (i - at))
 
-pub part-both : (w : List ℕ) (at : ℕ) (xs ys : List ℕ) → part w at (length xs) ≡ xs → part w (at + length xs) (length ys) ≡ ys → part w at (length (xs ++ ys)) ≡ xs ++ ys
+pub part-both : (w : List ℕ) (at : ℕ) (xs ys : List ℕ) → part w at (length xs) ≡ xs → part w (at + length xs) (length ys) ≡ ys
+    → part w at (length (xs ++ ys)) ≡ xs ++ ys
 part-both w at xs ys left right = part-unique w at (xs ++ ys) (λ i h. reads i h (decLt i (length xs)))
   where
+    behind : (i : ℕ) → i < length ys → getD w (at + length xs + i) 0 ≡ getD (xs ++ ys) (length xs + i) 0
+    behind i l = sym (part-entry w (at + length xs) (length ys) i l) ∙ ap (λ t. getD t i 0) right ∙ sym (getD-append-add xs ys i 0)
+
     reads : (i : ℕ) → i < length (xs ++ ys) → Dec (i < length xs) → getD w (at + i) 0 ≡ getD (xs ++ ys) i 0
     reads i h (yes p) = sym (part-entry w at (length xs) i p) ∙ ap (λ t. getD t i 0) left ∙ sym (List·getD-append xs ys 0 i p)
     reads i h (no p) =
         let k : length xs + (i - length xs) ≡ i = omega arith in
         let j : at + i ≡ at + length xs + (i - length xs) = omega arith in
         let l : i - length xs < length ys = omega (arith, length-append xs ys) in
-        ap (λ n. getD w n 0) j ∙ sym (part-entry w (at + length xs) (length ys) (i - length xs) l) ∙ ap (λ t. getD t (i - length xs) 0) right
-        ∙ sym (getD-append-add xs ys (i - length xs) 0) ∙ ap (λ n. getD (xs ++ ys) n 0) k
+        ap (λ n. getD w n 0) j ∙ behind (i - length xs) l ∙ ap (λ n. getD (xs ++ ys) n 0) k
 
 -- ---- written lists
 pub written-none : (w : List ℕ) (at : ℕ) → written w at [] ≡ w
@@ -156,9 +164,11 @@ module _ (w : List ℕ) (at : ℕ) (xs : List ℕ) (room : at + length xs ≤ le
   part-written = part-unique (written w at xs) at xs written-inside
 
 -- what lies outside settles the rest of a written list
-pub written-unique : (w : List ℕ) (at : ℕ) (xs w′ : List ℕ) → at + length xs ≤ length w → KeptOutside at (at + length xs) w w′ → part w′ at (length xs) ≡ xs → w′ ≡ written w at xs
+pub written-unique : (w : List ℕ) (at : ℕ) (xs w′ : List ℕ) → at + length xs ≤ length w → KeptOutside at (at + length xs) w w′
+    → part w′ at (length xs) ≡ xs → w′ ≡ written w at xs
 written-unique w at xs w′ room kept holds =
-    ext-getD 0 w′ (written w at xs) (kept .long ∙ sym (written-length w at xs room)) (λ i h. reads i (decLt i at) (decLt i (at + length xs)))
+    ext-getD 0 w′ (written w at xs) (kept .long ∙ sym (written-length w at xs room))
+    (λ i h. reads i (decLt i at) (decLt i (at + length xs)))
   where
     inside : (i : ℕ) → at ≤ i → i < at + length xs → getD w′ i 0 ≡ getD (written w at xs) i 0
     inside i p q =
@@ -174,7 +184,8 @@ written-unique w at xs w′ room kept holds =
 
 -- ---- what is kept
 pub kept-wider : (lo hi lo′ hi′ : ℕ) (w w′ : List ℕ) → lo′ ≤ lo → hi ≤ hi′ → KeptOutside lo hi w w′ → KeptOutside lo′ hi′ w w′
-kept-wider lo hi lo′ hi′ w w′ p q k = record { long = k .long; before = λ i h. k .before i (omega arith); behind = λ i h. k .behind i (omega arith) }
+kept-wider lo hi lo′ hi′ w w′ p q k =
+    record { long = k .long; before = λ i h. k .before i (omega arith); behind = λ i h. k .behind i (omega arith) }
 
 pub kept-then : (lo hi : ℕ) (w w′ w″ : List ℕ) → KeptOutside lo hi w w′ → KeptOutside lo hi w′ w″ → KeptOutside lo hi w w″
 kept-then lo hi w w′ w″ k j = record {
@@ -195,38 +206,48 @@ module _ (lo hi : ℕ) (w w′ : List ℕ) (kept : KeptOutside lo hi w w′) whe
   kept-residues m p k apart below i a b = rw (kept-entry p k i apart a b) (below i a b)
 
   pub kept-drop : (k : ℕ) → hi ≤ k → drop k w′ ≡ drop k w
-  kept-drop k h = ext-getD 0 (drop k w′) (drop k w) (simp (length-drop, kept .long)) (λ i l. getD-drop k w′ i 0 ∙ kept .behind (k + i) (omega arith) ∙ sym (getD-drop k w i 0))
+  kept-drop k h = ext-getD 0 (drop k w′) (drop k w) (simp (length-drop, kept .long))
+      (λ i l. getD-drop k w′ i 0 ∙ kept .behind (k + i) (omega arith) ∙ sym (getD-drop k w i 0))
 
 -- ---- written in steps
 module _ (w : List ℕ) (at : ℕ) (xs ys : List ℕ) (room : at + (length xs + length ys) ≤ length w) where
+  -- the place behind xs, and w with the first list, and with both
+  abbrev next : ℕ
+  next = at + length xs
+
+  abbrev first : List ℕ
+  first = written w at xs
+
+  abbrev second : List ℕ
+  second = written first next ys
+
   -- side by side
-  pub written-next : written (written w at xs) (at + length xs) ys ≡ written w at (xs ++ ys)
-  written-next = written-unique w at (xs ++ ys) (written (written w at xs) (at + length xs) ys) (rw length-append room) kept holds
+  pub written-next : second ≡ written w at (xs ++ ys)
+  written-next = written-unique w at (xs ++ ys) second (rw length-append room) kept holds
     where
-      one : at + length xs ≤ length w
+      one : next ≤ length w
       one = omega arith
 
-      two : at + length xs + length ys ≤ length (written w at xs)
+      two : next + length ys ≤ length first
       two = rw (written-length w at xs one) (omega arith)
 
-      e : at + length xs + length ys ≡ at + length (xs ++ ys)
-      e = rw length-append (add-assoc at (length xs) (length ys))
-
-      kept : KeptOutside at (at + length (xs ++ ys)) w (written (written w at xs) (at + length xs) ys)
+      kept : KeptOutside at (at + length (xs ++ ys)) w second
       kept =
           let f : length (xs ++ ys) ≡ length xs + length ys = length-append xs ys in
-          kept-then at (at + length (xs ++ ys)) w (written w at xs) (written (written w at xs) (at + length xs) ys)
-          (kept-wider at (at + length xs) at (at + length (xs ++ ys)) w (written w at xs) (omega arith) (omega arith) (written-kept w at xs one))
-          (kept-wider (at + length xs) (at + length xs + length ys) at (at + length (xs ++ ys)) (written w at xs) (written (written w at xs) (at + length xs) ys) (omega arith) (omega arith) (written-kept (written w at xs) (at + length xs) ys two))
+          let end = at + length (xs ++ ys) in
+          kept-then at end w first second
+          (kept-wider at next at end w first (omega arith) (omega arith) (written-kept w at xs one))
+          (kept-wider next (next + length ys) at end first second (omega arith) (omega arith) (written-kept first next ys two))
 
-      left : part (written (written w at xs) (at + length xs) ys) at (length xs) ≡ xs
-      left = kept-part (at + length xs) (at + length xs + length ys) (written w at xs) (written (written w at xs) (at + length xs) ys) (written-kept (written w at xs) (at + length xs) ys two) at (length xs) (inl (omega arith))
+      left : part second at (length xs) ≡ xs
+      left = kept-part next (next + length ys) first second (written-kept first next ys two) at (length xs) (inl (omega arith))
           ∙ part-written w at xs one
 
-      holds : part (written (written w at xs) (at + length xs) ys) at (length (xs ++ ys)) ≡ xs ++ ys
-      holds = part-both (written (written w at xs) (at + length xs) ys) at xs ys left (part-written (written w at xs) (at + length xs) ys two)
+      holds : part second at (length (xs ++ ys)) ≡ xs ++ ys
+      holds = part-both second at xs ys left (part-written first next ys two)
 
-pub written-then : (w : List ℕ) (at : ℕ) (xs : List ℕ) (p : ℕ) (ys w₁ w₂ : List ℕ) → at + (length xs + length ys) ≤ length w → p ≡ at + length xs
+pub written-then : (w : List ℕ) (at : ℕ) (xs : List ℕ) (p : ℕ) (ys w₁ w₂ : List ℕ) → at + (length xs + length ys) ≤ length w
+    → p ≡ at + length xs
     → w₁ ≡ written w at xs → w₂ ≡ written w₁ p ys → w₂ ≡ written w at (xs ++ ys)
 written-then w at xs p ys w₁ w₂ room e one two = two ∙ ap₂ (λ v q. written v q ys) one e ∙ written-next w at xs ys room
 
@@ -235,12 +256,14 @@ pub written-one : (w : List ℕ) (at x : ℕ) → at < length w → set w at x �
 unfolding written
 written-one w at x h = set-split w at x h ∙ ap (λ n. take at w ++ x ∷ drop n w) (sym (add-one at))
 
-pub written-more : (w : List ℕ) (at : ℕ) (xs : List ℕ) (x : ℕ) → at + suc (length xs) ≤ length w → set (written w at xs) (at + length xs) x ≡ written w at (xs ++ x ∷ [])
+pub written-more : (w : List ℕ) (at : ℕ) (xs : List ℕ) (x : ℕ) → at + suc (length xs) ≤ length w
+    → set (written w at xs) (at + length xs) x ≡ written w at (xs ++ x ∷ [])
 written-more w at xs x room =
     written-one (written w at xs) (at + length xs) x (rw (written-length w at xs (omega arith)) (omega arith))
     ∙ written-next w at xs (x ∷ []) (rw add-one room)
 
-pub written-table : (w : List ℕ) (at : ℕ) (f : ℕ → ℕ) (k : ℕ) → at + k < length w → set (written w at (table k f)) (at + k) (f k) ≡ written w at (table (k + 1) f)
+pub written-table : (w : List ℕ) (at : ℕ) (f : ℕ → ℕ) (k : ℕ) → at + k < length w
+    → set (written w at (table k f)) (at + k) (f k) ≡ written w at (table (k + 1) f)
 written-table w at f k h =
     let e : length (table k f) ≡ k = table-length k f in
     ap (λ n. set (written w at (table k f)) (at + n) (f k)) (sym e) ∙ written-more w at (table k f) (f k) (rw e (omega arith))
@@ -262,7 +285,8 @@ module _ (w₀ : List ℕ) (at n : ℕ) (f : ℕ → ℕ) where
     pub writing-kept : KeptOutside at (at + n) w₀ w
     writing-kept =
         let e : length (table k f) ≡ k = table-length k f in
-        rw (h .is) (kept-wider at (at + length (table k f)) at (at + n) w₀ (written w₀ at (table k f)) (omega arith) (omega (arith, h .reached))
+        rw (h .is) (kept-wider at (at + length (table k f)) at (at + n) w₀ (written w₀ at (table k f))
+        (omega arith) (omega (arith, h .reached))
         (written-kept w₀ at (table k f) (omega (arith, h .room, h .reached))))
 
     pub writing-next : (v : ℕ) → k < n → v ≡ f k → Writing w₀ at n f (set w (at + k) v) (k + 1)

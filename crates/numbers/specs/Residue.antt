@@ -1,7 +1,7 @@
 -- What `definitions` computes with numbers modulo m is what the ring of residues computes.
 --   bridge : the equations by which `simp` carries `res m pos` from a number to the residues of its parts
--- Proved: the residues of sums, negatives and inverses; a number has an inverse if and only if its residue is a unit; lists of one
--- length with entries below m are equal if the residues of their entries are.
+-- Proved: the residues of sums, multiples, negatives and inverses; a number has an inverse if and only if its residue is a unit;
+-- lists of one length with entries below m are equal if the residues of their entries are.
 -- `pos : 0 < m` is a parameter of all of it, since the ring takes it. That residues are equal just if the remainders are, and numbers
 -- below m with equal residues, are `mod-of-res`, `res-of-mod` and `res-injective` of `algebra`, Residues.
 -- Assumes nothing.
@@ -12,7 +12,8 @@ use Prim.Native.Nat.{ℕ, _*_, _-_, _%_, _<_}
 use native.Mathlib.Nat.{mod-mod}
 use lib.ListN.{length, getD}
 use lib.Seq.{ext-getD}
-use Rattle.algebra.specs.Residues.{Zmod, res, res-zero, res-one, res-add, res-mul, res-mod, res-neg, res-sum, res-injective, inverse-of-unit}
+use Rattle.algebra.specs.Residues.{Zmod, res, res-zero, res-one, res-add, res-mul, res-mod}
+use Rattle.algebra.specs.Residues.{res-neg, res-sum, res-injective, res-of-mod, inverse-of-unit}
 use Rattle.algebra.specs.Sum as Sum
 use Rattle.algebra.specs.Unit.{IsUnit}
 use Rattle.definitions.specs.Number.{sum, negative, HasInverse, inverse}
@@ -32,6 +33,9 @@ module _ (m : ℕ) (pos : 0 < m) where
   pub residue-negative : (x : ℕ) → res m pos (negative m x) ≡ Zmod m pos .neg (res m pos x)
   unfolding negative
   residue-negative x = res-neg m pos x
+
+  pub residue-multiple : (x y z : ℕ) → y % m ≡ z * x % m → res m pos y ≡ Zmod m pos .mul (res m pos z) (res m pos x)
+  residue-multiple x y z e = res-of-mod m pos y (z * x) e ∙ res-mul m pos z x
 
   pub residue-product-one : (x y : ℕ) → x * y % m ≡ 1 → Zmod m pos .mul (res m pos x) (res m pos y) ≡ Zmod m pos .one
   residue-product-one x y e = sym (res-mul m pos x y) ∙ sym (res-mod m pos (x * y)) ∙ ap (res m pos) e ∙ res-one m pos

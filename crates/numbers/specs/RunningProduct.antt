@@ -1,7 +1,7 @@
 -- Products that run along a list modulo m, and the inverses that they share.
 --   runningProduct m v k   v_0 .. v_{k-1} modulo m, 1 if k is 0
--- Proved: how it begins and goes on; it is below m; if it has an inverse then so has each of its factors, and from that one inverse come those of the last factor
--- and of the running product before it. Assumes nothing.
+-- Proved: how it begins and goes on; it is below m; if it has an inverse then so has each of its factors, and from that one
+-- inverse come those of the last factor and of the running product before it. Assumes nothing.
 use mathlib.Core.Path.{_≡_, refl, sym, _∙_, ap}
 use mathlib.Core.Logic.{⊎-elim}
 use Prim.Native.Nat.{ℕ, zero, suc, _+_, _*_, _%_, _<_, _≤_}
@@ -57,7 +57,9 @@ module _ (m : ℕ) (v : ℕ → ℕ) where
 
     pub last-inverse : I * R % m ≡ inverse m (v k)
     last-inverse =
-        let regrouped : v k * (I * R) ≡ R * v k * I = mul-comm (v k) (I * R) ∙ ap (λ t. t * v k) (mul-comm I R) ∙ mul-assoc R I (v k) ∙ ap (λ t. R * t) (mul-comm I (v k)) ∙ sym (mul-assoc R (v k) I) in
+        let regrouped : v k * (I * R) ≡ R * v k * I =
+        mul-comm (v k) (I * R) ∙ ap (λ t. t * v k) (mul-comm I R) ∙ mul-assoc R I (v k)
+        ∙ ap (λ t. R * t) (mul-comm I (v k)) ∙ sym (mul-assoc R (v k) I) in
         inverse-unique m (v k) (I * R % m) one (mod-lt _ (omega arith)) (mul-mod-mod (v k) (I * R) m ∙ ap (λ t. t % m) regrouped ∙ whole)
 
     pub earlier-inverse : I * v k % m ≡ inverse m R

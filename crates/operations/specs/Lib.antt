@@ -1,3 +1,3 @@
--- The tests of a job in two parts, and an operation on lists. Assumes nothing.
-pub mod Tests
+-- How much an operation hands out, and an operation on lists whose sizes are in order. Assumes nothing.
+pub mod Results
 pub mod Lists

@@ -1,64 +1,63 @@
 -- An operation on lists whose sizes are in order.
 --   Sized    the tests 3 to 8 pass: the modulus, the rows, the curve and the working list; and the output is as long as the result
 --   Parts    the same for the fronts of longer lists
--- Proved: Sized from the passed tests on sizes; how long each result is; each call of the tree way, and Norms with the working list cleared, as the
--- operation's promise with the tests that are left. Assumes nothing.
+--   ConvertedValues   the promise of an operation whose tests on sizes have passed, with the tests that are left
+--   ConvertedFront    the same, written at the front of a longer output
+-- Proved: Sized from the passed tests on sizes; each call of the tree way, and Norms with the working list cleared, as the operation's
+-- promise. Assumes nothing.
+use mathlib.Core.Path.{_≡_, refl, sym, _∙_, ap}
 use mathlib.Core.Bool.{Bool, true, false}
 use mathlib.Core.List.{List, [], _∷_, _++_}
-use mathlib.Core.Path.{_≡_, refl, sym, _∙_, ap}
 use Prim.Native.Nat.{ℕ, _-_, _≤_}
 use native.Mathlib.Nat.{sub-zero}
 use native.Mathlib.Omega.{arith}
 use lib.ListN.{length, take, drop, take-append-drop}
 use lib.Seq.{length-take-le}
-use Rattle.definitions.specs.Answers.{answered, after, cleared, Converted, ConvertedIn}
+use Rattle.definitions.specs.Answers.{answered, after, cleared, ConvertedIn, TreeCall, NormsCall, MomentsCall}
 use Rattle.definitions.specs.Conversion.{expand, adjoint, decompose}
-use Rattle.definitions.specs.Family.{Family, family, rows, size}
+use Rattle.definitions.specs.Family.{Family, ones, rows, size}
 use Rattle.definitions.specs.Orthogonality.{momentCount, moments, norms}
-use Rattle.definitions.specs.Refusals.{Test, verdict, some, workLength, workTest, outputTest, curveEntriesTest, treeTests, momentsTests, normsTests}
-use Rattle.definitions.specs.TextCall.{converted}
+use Rattle.definitions.specs.Refusals.{Test, verdict, some, workLength, curveLengthTest, outputTest, workTest, curveEntriesTest}
+use Rattle.definitions.specs.Refusals.{familyShape, familyRows, treeTests, momentsTests, normsTests}
+use Rattle.definitions.specs.TextCall.{curveCount, converted}
 use Rattle.definitions.specs.declared.Answer.{Answer}
 use Rattle.definitions.specs.declared.Operation.{Operation}
-use Rattle.numbers.specs.Lists.{table-length}
-use Rattle.theory.specs.Moments.{moments-length}
-use Rattle.theory.specs.RoundTrip.{decomposeBelow-length}
-use Rattle.acceptance.specs.Verdicts.{None, verdict-here, verdict-next, verdict-goes-on, none-append, differ-false, output-passes, work-passes}
-use Rattle.checks.specs.Groups.{lengthTest, shapeOf, lengthTests, rowTests, tree-groups, moments-groups, norms-groups}
-use Rattle.operations.specs.Tests.{curveCount, resultCount, sizeTests, valueTests, sizesOf, lentTests}
+use Rattle.acceptance.specs.Verdicts.{None, verdict-here, verdict-next, verdict-goes-on, none-append, curve-length-passes, output-passes, work-passes}
+use Rattle.lists.specs.Lent.{lent, Long}
+use Rattle.verdicts.specs.Sizes.{sizeTests, valueTests, sizesOf, lentTests}
+use Rattle.operations.specs.Results.{resultCount}
 
 pub record Sized (operation : Operation) (f : Family) (u : List ℕ) (output work : ℕ) : Type 0 where
-  pub shape : None (shapeOf f)
+  pub shape : None (familyShape f)
   pub curve : length u ≡ curveCount operation (rows f)
   pub result : output ≡ resultCount operation (rows f)
   pub room : workLength ≤ work
 
 pub record Parts (operation : Operation) (m : ℕ) (a b c : List ℕ) (r : ℕ) (u : List ℕ) (entries : ℕ) (output : List ℕ) (count work : ℕ) : Type 0 where
-  pub aFront : r ≤ length a
-  pub bFront : r ≤ length b
-  pub cFront : r ≤ length c
+  pub rowsFront : Long r a b c
   pub curveFront : entries ≤ length u
   pub outputFront : count ≤ length output
-  pub sized : Sized operation (family m (take r a) (take r b) (take r c)) (take entries u) count work
+  pub sized : Sized operation (lent m r a b c ones) (take entries u) count work
+
+abbrev pub ConvertedValues : Operation → Family → List ℕ → Answer → List ℕ → List ℕ → List ℕ → List ℕ → Type 0
+ConvertedValues operation f u r output output′ work work′ =
+    ConvertedIn (valueTests f u) (converted operation f u) r output output′ work work′
+
+abbrev pub ConvertedFront : Operation → Family → List ℕ → ℕ → Answer → List ℕ → List ℕ → List ℕ → List ℕ → Type 0
+ConvertedFront operation f u count r output output′ work work′ =
+    ConvertedIn (valueTests f u) (converted operation f u ++ drop count output) r output output′ work work′
 
 pub sized-by-tests : (operation : Operation) (f : Family) (u : List ℕ) (text work count : ℕ) → None (sizesOf operation f u text work)
     → count ≡ resultCount operation (rows f) → Sized operation f u count work
-unfolding sizeTests lengthTest
+unfolding sizeTests
 sized-by-tests operation f u text work count n e =
-    let parts = none-append (shapeOf f) (lentTests operation (rows f) (length u) text work) .0 n in
+    let parts = none-append (familyShape f) (lentTests operation (rows f) (length u) text work) .0 n in
     record {
       shape = parts .0;
-      curve = differ-false (length u) (curveCount operation (rows f)) .0 (parts .1 .0);
+      curve = curve-length-passes (curveCount operation (rows f)) (length u) .0 (parts .1 .0);
       result = e;
       room = work-passes work .0 (parts .1 .1 .1 .0);
     }
-
-pub result-length : (operation : Operation) (f : Family) (u : List ℕ) → length (converted operation f u) ≡ resultCount operation (rows f)
-unfolding converted expand adjoint decompose norms resultCount
-result-length Operation.Expand f u = table-length (size f) _
-result-length Operation.Adjoint f u = table-length (size f) _
-result-length Operation.Decompose f u = decomposeBelow-length f (size f) u
-result-length Operation.Moments f u = moments-length f
-result-length Operation.Norms f u = table-length (size f) _
 
 -- a test at the end that does not hold
 spare-test : (ts : List Test) (t : Test) (values : List ℕ) → t .holds ≡ false → verdict (ts ++ t ∷ []) values ≡ verdict ts values
@@ -70,44 +69,41 @@ spare-test (s ∷ ts) t values q = split (s .holds) refl (spare-test ts t values
     split true p rest = verdict-here s (ts ++ t ∷ []) values p ∙ sym (verdict-here s ts values p)
     split false p rest = verdict-next s (ts ++ t ∷ []) values p ∙ rest ∙ sym (verdict-next s ts values p)
 
-module _ (f : Family) (u : List ℕ) (output work : ℕ) where
-  curve-left : None (shapeOf f) → length u ≡ size f → output ≡ size f → workLength ≤ work → verdict (treeTests f u output work) [] ≡ verdict (valueTests f u) []
-  unfolding lengthTest lengthTests valueTests
-  curve-left shape curve result room =
-      ap (λ ts. verdict ts []) (tree-groups f u output work)
-      ∙ verdict-goes-on _ [] (shapeOf f) shape
-      ∙ verdict-goes-on _ [] (lengthTests (size f) (length u) output) (differ-false (length u) (size f) .1 curve, (output-passes (size f) output .1 result, tt))
-      ∙ verdict-goes-on _ [] (workTest work ∷ []) (work-passes work .1 room, tt)
+module _ (f : Family) (u : List ℕ) (output work : ℕ) (shape : None (familyShape f)) where
+  curve-left : length u ≡ size f → output ≡ size f → workLength ≤ work → verdict (treeTests f u output work) [] ≡ verdict (valueTests f u) []
+  unfolding treeTests valueTests
+  curve-left curve result room = verdict-goes-on _ [] (familyShape f) shape
+      ∙ verdict-goes-on (valueTests f u) [] (curveLengthTest (size f) (length u) ∷ outputTest (size f) output ∷ workTest work ∷ [])
+      (curve-length-passes (size f) (length u) .1 curve, (output-passes (size f) output .1 result, (work-passes work .1 room, tt)))
 
   -- no curve, so nothing of it to test
-  no-curve : length u ≡ 0 → verdict (rowTests f) [] ≡ verdict (valueTests f u) []
+  no-curve : length u ≡ 0 → verdict (familyRows f) [] ≡ verdict (valueTests f u) []
   unfolding valueTests curveEntriesTest some
   no-curve e = none u e
     where
-      none : (u : List ℕ) → length u ≡ 0 → verdict (rowTests f) [] ≡ verdict (valueTests f u) []
-      none [] z = sym (spare-test (rowTests f) (curveEntriesTest f []) [] refl)
+      none : (u : List ℕ) → length u ≡ 0 → verdict (familyRows f) [] ≡ verdict (valueTests f u) []
+      none [] z = sym (spare-test (familyRows f) (curveEntriesTest f []) [] refl)
       none (x ∷ xs) z = absurd (omega arith)
 
-  moments-left : None (shapeOf f) → length u ≡ 0 → output ≡ momentCount f → workLength ≤ work → verdict (momentsTests f output work) [] ≡ verdict (valueTests f u) []
-  moments-left shape curve result room =
-      ap (λ ts. verdict ts []) (moments-groups f output work)
-      ∙ verdict-goes-on _ [] (shapeOf f) shape
-      ∙ verdict-goes-on _ [] (outputTest (momentCount f) output ∷ []) (output-passes (momentCount f) output .1 result, tt)
-      ∙ verdict-goes-on _ [] (workTest work ∷ []) (work-passes work .1 room, tt)
+  moments-left : length u ≡ 0 → output ≡ momentCount f → workLength ≤ work
+      → verdict (momentsTests f output work) [] ≡ verdict (valueTests f u) []
+  unfolding momentsTests
+  moments-left curve result room = verdict-goes-on _ [] (familyShape f) shape
+      ∙ verdict-goes-on (familyRows f) [] (outputTest (momentCount f) output ∷ workTest work ∷ [])
+      (output-passes (momentCount f) output .1 result, (work-passes work .1 room, tt))
       ∙ no-curve curve
 
-  norms-left : None (shapeOf f) → length u ≡ 0 → output ≡ size f → verdict (normsTests f output) [] ≡ verdict (valueTests f u) []
-  norms-left shape curve result =
-      ap (λ ts. verdict ts []) (norms-groups f output)
-      ∙ verdict-goes-on _ [] (shapeOf f) shape
-      ∙ verdict-goes-on _ [] (outputTest (size f) output ∷ []) (output-passes (size f) output .1 result, tt)
+  norms-left : length u ≡ 0 → output ≡ size f → verdict (normsTests f output) [] ≡ verdict (valueTests f u) []
+  unfolding normsTests
+  norms-left curve result = verdict-goes-on _ [] (familyShape f) shape
+      ∙ verdict-goes-on (familyRows f) [] (outputTest (size f) output ∷ []) (output-passes (size f) output .1 result, tt)
       ∙ no-curve curve
 
 -- ---- each operation
 module _ (operation : Operation) (f : Family) (u output work : List ℕ) (sized : Sized operation f u (length output) (length work))
     (r : Answer) (output′ work′ : List ℕ) where
   abbrev Promise : Type 0
-  Promise = ConvertedIn (valueTests f u) (converted operation f u) r output output′ work work′
+  Promise = ConvertedValues operation f u r output output′ work work′
 
   module _ (o : Operation) (e : operation ≡ o) where
     takes : length u ≡ curveCount o (rows f)
@@ -131,26 +127,26 @@ module _ (operation : Operation) (f : Family) (u output work : List ℕ) (sized 
         let left = curve-left f u (length output) (length work) (sized .shape) (takes o e ∙ all) (hands o e ∙ n) (sized .room) in
         by-call o e result is (done .answer ∙ left) (done .written) (done .wiped)
 
-  pub expand-promised : operation ≡ Operation.Expand → ConvertedIn (treeTests f u (length output) (length work)) (expand f u) r output output′ work work′ → Promise
+  pub expand-promised : operation ≡ Operation.Expand → TreeCall expand f u r output output′ work work′ → Promise
   unfolding curveCount resultCount converted
   expand-promised e done = by-tree-call _ done Operation.Expand e refl refl refl
 
-  pub adjoint-promised : operation ≡ Operation.Adjoint → ConvertedIn (treeTests f u (length output) (length work)) (adjoint f u) r output output′ work work′ → Promise
+  pub adjoint-promised : operation ≡ Operation.Adjoint → TreeCall adjoint f u r output output′ work work′ → Promise
   unfolding curveCount resultCount converted
   adjoint-promised e done = by-tree-call _ done Operation.Adjoint e refl refl refl
 
-  pub decompose-promised : operation ≡ Operation.Decompose → ConvertedIn (treeTests f u (length output) (length work)) (decompose f u) r output output′ work work′ → Promise
+  pub decompose-promised : operation ≡ Operation.Decompose → TreeCall decompose f u r output output′ work work′ → Promise
   unfolding curveCount resultCount converted
   decompose-promised e done = by-tree-call _ done Operation.Decompose e refl refl refl
 
-  pub moments-promised : operation ≡ Operation.Moments → ConvertedIn (momentsTests f (length output) (length work)) (moments f) r output output′ work work′ → Promise
+  pub moments-promised : operation ≡ Operation.Moments → MomentsCall f r output output′ work work′ → Promise
   unfolding curveCount resultCount converted
   moments-promised e done =
       let left = moments-left f u (length output) (length work) (sized .shape) (takes Operation.Moments e) (hands Operation.Moments e) (sized .room) in
       by-call Operation.Moments e (moments f) refl (done .answer ∙ left) (done .written) (done .wiped)
 
   -- the working list is cleared by itself
-  pub norms-promised : operation ≡ Operation.Norms → Converted (normsTests f (length output)) (norms f) r output output′ → work′ ≡ after (answered r) (cleared work) work → Promise
+  pub norms-promised : operation ≡ Operation.Norms → NormsCall f r output output′ → work′ ≡ after (answered r) (cleared work) work → Promise
   unfolding curveCount resultCount converted
   norms-promised e done wiped =
       let left = norms-left f u (length output) (length work) (sized .shape) (takes Operation.Norms e) (hands Operation.Norms e) in
@@ -166,17 +162,17 @@ front-promised ts result (Answer.Refused k) count output front work work′ p =
 
 module _ (operation : Operation) (m : ℕ) (a b c : List ℕ) (r : ℕ) (u : List ℕ) (entries : ℕ) (output : List ℕ) (count : ℕ) where
   abbrev parts : Family
-  parts = family m (take (r - 0) a) (take (r - 0) b) (take (r - 0) c)
+  parts = lent m (r - 0) a b c ones
 
   abbrev fronts : Family
-  fronts = family m (take r a) (take r b) (take r c)
+  fronts = lent m r a b c ones
 
   pub parts-sized : (work : ℕ) → Parts operation m a b c r u entries output count work
       → Sized operation parts (take (entries - 0) u) (length (take (count - 0) output)) work
   parts-sized work p = rw (sub-zero r, sub-zero entries, sub-zero count, length-take-le count output (p .outputFront)) (p .sized)
 
   pub parts-promised : (answer : Answer) (front work work′ : List ℕ)
-      → ConvertedIn (valueTests parts (take (entries - 0) u)) (converted operation parts (take (entries - 0) u)) answer (take (count - 0) output) front work work′
-      → ConvertedIn (valueTests fronts (take entries u)) (converted operation fronts (take entries u) ++ drop count output) answer output (front ++ drop (count - 0) output) work work′
+      → ConvertedValues operation parts (take (entries - 0) u) answer (take (count - 0) output) front work work′
+      → ConvertedFront operation fronts (take entries u) count answer output (front ++ drop (count - 0) output) work work′
   parts-promised answer front work work′ p =
       rw (sub-zero count) (front-promised _ _ answer count output front work work′ (rw (sub-zero r, sub-zero entries, sub-zero count) at p))

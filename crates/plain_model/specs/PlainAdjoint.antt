@@ -11,13 +11,13 @@ use Rattle.algebra.specs.Residues.{Zmod, res, res-add, res-mul, res-mod}
 use Rattle.algebra.specs.Ring.{CommRing}
 use Rattle.definitions.specs.Conversion.{adjoint}
 use Rattle.definitions.specs.Family.{Family, Curve, size}
-use Rattle.theory.specs.Bridge.{entries, rowsOf, entries-adjoint, adjoint-curve}
-use Rattle.plain_model.specs.Entries.{entries-past, entries-zeros, entries-table}
 use Rattle.numbers.specs.Lists.{table-entry}
+use Rattle.theory.specs.Bridge.{entries, entries-past, rowsOf, entries-adjoint, adjoint-curve}
 use Rattle.theory.specs.Operator.{pairing, pairing-start, pairing-none, pairing-past, pairing-follows, pairing-one}
-use Rattle.plain_model.specs.PlainModels.{State, adjointEntry, adjointStep, adjointState, plainAdjoint, adjointState-curves}
 use Rattle.theory.specs.Recurrence.{Rows, term}
 use Rattle.theory.specs.Curves.{table-curve, curves-equal-residues}
+use Rattle.plain_model.specs.Entries.{Holding, entries-zeros, entries-table}
+use Rattle.plain_model.specs.PlainModels.{State, adjointEntry, adjointStep, adjointState, plainAdjoint, adjointState-curves}
 
 module _ (f : Family) (pos : 0 < f .m) (u : List ℕ) (cu : Curve f u) where
   abbrev m : ℕ
@@ -29,30 +29,34 @@ module _ (f : Family) (pos : 0 < f .m) (u : List ℕ) (cu : Curve f u) where
   abbrev ρ : Rows Q
   ρ = rowsOf f pos
 
-  abbrev W : ℕ → ℕ → Q .Car
-  W k = pairing Q (size f) (entries m pos u) .to (term Q ρ k)
+  abbrev E : List ℕ → ℕ → Q .Car
+  E = entries m pos
 
-  ends : (i : ℕ) → size f ≤ i → entries m pos u i ≡ Q .zero
+  abbrev W : ℕ → ℕ → Q .Car
+  W k = pairing Q (size f) (E u) .to (term Q ρ k)
+
+  ends : (i : ℕ) → size f ≤ i → E u i ≡ Q .zero
   ends i h = let l : length u ≡ size f = cu .long in entries-past m pos u i (omega arith)
 
-  record Holds (s : State) (now before : ℕ → Q .Car) : Type 0 where
-    currentHolds : (t : ℕ) → entries m pos (s .current) t ≡ now t
-    previousHolds : (t : ℕ) → entries m pos (s .previous) t ≡ before t
+  -- the lists of the state after j rows are W_j and W_{j-1}
+  abbrev Holds : State → ℕ → Type 0
+  Holds s j = Holding m pos s (W (suc j)) (W j)
 
-  adjointStep-pairing : (j : ℕ) (s : State) → Holds s (W (suc j)) (W j) → Holds (adjointStep f j s) (W (suc (suc j))) (W (suc j))
+  adjointStep-pairing : (j : ℕ) (s : State) → Holds s j → Holds (adjointStep f j s) (suc j)
   unfolding adjointStep adjointEntry
   adjointStep-pairing j s e = record {
     currentHolds = entries-table m pos (size f) _ (W (suc (suc j)))
-        (λ t h. simp (res-mod m pos, res-add m pos, res-mul m pos, e .currentHolds, e .previousHolds) (sym (pairing-follows Q (size f) (entries m pos u) ends ρ j t)))
-        (pairing-past Q (size f) (entries m pos u) ends (term Q ρ (suc (suc j))));
+        (λ t h. simp (res-mod m pos, res-add m pos, res-mul m pos, e .currentHolds, e .previousHolds)
+        (sym (pairing-follows Q (size f) (E u) ends ρ j t)))
+        (pairing-past Q (size f) (E u) ends (term Q ρ (suc (suc j))));
     previousHolds = e .currentHolds;
   }
 
-  adjointState-pairing : (j : ℕ) → Holds (adjointState f u j) (W (suc j)) (W j)
+  adjointState-pairing : (j : ℕ) → Holds (adjointState f u j) j
   unfolding adjointState
   adjointState-pairing zero = record {
-    currentHolds = λ t. sym (pairing-one Q (size f) (entries m pos u) ends ρ t);
-    previousHolds = λ t. entries-zeros m pos (size f) t ∙ sym (pairing-none Q (size f) (entries m pos u) ρ t);
+    currentHolds = λ t. sym (pairing-one Q (size f) (E u) ends ρ t);
+    previousHolds = λ t. entries-zeros m pos (size f) t ∙ sym (pairing-none Q (size f) (E u) ρ t);
   }
   adjointState-pairing (suc j) = adjointStep-pairing j (adjointState f u j) (adjointState-pairing j)
 
@@ -64,4 +68,4 @@ module _ (f : Family) (pos : 0 < f .m) (u : List ℕ) (cu : Curve f u) where
   unfolding plainAdjoint
   plainAdjoint-adjoint = curves-equal-residues f (plainAdjoint f u) (adjoint f u) plainAdjoint-curve (adjoint-curve f pos u) pos
       (λ j h. ap (res m pos) (table-entry (size f) _ j 0 h) ∙ adjointState-pairing j .currentHolds 0
-      ∙ pairing-start Q (size f) (entries m pos u) (term Q ρ (suc j)) ∙ sym (entries-adjoint f pos u j h))
+      ∙ pairing-start Q (size f) (E u) (term Q ρ (suc j)) ∙ sym (entries-adjoint f pos u j h))

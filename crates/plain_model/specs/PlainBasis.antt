@@ -37,8 +37,18 @@ module _ (f : Family) (pos : 0 < f .m) (d rise stay fall : List ℕ) (basis : Ba
   abbrev Q : CommRing
   Q = Zmod m pos
 
+  abbrev ι : ℕ → Q .Car
+  ι = res m pos
+
   abbrev E : List ℕ → ℕ → Q .Car
-  E xs i = res m pos (getD xs i 0)
+  E xs i = ι (getD xs i 0)
+
+  -- the residues of - b_{i+1} and - c_{i+1}
+  abbrev less-b : ℕ → Q .Car
+  less-b i = ι (negative m (rowAt f i .b))
+
+  abbrev less-c : ℕ → Q .Car
+  less-c i = ι (negative m (rowAt f i .c))
 
   -- what the model divides
   divided : (w : List ℕ) → Curve f w → (i : ℕ) → getD (divide f d w) i 0 ≡ getD w i 0 * getD d i 0 % m
@@ -46,15 +56,19 @@ module _ (f : Family) (pos : 0 < f .m) (d rise stay fall : List ℕ) (basis : Ba
   divided w cw i =
       let long : length w ≡ size f = cw .long in
       by-cases (decLt i (size f)) (λ h. table-entry (size f) _ i 0 h)
-      (λ h. table-past (size f) _ i 0 (omega arith) ∙ sym (rw (List·getD-eq-default w 0 {n = i} (omega arith), zero-mul (getD d i 0)) (zero-mod m)))
+      (λ h. table-past (size f) _ i 0 (omega arith)
+      ∙ sym (rw (List·getD-eq-default w 0 {n = i} (omega arith), zero-mul (getD d i 0)) (zero-mod m)))
 
   residues-agree : (y : ℕ) (current w : List ℕ) → ((i : ℕ) → getD current i 0 ≡ getD w i 0) → Curve f w → (i : ℕ)
-      → res m pos (basisEntry m y rise stay fall current i) ≡ res m pos (decomposeEntry m y (rowAt f i .b) (rowAt f (suc i) .c) (divide f d w) i)
+      → ι (basisEntry m y rise stay fall current i) ≡ ι (decomposeEntry m y (rowAt f i .b) (rowAt f (suc i) .c) (divide f d w) i)
   unfolding basisEntry decomposeEntry constant timesX
-  residues-agree y current w e cw zero = simp (basis .stayIs, basis .fallIs, e, divided w cw, res-mod m pos, res-add m pos, res-mul m pos, res-zero m pos)
-      (ring Q (res m pos y ∷ res m pos (negative m (rowAt f 0 .b)) ∷ res m pos (negative m (rowAt f 1 .c)) ∷ E d 0 ∷ E d 1 ∷ E w 0 ∷ E w 1 ∷ []) (search reify depth 20) tt)
-  residues-agree y current w e cw (suc i) = simp (basis .riseIs, basis .stayIs, basis .fallIs, e, divided w cw, res-mod m pos, res-add m pos, res-mul m pos, res-zero m pos)
-      (ring Q (res m pos (negative m (rowAt f (suc i) .b)) ∷ res m pos (negative m (rowAt f (suc (suc i)) .c)) ∷ E d i ∷ E d (suc i) ∷ E d (suc (suc i)) ∷ E w i ∷ E w (suc i) ∷ E w (suc (suc i)) ∷ []) (search reify depth 20) tt)
+  residues-agree y current w e cw zero =
+      simp (basis .stayIs, basis .fallIs, e, divided w cw, res-mod m pos, res-add m pos, res-mul m pos, res-zero m pos)
+      (ring Q (ι y ∷ less-b 0 ∷ less-c 1 ∷ E d 0 ∷ E d 1 ∷ E w 0 ∷ E w 1 ∷ []) (search reify depth 20) tt)
+  residues-agree y current w e cw (suc i) =
+      simp (basis .riseIs, basis .stayIs, basis .fallIs, e, divided w cw, res-mod m pos, res-add m pos, res-mul m pos, res-zero m pos)
+      (ring Q (less-b (suc i) ∷ less-c (suc (suc i)) ∷ E d i ∷ E d (suc i) ∷ E d (suc (suc i))
+      ∷ E w i ∷ E w (suc i) ∷ E w (suc (suc i)) ∷ []) (search reify depth 20) tt)
 
   pub basisEntry-decomposes : (y : ℕ) (current w : List ℕ) → ((i : ℕ) → getD current i 0 ≡ getD w i 0) → Curve f w → (i : ℕ)
       → basisEntry m y rise stay fall current i ≡ decomposeEntry m y (rowAt f i .b) (rowAt f (suc i) .c) (divide f d w) i

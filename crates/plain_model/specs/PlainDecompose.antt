@@ -18,15 +18,16 @@ use Rattle.algebra.specs.Variable.{shift}
 use Rattle.definitions.specs.Conversion.{expand, decompose}
 use Rattle.definitions.specs.Family.{Family, Curve, rows, size, rowAt, timesX}
 use Rattle.definitions.specs.Number.{HasInverse}
-use Rattle.theory.specs.Bridge.{entries, rowsOf, entries-expand, expand-curve}
-use Rattle.theory.specs.Combination.{combination, combination-last, combination-cong}
-use Rattle.plain_model.specs.Entries.{entries-past, entries-zeros, entries-table, entry-zero}
-use Rattle.plain_model.specs.Horner.{timesVariable, timesVariable-ends, horner-combination}
-use Rattle.plain_model.specs.PlainModels.{constant, divide, decomposeEntry, decomposeStep, decomposeState, plainDecompose, decomposeState-curve}
-use Rattle.theory.specs.Recurrence.{Rows, term, degree}
 use Rattle.numbers.specs.Residue.{residue-negative, residue-product-one}
+use Rattle.theory.specs.Bridge.{entries, entries-past, rowsOf, entries-expand, expand-curve}
+use Rattle.theory.specs.Combination.{combination, combination-last, combination-cong}
+use Rattle.theory.specs.Recurrence.{Rows, term, degree}
 use Rattle.theory.specs.RoundTrip.{Decomposable, decompose-unique}
 use Rattle.theory.specs.Curves.{curves-equal-residues}
+use Rattle.plain_model.specs.Entries.{entries-zeros, entries-table, entry-zero}
+use Rattle.plain_model.specs.Horner.{timesVariable, timesVariable-ends, horner-combination}
+use Rattle.plain_model.specs.PlainModels.{constant, divide, decomposeEntry, decomposeStep}
+use Rattle.plain_model.specs.PlainModels.{decomposeState, plainDecompose, decomposeState-curve}
 
 pub record Inverts (f : Family) (d : List ℕ) : Type 0 where
   pub modulus : 2 ≤ f .m
@@ -50,6 +51,9 @@ module _ (f : Family) (pos : 0 < f .m) (d : List ℕ) where
 
   infixl 65 _⊕_
   infixl 70 _⊗_
+  abbrev ι : ℕ → Car
+  ι = res m pos
+
   abbrev E : List ℕ → ℕ → Car
   E = entries m pos
 
@@ -62,12 +66,13 @@ module _ (f : Family) (pos : 0 < f .m) (d : List ℕ) where
   divide-entries w ends = entries-table m pos (size f) _ (λ j. E w j ⊗ E d j)
       (λ j h. simp (res-mod m pos, res-mul m pos)) (λ j h. ap (λ t. t ⊗ E d j) (ends j h) ∙ Ring.zero-mul Q (E d j))
 
-  decomposeEntry-residue : (y : ℕ) (q : List ℕ) (j : ℕ) → res m pos (decomposeEntry m y (rowAt f j .b) (rowAt f (suc j) .c) q j) ≡ res m pos y ⊗ term Q ρ 1 j ⊕ timesVariable Q ρ (E q) j
+  decomposeEntry-residue : (y : ℕ) (q : List ℕ) (j : ℕ)
+      → ι (decomposeEntry m y (rowAt f j .b) (rowAt f (suc j) .c) q j) ≡ ι y ⊗ term Q ρ 1 j ⊕ timesVariable Q ρ (E q) j
   unfolding decomposeEntry constant timesX term
   decomposeEntry-residue y q zero = simp (res-mod m pos, res-add m pos, res-mul m pos, residue-negative m pos, res-zero m pos)
-      (ring Q (res m pos y ∷ ρ .b 0 ∷ ρ .c 1 ∷ E q 0 ∷ E q 1 ∷ []) (search reify depth 20) tt)
+      (ring Q (ι y ∷ ρ .b 0 ∷ ρ .c 1 ∷ E q 0 ∷ E q 1 ∷ []) (search reify depth 20) tt)
   decomposeEntry-residue y q (suc j) = simp (res-mod m pos, res-add m pos, res-mul m pos, residue-negative m pos, res-zero m pos)
-      (ring Q (res m pos y ∷ ρ .b (suc j) ∷ ρ .c (suc (suc j)) ∷ E q j ∷ E q (suc j) ∷ E q (suc (suc j)) ∷ []) (search reify depth 20) tt)
+      (ring Q (ι y ∷ ρ .b (suc j) ∷ ρ .c (suc (suc j)) ∷ E q j ∷ E q (suc j) ∷ E q (suc (suc j)) ∷ []) (search reify depth 20) tt)
 
   -- ---- one step of the model, where w holds i terms
   module _ (y i : ℕ) (w : List ℕ) (room : i ≤ rows f) (ends : EndsBefore i w) where
@@ -80,11 +85,11 @@ module _ (f : Family) (pos : 0 < f .m) (d : List ℕ) where
     divided-ends : EndsBefore i q
     divided-ends j h = divided j ∙ ap (λ t. t ⊗ E d j) (ends j h) ∙ Ring.zero-mul Q (E d j)
 
-    next-ends : (j : ℕ) → suc i ≤ j → res m pos y ⊗ term Q ρ 1 j ⊕ timesVariable Q ρ (E q) j ≡ 𝟘
-    next-ends j h = ap₂ (λ s t. res m pos y ⊗ s ⊕ t) (degree Q ρ 1 j (omega arith)) (timesVariable-ends Q ρ i (E q) divided-ends j h)
-        ∙ Q .add-zero (res m pos y ⊗ 𝟘) ∙ Ring.mul-zero Q (res m pos y)
+    next-ends : (j : ℕ) → suc i ≤ j → ι y ⊗ term Q ρ 1 j ⊕ timesVariable Q ρ (E q) j ≡ 𝟘
+    next-ends j h = ap₂ (λ s t. ι y ⊗ s ⊕ t) (degree Q ρ 1 j (omega arith)) (timesVariable-ends Q ρ i (E q) divided-ends j h)
+        ∙ Q .add-zero (ι y ⊗ 𝟘) ∙ Ring.mul-zero Q (ι y)
 
-    decomposeStep-entries : (j : ℕ) → E (decomposeStep f y q) j ≡ res m pos y ⊗ term Q ρ 1 j ⊕ timesVariable Q ρ (E q) j
+    decomposeStep-entries : (j : ℕ) → E (decomposeStep f y q) j ≡ ι y ⊗ term Q ρ 1 j ⊕ timesVariable Q ρ (E q) j
     unfolding decomposeStep
     decomposeStep-entries = entries-table m pos (size f) _ _ (λ j h. decomposeEntry-residue y q j) (λ j h. next-ends j (omega arith))
 
@@ -96,22 +101,27 @@ module _ (f : Family) (pos : 0 < f .m) (d : List ℕ) where
       restored-entry : (j : ℕ) → j < rows f → ρ .a j ⊗ E q j ≡ E w j
       restored-entry j h =
           let inverse-at = residue-product-one m pos (rowAt f j .a) (getD d j 0) (inverts .inverts j h) in
-          linear Q (ρ .a j ∷ E q j ∷ E w j ∷ E d j ∷ []) (both Q (scaled Q (ρ .a j) (divided j)) (scaled Q (E w j) inverse-at)) (search reify depth 20) tt
+          linear Q (ρ .a j ∷ E q j ∷ E w j ∷ E d j ∷ []) (both Q (scaled Q (ρ .a j) (divided j)) (scaled Q (E w j) inverse-at))
+          (search reify depth 20) tt
 
       restored : (t : ℕ) → combination Q ρ (rows f) (λ j. ρ .a j ⊗ E q j) t ≡ combination Q ρ (size f) (E w) t
       restored t = combination-cong Q ρ (rows f) t restored-entry
-          ∙ sym (combination-last Q ρ (rows f) (E w) t ∙ rw (ends (rows f) room, Ring.zero-mul Q (term Q ρ (size f) t)) (Q .add-zero (combination Q ρ (rows f) (E w) t)))
+          ∙ sym (combination-last Q ρ (rows f) (E w) t
+          ∙ rw (ends (rows f) room, Ring.zero-mul Q (term Q ρ (size f) t)) (Q .add-zero (combination Q ρ (rows f) (E w) t)))
 
-      decomposeStep-combination : (t : ℕ) → combination Q ρ (size f) (E (decomposeStep f y q)) t ≡ res m pos y ⊗ term Q ρ 1 t ⊕ shift Q (combination Q ρ (size f) (E w)) t
-      decomposeStep-combination t = combination-cong Q ρ (size f) t (λ j h. decomposeStep-entries j) ∙ horner-combination Q ρ (rows f) (res m pos y) (E q) (λ j h. divided-ends j (omega arith)) t
-          ∙ ap (λ p. res m pos y ⊗ term Q ρ 1 t ⊕ shift Q p t) (fun-ext restored)
+      decomposeStep-combination : (t : ℕ) → combination Q ρ (size f) (E (decomposeStep f y q)) t
+          ≡ ι y ⊗ term Q ρ 1 t ⊕ shift Q (combination Q ρ (size f) (E w)) t
+      decomposeStep-combination t = combination-cong Q ρ (size f) t (λ j h. decomposeStep-entries j)
+          ∙ horner-combination Q ρ (rows f) (ι y) (E q) (λ j h. divided-ends j (omega arith)) t
+          ∙ ap (λ p. ι y ⊗ term Q ρ 1 t ⊕ shift Q p t) (fun-ext restored)
 
   -- ---- all steps: i powers taken in, from the top one down
   module _ (p : List ℕ) where
     state-ends : (i : ℕ) → i ≤ size f → EndsBefore i (decomposeState f d p i)
     unfolding decomposeState
     state-ends zero h j l = entries-zeros m pos (size f) j
-    state-ends (suc i) h j l = decomposeStep-ends (getD p (rows f -ℕ i) 0) i (decomposeState f d p i) (omega arith) (state-ends i (omega arith)) j l
+    state-ends (suc i) h j l = decomposeStep-ends (getD p (rows f -ℕ i) 0) i (decomposeState f d p i) (omega arith)
+        (state-ends i (omega arith)) j l
 
     -- nothing stands from place i on, so a loop may stop there
     pub decomposeState-ends : (i j : ℕ) → i ≤ size f → i ≤ j → getD (decomposeState f d p i) j 0 ≡ 0
@@ -120,12 +130,14 @@ module _ (f : Family) (pos : 0 < f .m) (d : List ℕ) where
     powers-next : (k t : ℕ) → E p k ⊗ term Q ρ 1 t ⊕ shift Q (λ s. E p (suc k +ℕ s)) t ≡ E p (k +ℕ t)
     unfolding term
     powers-next k zero = Q .add-zero (E p k ⊗ 𝟙) ∙ Q .mul-one (E p k) ∙ ap (E p) (sym (add-zero k))
-    powers-next k (suc t) = ap (λ x. x ⊕ E p (suc k +ℕ t)) (Ring.mul-zero Q (E p k)) ∙ Ring.zero-add Q (E p (suc k +ℕ t)) ∙ ap (E p) (omega arith)
+    powers-next k (suc t) = ap (λ x. x ⊕ E p (suc k +ℕ t)) (Ring.mul-zero Q (E p k)) ∙ Ring.zero-add Q (E p (suc k +ℕ t))
+        ∙ ap (E p) (omega arith)
 
     module _ (inverts : Inverts f d) (short : length p ≤ size f) where
       state-powers : (i k : ℕ) → k +ℕ i ≡ size f → (t : ℕ) → combination Q ρ (size f) (E (decomposeState f d p i)) t ≡ E p (k +ℕ t)
       unfolding decomposeState
-      state-powers zero k e t = sum-vanish Q (size f) (λ j h. ap (λ x. x ⊗ term Q ρ (suc j) t) (entries-zeros m pos (size f) j) ∙ Ring.zero-mul Q (term Q ρ (suc j) t))
+      state-powers zero k e t = sum-vanish Q (size f)
+          (λ j h. ap (λ x. x ⊗ term Q ρ (suc j) t) (entries-zeros m pos (size f) j) ∙ Ring.zero-mul Q (term Q ρ (suc j) t))
           ∙ sym (entries-past m pos p (k +ℕ t) (omega arith))
       state-powers (suc i) k e t =
           let here : rows f -ℕ i ≡ k = omega arith in
@@ -134,7 +146,8 @@ module _ (f : Family) (pos : 0 < f .m) (d : List ℕ) where
 
       plainDecompose-back : Curve f p → expand f (plainDecompose f d p) ≡ p
       unfolding plainDecompose
-      plainDecompose-back cp = curves-equal-residues f (expand f (plainDecompose f d p)) p (expand-curve f pos (plainDecompose f d p)) cp pos
+      plainDecompose-back cp = curves-equal-residues f (expand f (plainDecompose f d p)) p
+          (expand-curve f pos (plainDecompose f d p)) cp pos
           (λ i h. entries-expand f pos (plainDecompose f d p) i h ∙ state-powers (size f) 0 (zero-add (size f)) i ∙ ap (E p) (zero-add i))
 
 pub plainDecompose-decompose : (f : Family) (d p : List ℕ) → Inverts f d → Curve f p → plainDecompose f d p ≡ decompose f p
@@ -143,4 +156,5 @@ plainDecompose-decompose f d p v cp =
     let two : 2 ≤ f .m = v .modulus in
     let pos : 0 < f .m = omega arith in
     let long : length p ≡ size f = cp .long in
-    decompose-unique f (inverts-decomposable f d v) p (plainDecompose f d p) cp (decomposeState-curve f pos d p (size f)) (plainDecompose-back f pos d p v (omega arith) cp)
+    decompose-unique f (inverts-decomposable f d v) p (plainDecompose f d p) cp (decomposeState-curve f pos d p (size f))
+    (plainDecompose-back f pos d p v (omega arith) cp)

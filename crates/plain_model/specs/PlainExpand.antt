@@ -21,10 +21,11 @@ use Rattle.definitions.specs.Conversion.{expand}
 use Rattle.definitions.specs.Family.{Family, rows, size, rowAt, timesX}
 use Rattle.theory.specs.Bridge.{entries, rowsOf, entries-expand, expand-curve}
 use Rattle.theory.specs.Combination.{combination}
-use Rattle.plain_model.specs.Entries.{entries-zeros, entries-table, entry-zero}
-use Rattle.plain_model.specs.PlainModels.{State, zeros, constant, expandEntry, expandStep, expandState, plainExpand, expandState-curves}
 use Rattle.theory.specs.Recurrence.{Rows, poly, poly-zero, poly-one, poly-step, co-poly}
 use Rattle.theory.specs.Curves.{curves-equal-residues}
+use Rattle.plain_model.specs.Entries.{Holding, entries-zeros, entries-table, entry-zero}
+use Rattle.plain_model.specs.PlainModels.{State, zeros, constant, expandEntry, expandStep}
+use Rattle.plain_model.specs.PlainModels.{expandState, plainExpand, expandState-curves}
 
 module _ (R : CommRing) (ρ : Rows R) (u : ℕ → R .Car) where
   open CommRing R using (Car, zero as 𝟘)
@@ -35,10 +36,12 @@ module _ (R : CommRing) (ρ : Rows R) (u : ℕ → R .Car) where
   unfoldable pub partial : ℕ → ℕ → Series
   partial k zero = 0#
   partial k (suc zero) = 0#
-  partial k (suc (suc i)) = C R (u k) + C R (ρ .a k) * (X R * partial (suc k) (suc i)) + C R (ρ .b k) * partial (suc k) (suc i) + C R (ρ .c (suc k)) * partial (suc (suc k)) i
+  partial k (suc (suc i)) = C R (u k) + C R (ρ .a k) * (X R * partial (suc k) (suc i)) + C R (ρ .b k) * partial (suc k) (suc i)
+      + C R (ρ .c (suc k)) * partial (suc (suc k)) i
 
   pub partial-step : (k i : ℕ)
-      → partial k (suc (suc i)) ≡ C R (u k) + C R (ρ .a k) * (X R * partial (suc k) (suc i)) + C R (ρ .b k) * partial (suc k) (suc i) + C R (ρ .c (suc k)) * partial (suc (suc k)) i
+      → partial k (suc (suc i)) ≡ C R (u k) + C R (ρ .a k) * (X R * partial (suc k) (suc i)) + C R (ρ .b k) * partial (suc k) (suc i)
+      + C R (ρ .c (suc k)) * partial (suc (suc k)) i
   unfolding partial
   partial-step k i = refl
 
@@ -53,12 +56,15 @@ module _ (R : CommRing) (ρ : Rows R) (u : ℕ → R .Car) where
 
   tail-first : (k i : ℕ) → tail k (suc i) ≡ C R (u k) * poly R ρ (suc k) + tail (suc k) i
   tail-first k i = sum-first (Ser R) i (λ j. C R (u (k +ℕ j)) * poly R ρ (suc (k +ℕ j)))
-      ∙ ap₂ _+_ (ap (λ t. C R (u t) * poly R ρ (suc t)) (add-zero k)) (sum-cong (Ser R) i (λ j h. ap (λ t. C R (u t) * poly R ρ (suc t)) (omega arith)))
+      ∙ ap₂ _+_ (ap (λ t. C R (u t) * poly R ρ (suc t)) (add-zero k))
+      (sum-cong (Ser R) i (λ j h. ap (λ t. C R (u t) * poly R ρ (suc t)) (omega arith)))
 
   pub partial-sum : (k i : ℕ) → tail k i ≡ partial k (suc i) * poly R ρ (suc k) + C R (ρ .c k) * partial (suc k) i * poly R ρ k
   partial-sum k zero = partial-none k
-  partial-sum k (suc i) = tail-first k i ∙ ap (λ s. C R (u k) * poly R ρ (suc k) + s) (partial-sum (suc k) i) ∙ rw (poly-step R ρ k, partial-step k i)
-      (ring (Ser R) (C R (u k) ∷ C R (ρ .a k) ∷ C R (ρ .b k) ∷ C R (ρ .c k) ∷ C R (ρ .c (suc k)) ∷ X R ∷ partial (suc k) (suc i) ∷ partial (suc (suc k)) i ∷ poly R ρ k ∷ poly R ρ (suc k) ∷ []) (search reify depth 20) tt)
+  partial-sum k (suc i) = tail-first k i ∙ ap (λ s. C R (u k) * poly R ρ (suc k) + s) (partial-sum (suc k) i)
+      ∙ rw (poly-step R ρ k, partial-step k i)
+      (ring (Ser R) (C R (u k) ∷ C R (ρ .a k) ∷ C R (ρ .b k) ∷ C R (ρ .c k) ∷ C R (ρ .c (suc k)) ∷ X R ∷ partial (suc k) (suc i)
+      ∷ partial (suc (suc k)) i ∷ poly R ρ k ∷ poly R ρ (suc k) ∷ []) (search reify depth 20) tt)
 
   -- B_0 is the whole combination
   pub partial-combination : (n i : ℕ) → co R (partial 0 (suc n)) i ≡ combination R ρ n u i
@@ -66,7 +72,8 @@ module _ (R : CommRing) (ρ : Rows R) (u : ℕ → R .Car) where
       ∙ sum-cong R n (λ j h. simp (zero-add, co-C-mul R, co-poly R))
     where
       whole : tail 0 n ≡ partial 0 (suc n)
-      whole = partial-sum 0 n ∙ rw (poly-zero R ρ, poly-one R ρ) (ring (Ser R) (partial 0 (suc n) ∷ C R (ρ .c 0) ∷ partial 1 n ∷ []) (search reify depth 20) tt)
+      whole = partial-sum 0 n ∙ rw (poly-zero R ρ, poly-one R ρ)
+          (ring (Ser R) (partial 0 (suc n) ∷ C R (ρ .c 0) ∷ partial 1 n ∷ []) (search reify depth 20) tt)
 
   pub partial-degree : (k i t : ℕ) → i ≤ suc t → co R (partial k i) t ≡ 𝟘
   unfolding partial
@@ -94,37 +101,48 @@ module _ (f : Family) (pos : 0 < f .m) where
 
   infixl 65 _+_
   infixl 70 _*_
-  entry-series : (y a b c : ℕ) (current previous : List ℕ) (s t : Series) → ((i : ℕ) → entries m pos current i ≡ co Q s i) → ((i : ℕ) → entries m pos previous i ≡ co Q t i)
-      → (i : ℕ) → res m pos (expandEntry m y a b c current previous i)
-      ≡ co Q (C Q (res m pos y) + C Q (res m pos a) * (X Q * s) + C Q (res m pos b) * s + C Q (res m pos c) * t) i
+  abbrev ι : ℕ → Q .Car
+  ι = res m pos
+
+  abbrev E : List ℕ → ℕ → Q .Car
+  E = entries m pos
+
+  entry-series : (y a b c : ℕ) (current previous : List ℕ) (s t : Series) → ((i : ℕ) → E current i ≡ co Q s i)
+      → ((i : ℕ) → E previous i ≡ co Q t i)
+      → (i : ℕ) → ι (expandEntry m y a b c current previous i)
+      ≡ co Q (C Q (ι y) + C Q (ι a) * (X Q * s) + C Q (ι b) * s + C Q (ι c) * t) i
   unfolding expandEntry constant timesX
-  entry-series y a b c current previous s t p q zero = simp (res-mod m pos, res-add m pos, res-mul m pos, res-zero m pos, p, q, coefficients)
-  entry-series y a b c current previous s t p q (suc i) = simp (res-mod m pos, res-add m pos, res-mul m pos, res-zero m pos, p, q, coefficients)
+  entry-series y a b c current previous s t p q zero =
+      simp (res-mod m pos, res-add m pos, res-mul m pos, res-zero m pos, p, q, coefficients)
+  entry-series y a b c current previous s t p q (suc i) =
+      simp (res-mod m pos, res-add m pos, res-mul m pos, res-zero m pos, p, q, coefficients)
 
   module _ (u : List ℕ) where
     abbrev B : ℕ → ℕ → Series
-    B = partial Q ρ (entries m pos u)
+    B = partial Q ρ (E u)
 
-    record Holds (s : State) (now before : Series) : Type 0 where
-      currentHolds : (t : ℕ) → entries m pos (s .current) t ≡ co Q now t
-      previousHolds : (t : ℕ) → entries m pos (s .previous) t ≡ co Q before t
+    -- the lists of the state after i steps are B_k and B_{k+1}
+    abbrev Holds : State → ℕ → ℕ → Type 0
+    Holds s k i = Holding m pos s (co Q (B k (suc i))) (co Q (B (suc k) i))
 
-    zeros-partial : (k i t : ℕ) → i ≤ 1 → entries m pos (zeros (size f)) t ≡ co Q (B k i) t
-    zeros-partial k i t h = entries-zeros m pos (size f) t ∙ sym (partial-degree Q ρ (entries m pos u) k i t (omega arith))
+    zeros-partial : (k i t : ℕ) → i ≤ 1 → E (zeros (size f)) t ≡ co Q (B k i) t
+    zeros-partial k i t h = entries-zeros m pos (size f) t ∙ sym (partial-degree Q ρ (E u) k i t (omega arith))
 
-    expandStep-partial : (i k : ℕ) (s : State) → suc i ≤ size f → Holds s (B (suc k) (suc i)) (B (suc (suc k)) i) → Holds (expandStep f u k s) (B k (suc (suc i))) (B (suc k) (suc i))
+    expandStep-partial : (i k : ℕ) (s : State) → suc i ≤ size f → Holds s (suc k) i → Holds (expandStep f u k s) k (suc i)
     unfolding expandStep
     expandStep-partial i k s h e = record {
       currentHolds = entries-table m pos (size f) _ (co Q (B k (suc (suc i))))
-          (λ t l. entry-series (getD u k 0) (rowAt f k .a) (rowAt f k .b) (rowAt f (suc k) .c) (s .current) (s .previous) (B (suc k) (suc i)) (B (suc (suc k)) i) (e .currentHolds) (e .previousHolds) t
-          ∙ ap (λ p. co Q p t) (sym (partial-step Q ρ (entries m pos u) k i)))
-          (λ t l. partial-degree Q ρ (entries m pos u) k (suc (suc i)) t (omega arith));
+          (λ t l. entry-series (getD u k 0) (rowAt f k .a) (rowAt f k .b) (rowAt f (suc k) .c) (s .current) (s .previous)
+          (B (suc k) (suc i)) (B (suc (suc k)) i) (e .currentHolds) (e .previousHolds) t
+          ∙ ap (λ p. co Q p t) (sym (partial-step Q ρ (E u) k i)))
+          (λ t l. partial-degree Q ρ (E u) k (suc (suc i)) t (omega arith));
       previousHolds = e .currentHolds;
     }
 
-    expandState-partial : (i k : ℕ) → k +ℕ i ≡ size f → Holds (expandState f u i) (B k (suc i)) (B (suc k) i)
+    expandState-partial : (i k : ℕ) → k +ℕ i ≡ size f → Holds (expandState f u i) k i
     unfolding expandState
-    expandState-partial zero k e = record { currentHolds = λ t. zeros-partial k 1 t (omega arith); previousHolds = λ t. zeros-partial (suc k) 0 t (omega arith) }
+    expandState-partial zero k e =
+        record { currentHolds = λ t. zeros-partial k 1 t (omega arith); previousHolds = λ t. zeros-partial (suc k) 0 t (omega arith) }
     expandState-partial (suc i) k e =
         let here : rows f -ℕ i ≡ k = omega arith in
         rw here (expandStep-partial i k (expandState f u i) (omega arith) (expandState-partial i (suc k) (omega arith)))
@@ -132,9 +150,11 @@ module _ (f : Family) (pos : 0 < f .m) where
     -- after i steps nothing stands from place i on, so a loop may stop there
     pub expandState-ends : (i t : ℕ) → i ≤ size f → i ≤ t → getD (expandState f u i .current) t 0 ≡ 0
     expandState-ends i t b h = entry-zero f pos (expandState f u i .current) (expandState-curves f pos u i .currentCurve) t
-        (expandState-partial i (size f -ℕ i) (omega arith) .currentHolds t ∙ partial-degree Q ρ (entries m pos u) (size f -ℕ i) (suc i) t (omega arith))
+        (expandState-partial i (size f -ℕ i) (omega arith) .currentHolds t ∙ partial-degree Q ρ (E u) (size f -ℕ i) (suc i) t (omega arith))
 
     pub plainExpand-expand : plainExpand f u ≡ expand f u
     unfolding plainExpand
-    plainExpand-expand = curves-equal-residues f (plainExpand f u) (expand f u) (expandState-curves f pos u (size f) .currentCurve) (expand-curve f pos u) pos
-        (λ i h. expandState-partial (size f) 0 (zero-add (size f)) .currentHolds i ∙ partial-combination Q ρ (entries m pos u) (size f) i ∙ sym (entries-expand f pos u i h))
+    plainExpand-expand = curves-equal-residues f (plainExpand f u) (expand f u) (expandState-curves f pos u (size f) .currentCurve)
+        (expand-curve f pos u) pos
+        (λ i h. expandState-partial (size f) 0 (zero-add (size f)) .currentHolds i ∙ partial-combination Q ρ (E u) (size f) i
+        ∙ sym (entries-expand f pos u i h))

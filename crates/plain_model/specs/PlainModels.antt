@@ -30,7 +30,8 @@ constant y (suc i) = 0
 
 -- ---- Expand: B_k = u_k + (a_{k+1} x + b_{k+1}) B_{k+1} + c_{k+2} B_{k+2}, for k = n - 1 down to 0
 unfoldable pub expandEntry : ℕ → ℕ → ℕ → ℕ → ℕ → List ℕ → List ℕ → ℕ → ℕ
-expandEntry m y a b c current previous i = (constant y i + a * timesX (λ j. getD current j 0) i + b * getD current i 0 + c * getD previous i 0) % m
+expandEntry m y a b c current previous i =
+    (constant y i + a * timesX (λ j. getD current j 0) i + b * getD current i 0 + c * getD previous i 0) % m
 
 unfoldable pub expandStep : Family → List ℕ → ℕ → State → State
 expandStep f u k s = record {
@@ -96,12 +97,14 @@ module _ (f : Family) (pos : 0 < f .m) where
   pub expandState-curves : (u : List ℕ) (i : ℕ) → CurveState f (expandState f u i)
   unfolding expandState expandStep expandEntry
   expandState-curves u zero = record { currentCurve = zeros-curve; previousCurve = zeros-curve }
-  expandState-curves u (suc i) = record { currentCurve = table-curve f _ (λ i h. mod-lt _ pos); previousCurve = expandState-curves u i .currentCurve }
+  expandState-curves u (suc i) =
+      record { currentCurve = table-curve f _ (λ i h. mod-lt _ pos); previousCurve = expandState-curves u i .currentCurve }
 
   pub adjointState-curves : (u : List ℕ) → Curve f u → (j : ℕ) → CurveState f (adjointState f u j)
   unfolding adjointState adjointStep adjointEntry
   adjointState-curves u cu zero = record { currentCurve = cu; previousCurve = zeros-curve }
-  adjointState-curves u cu (suc j) = record { currentCurve = table-curve f _ (λ i h. mod-lt _ pos); previousCurve = adjointState-curves u cu j .currentCurve }
+  adjointState-curves u cu (suc j) =
+      record { currentCurve = table-curve f _ (λ i h. mod-lt _ pos); previousCurve = adjointState-curves u cu j .currentCurve }
 
   pub decomposeStep-curve : (y : ℕ) (q : List ℕ) → Curve f (decomposeStep f y q)
   unfolding decomposeStep decomposeEntry

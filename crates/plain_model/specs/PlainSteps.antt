@@ -19,10 +19,12 @@ module _ (k : ℕ) (p p′ q q′ : List ℕ) where
   timesX-agree e zero h = refl
   timesX-agree e (suc i) h = e i (le-of-suc-le-suc h)
 
-  pub expandEntry-agree : (m y a b c : ℕ) → Agree k p p′ → Agree k q q′ → (i : ℕ) → i < k → expandEntry m y a b c p q i ≡ expandEntry m y a b c p′ q′ i
+  pub expandEntry-agree : (m y a b c : ℕ) → Agree k p p′ → Agree k q q′ → (i : ℕ) → i < k
+      → expandEntry m y a b c p q i ≡ expandEntry m y a b c p′ q′ i
   unfolding expandEntry
   expandEntry-agree m y a b c e e′ i h = rw (timesX-agree e i (omega arith), e i h, e′ i h)
 
-  pub adjointEntry-agree : (m a b c : ℕ) → Agree (suc k) p p′ → Agree k q q′ → (t : ℕ) → t < k → adjointEntry m a b c p q t ≡ adjointEntry m a b c p′ q′ t
+  pub adjointEntry-agree : (m a b c : ℕ) → Agree (suc k) p p′ → Agree k q q′ → (t : ℕ) → t < k
+      → adjointEntry m a b c p q t ≡ adjointEntry m a b c p′ q′ t
   unfolding adjointEntry
   adjointEntry-agree m a b c e e′ t h = rw (e (suc t) (omega arith), e t (omega arith), e′ t h)

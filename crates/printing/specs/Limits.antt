@@ -1,6 +1,5 @@
 -- What the lengths of the program's lists settle: an output of 4,096 bytes, a working list of 16,384 numbers, and 8,193 bytes for the text.
 --   lentTests t   the tests of the text call on t with these lengths
---   Given P ts    each test of ts that holds has a number of which P is true
 --   Causable k    a number that a job text can cause: 1 to 6, 9 to 12
 -- Proved: a refusal through the program is causable, so 7 and 8 are never given (printed-never-7-or-8); whatever is printed fits the
 -- output (printed-fits); the first 8,193 bytes settle what is printed (printed-first-bytes). Assumes nothing.
@@ -16,44 +15,20 @@ use borrow.Author.Tests.{lt-ltb, ltb-false, ltb-true}
 use Rattle.definitions.specs.Family.{Family, Modulus, Curve, mostRows, rows}
 use Rattle.definitions.specs.Printing.{shown, printed}
 use Rattle.definitions.specs.Reading.{Read, found, malformed, readJob}
-use Rattle.definitions.specs.Refusals.{Test, Verdict, finished, refused, verdict, workLength, modulusTest, lengthsTest, rowCountTest, curveLengthTest, workTest, entriesTest, aInverseTest, cInverseTest, curveEntriesTest}
+use Rattle.definitions.specs.Refusals.{Test, Verdict, finished, refused, verdict, workLength, curveLengthTest, workTest, curveEntriesTest, shapeTests, familyShape, familyRows}
 use Rattle.definitions.specs.Text.{Job, decimal, meant, refusalKey, refusalText, answerText}
-use Rattle.definitions.specs.TextCall.{mostBytes, textOutputLength, textLengthTest, emptyCurveTest, curveTest, textOutputTest, jobTests, formTests, textTests, converted, result, replyTo, reply}
+use Rattle.definitions.specs.TextCall.{mostBytes, textOutputLength, textLengthTest, textOutputTest, jobTests, formTests, textTests, converted, result, replyTo, reply}
 use Rattle.definitions.specs.declared.Operation.{Operation}
 use Rattle.texts.specs.AnswerTexts.{all-writable, length-answer, length-line}
 use Rattle.theory.specs.Bridge.{expand-curve, adjoint-curve}
 use Rattle.texts.specs.Decimal.{length-decimal}
 use Rattle.theory.specs.Moments.{moments-below, moments-length, norms-curve}
 use Rattle.theory.specs.RoundTrip.{decompose-curve}
-use Rattle.acceptance.specs.Verdicts.{None, withValues, refused-not-finished, verdict-here, verdict-next, verdict-finished, verdict-values, modulus-passes, row-count-passes}
+use Rattle.acceptance.specs.Verdicts.{None, withValues, verdict-here, verdict-finished, modulus-passes, row-count-passes}
+use Rattle.acceptance.specs.Given.{Given, revalued, refused-given, given-append, shape-given, rows-given}
 
 abbrev pub lentTests : List ℕ → List Test
 lentTests t = textTests t textOutputLength workLength
-
--- ---- a verdict with other values
-values-twice : (xs ys : List ℕ) (v : Verdict) → withValues ys v ≡ withValues ys (withValues xs v)
-values-twice xs ys (finished none) = refl
-values-twice xs ys (refused k) = refl
-
-pub revalued : (ts : List Test) (xs ys : List ℕ) → verdict ts ys ≡ withValues ys (verdict ts xs)
-revalued ts xs ys = verdict-values ys ts ∙ values-twice xs ys (verdict ts []) ∙ ap (withValues ys) (sym (verdict-values xs ts))
-
--- ---- which numbers are given
-abbrev pub Given : (ℕ → Type 0) → List Test → Type 0
-Given P [] = Unit {0}
-Given P (t ∷ ts) = (t .holds ≡ true → P (t .number)) × Given P ts
-
-refused-given : (P : ℕ → Type 0) (values : List ℕ) (k : ℕ) (ts : List Test) → Given P ts → verdict ts values ≡ refused k → P k
-unfolding verdict
-refused-given P values k [] given e = absurd (refused-not-finished k values (sym e))
-refused-given P values k (t ∷ ts) given e = split (t .holds) refl (refused-given P values k ts (given .1))
-  where
-    split : (h : Bool) → t .holds ≡ h → (verdict ts values ≡ refused k → P k) → P k
-    split true q rest =
-        let same : refused (t .number) ≡ refused k = sym (verdict-here t ts values q) ∙ e in
-        let number : t .number ≡ k = cc in
-        rw (sym number) (given .0 q)
-    split false q rest = rest (sym (verdict-next t ts values q) ∙ e)
 
 pub record Causable (k : ℕ) : Type 0 where
   pub least : 1 ≤ k
@@ -61,50 +36,39 @@ pub record Causable (k : ℕ) : Type 0 where
   pub not7 : k ≡ 7 → ⊥
   pub not8 : k ≡ 8 → ⊥
 
-lower : (k : ℕ) → (1 ≤ k) × (k ≤ 6) → Causable k
-lower k h = record { least = h .0; greatest = omega (arith, h .1); not7 = λ e. omega (arith, h .1); not8 = λ e. omega (arith, h .1) }
+early : (k : ℕ) → (1 ≤ k) × (k ≤ 6) → Causable k
+early k h = record { least = h .0; greatest = omega (arith, h .1); not7 = λ e. omega (arith, h .1); not8 = λ e. omega (arith, h .1) }
 
-upper : (k : ℕ) → (9 ≤ k) × (k ≤ 12) → Causable k
-upper k h = record { least = omega (arith, h .0); greatest = h .1; not7 = λ e. omega (arith, h .0); not8 = λ e. omega (arith, h .0) }
-
-curve-number : (operation : Operation) (f : Family) (u : List ℕ) → curveTest operation f u .number ≡ 6
-unfolding curveTest curveLengthTest emptyCurveTest
-curve-number Operation.Expand f u = refl
-curve-number Operation.Adjoint f u = refl
-curve-number Operation.Decompose f u = refl
-curve-number Operation.Moments f u = refl
-curve-number Operation.Norms f u = refl
-
-values-given : (f : Family) (u : List ℕ) → Given Causable (entriesTest f ∷ aInverseTest f ∷ cInverseTest f ∷ curveEntriesTest f u ∷ [])
-unfolding entriesTest aInverseTest cInverseTest curveEntriesTest
-values-given f u = (λ e. upper 9 (omega arith), (λ e. upper 10 (omega arith), (λ e. upper 11 (omega arith), (λ e. upper 12 (omega arith), tt))))
+late : (k : ℕ) → (9 ≤ k) × (k ≤ 12) → Causable k
+late k h = record { least = omega (arith, h .0); greatest = h .1; not7 = λ e. omega (arith, h .0); not8 = λ e. omega (arith, h .0) }
 
 -- the output is not under 4,096 bytes, and the working list not under 16,384 numbers
 job-given : (j : Job) → Given Causable (jobTests j textOutputLength workLength)
-unfolding jobTests modulusTest lengthsTest rowCountTest textOutputTest workTest
-job-given j = (
-  λ e. lower 3 (omega arith),
-  (
-    λ e. lower 4 (omega arith),
+unfolding jobTests curveLengthTest textOutputTest workTest curveEntriesTest
+job-given j = given-append Causable (familyShape (j .family)) _
+    (shape-given Causable _ _ _ _ (early 3 (omega arith)) (early 4 (omega arith)) (early 5 (omega arith)))
     (
-      λ e. lower 5 (omega arith),
+      λ e. early 6 (omega arith),
       (
-        λ e. rw (curve-number (j .operation) (j .family) (j .curve)) (lower 6 (omega arith)),
-        (λ e. absurd (true≢false (sym e)), (λ e. absurd (true≢false (sym e)), values-given (j .family) (j .curve))),
+        λ e. absurd (true≢false (sym e)),
+        (
+          λ e. absurd (true≢false (sym e)),
+          given-append Causable (familyRows (j .family)) _
+              (rows-given Causable (j .family) (late 9 (omega arith)) (late 10 (omega arith)) (late 11 (omega arith)))
+              (λ e. late 12 (omega arith), tt),
+        ),
       ),
-    ),
-  ),
-)
+    )
 
 form-given : (r : Read) → Given Causable (formTests r textOutputLength workLength)
 unfolding formTests
-form-given malformed = (λ e. lower 2 (omega arith), tt)
-form-given (found w) = (λ e. lower 2 (omega arith), job-given (meant w))
+form-given malformed = (λ e. early 2 (omega arith), tt)
+form-given (found w) = (λ e. early 2 (omega arith), job-given (meant w))
 
 module _ (t : List ℕ) where
   pub refusal-causable : (values : List ℕ) (k : ℕ) → verdict (lentTests t) values ≡ refused k → Causable k
   unfolding textTests textLengthTest
-  refusal-causable values k = refused-given Causable values k (lentTests t) (λ e. lower 1 (omega arith), form-given (readJob t))
+  refusal-causable values k = refused-given Causable values k (lentTests t) (λ e. early 1 (omega arith), form-given (readJob t))
 
   pub printed-never-7-or-8 : (values : List ℕ)
       → (verdict (lentTests t) values ≡ refused 7 → ⊥) × (verdict (lentTests t) values ≡ refused 8 → ⊥)
@@ -131,10 +95,10 @@ module _ (operation : Operation) (f : Family) (modulus : Modulus (f .m)) (few : 
   result-fits Operation.Norms u = curve-fits _ (norms-curve f positive)
 
 reply-fits : (r : Read) → None (formTests r textOutputLength workLength) → length (replyTo r) ≤ textOutputLength
-unfolding formTests jobTests replyTo result
+unfolding formTests jobTests shapeTests replyTo result
 reply-fits malformed none = omega arith
 reply-fits (found w) none =
-    let few = row-count-passes (meant w .family) .0 (none .1 .1 .1 .0) in
+    let few = row-count-passes (rows (meant w .family)) .0 (none .1 .1 .1 .0) in
     result-fits (w .operation) (meant w .family) (modulus-passes (w .modulus) .0 (none .1 .0)) few (w .operation) (w .curve)
 
 refusal-fits : (k : ℕ) → k ≤ 12 → length (refusalText k) ≤ textOutputLength

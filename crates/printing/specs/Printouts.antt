@@ -17,7 +17,8 @@ use Rattle.definitions.specs.TextCall.{textOutputLength, textTests, reply, Text
 use Rattle.definitions.specs.declared.Valued.{Valued}
 use Rattle.acceptance.specs.Verdicts.{withValues}
 use Rattle.writer.specs.Refusal.{RefusalWritten}
-use Rattle.printing.specs.Limits.{lentTests, revalued, printed-fits}
+use Rattle.acceptance.specs.Given.{revalued}
+use Rattle.printing.specs.Limits.{lentTests, printed-fits}
 
 pub record Prints (t bytes : List ℕ) (n : ℕ) : Type 0 where
   pub count : n ≡ length (printed t)

@@ -1,23 +1,27 @@
 -- Products of parts of a working list, written to another part of it.
 --   Source m w at n         the n numbers of w from place at on are residues modulo m
 --   Aside m w lo hi at n    the same, and they lie apart from the places lo to hi - 1
---   CoefficientInput        of one coefficient of a sum of two products of parts
---   SourceInput             the same where k may lie past both products
+--   SourceInput             of one coefficient of a sum of two products of parts
+--   CoefficientInput        the same where k does not lie past both products
+--   slice w at n            the n numbers that are lent by a slice from place at on
 --   Used w p r pn n         the first n of the pn numbers from p on and from r on have the entries of all: the rest are zeros
 --   ProductPlaces           of a loop that writes n of them;  productEntry  what it writes at k
 --   TermInput, TransposedPlaces, transposedEntry   the same of transposed products
 --   ListInput, listEntry    the same of one transposed product of lists that lie elsewhere
+-- Proved: what lies apart from the target is read as it was, so that each step is handed what it requires; what a slice lends is the
+-- part; zeros at the end of both factors change nothing; how the loops go on and end.
 -- Assumes nothing.
 use mathlib.Core.Path.{_≡_, refl, sym, _∙_, ap, ap₂}
 use mathlib.Core.List.{List}
 use mathlib.Core.Logic.{inl, inr}
-use Prim.Native.Nat.{ℕ, _+_, _*_, _-_, _%_, _≤_, _<_}
+use Prim.Native.Nat.{ℕ, _+_, _-_, _%_, _≤_, _<_}
 use native.Mathlib.Decide.{decLt, ℕ-discrete}
-use native.Mathlib.Nat.{add-zero, mod-eq-of-lt, mul-le-mul-left, mul-one, zero-add, mod-lt, mod-add-mod}
+use native.Mathlib.Nat.{add-zero, mod-eq-of-lt}
 use native.Mathlib.Omega.{arith}
 use lib.ListN.{length, getD, take, drop, set}
 use Rattle.definitions.specs.Family.{greatestModulus}
-use Rattle.numbers.specs.Regions.{part, written, Apart, ResiduesIn, KeptOutside, part-length, part-entry, part-past, part-slice, part-below, kept-part, kept-residues, Writing, writing-kept, writing-next, writing-ends}
+use Rattle.numbers.specs.Regions.{part, written, Apart, ResiduesIn, KeptOutside, part-length, part-entry, part-past, part-slice}
+use Rattle.numbers.specs.Regions.{part-below, kept-part, kept-residues, Writing, writing-kept, writing-next, writing-ends}
 use Rattle.numbers.specs.Products.{Below, productAt, plusProducts, transposedAt, transposed, transposedSum}
 use Rattle.reduction.specs.Reciprocal.{Reciprocal}
 use Rattle.reduction.specs.Wrapping.{Reducible}
@@ -31,16 +35,6 @@ pub record Aside (m : ℕ) (w : List ℕ) (lo hi at n : ℕ) : Type 0 where
   pub source : Source m w at n
   pub apart : Apart lo hi at n
 
-pub record CoefficientInput (m reciprocal : ℕ) (w : List ℕ) (start p r pn q s qn k : ℕ) : Type 0 where
-  pub reducible : Reducible m reciprocal
-  pub startBelow : start < m
-  pub pSource : Source m w p pn
-  pub rSource : Source m w r pn
-  pub qSource : Source m w q qn
-  pub sSource : Source m w s qn
-  pub reached : k < pn + qn
-
--- the same for any k
 pub record SourceInput (m reciprocal : ℕ) (w : List ℕ) (start p r pn q s qn : ℕ) : Type 0 where
   pub reducible : Reducible m reciprocal
   pub startBelow : start < m
@@ -48,6 +42,10 @@ pub record SourceInput (m reciprocal : ℕ) (w : List ℕ) (start p r pn q s qn 
   pub rSource : Source m w r pn
   pub qSource : Source m w q qn
   pub sSource : Source m w s qn
+
+pub record CoefficientInput (m reciprocal : ℕ) (w : List ℕ) (start p r pn q s qn k : ℕ) : Type 0 where
+  pub sources : SourceInput m reciprocal w start p r pn q s qn
+  pub reached : k < pn + qn
 
 -- the first n of the pn numbers from p on, and from r on, have the entries of all
 pub record Used (w : List ℕ) (p r pn n : ℕ) : Type 0 where
@@ -90,8 +88,8 @@ unfoldable pub transposedEntry : ℕ → List ℕ → ℕ → ℕ → ℕ → �
 transposedEntry m w p q pn v u vn i = (transposedAt (part w p pn) (part w v vn) i + transposedAt (part w q pn) (part w u vn) i) % m
 
 -- ---- parts that lie apart from what is written
-pub aside-within : (m : ℕ) (w : List ℕ) (lo hi at n lo′ hi′ at′ n′ : ℕ) → Aside m w lo hi at n → lo ≤ lo′ → hi′ ≤ hi → at ≤ at′ → at′ + n′ ≤
-    at + n → Aside m w lo′ hi′ at′ n′
+pub aside-within : (m : ℕ) (w : List ℕ) (lo hi at n lo′ hi′ at′ n′ : ℕ) → Aside m w lo hi at n
+    → lo ≤ lo′ → hi′ ≤ hi → at ≤ at′ → at′ + n′ ≤ at + n → Aside m w lo′ hi′ at′ n′
 aside-within m w lo hi at n lo′ hi′ at′ n′ h a b c d = record {
   source = record { inside = omega (arith, h .source .inside); below = λ i p q. h .source .below i (omega arith) (omega arith) };
   apart = narrower (h .apart);
@@ -103,70 +101,69 @@ aside-within m w lo hi at n lo′ hi′ at′ n′ h a b c d = record {
 
 pub aside-kept : (m lo hi : ℕ) (w w′ : List ℕ) (at n : ℕ) → KeptOutside lo hi w w′ → Aside m w lo hi at n → Aside m w′ lo hi at n
 aside-kept m lo hi w w′ at n k h = record {
-  source = record { inside = omega (arith, h .source .inside, k .long); below = kept-residues lo hi w w′ k m at n (h .apart) (h .source .below) };
+  source = record {
+    inside = omega (arith, h .source .inside, k .long);
+    below = kept-residues lo hi w w′ k m at n (h .apart) (h .source .below);
+  };
   apart = h .apart;
 }
 
 -- ---- one coefficient
 -- what a slice lends is the part
-abbrev pub lent : List ℕ → ℕ → ℕ → List ℕ
-lent w at n = take (at + n - at) (drop at w)
+abbrev pub slice : List ℕ → ℕ → ℕ → List ℕ
+slice w at n = take (at + n - at) (drop at w)
 
 module _ (m : ℕ) (w : List ℕ) (at n : ℕ) (h : Source m w at n) where
-  pub lent-part : lent w at n ≡ part w at n
-  lent-part =
+  pub slice-part : slice w at n ≡ part w at n
+  slice-part =
       let e : at + n - at ≡ n = omega arith in
       ap (λ k. take k (drop at w)) e ∙ part-slice w at n (h .inside)
 
-  pub lent-below : 0 < m → Below m (lent w at n)
-  lent-below pos = rw lent-part (part-below m w at n pos (h .below))
+  pub slice-below : 0 < m → Below m (slice w at n)
+  slice-below pos = rw slice-part (part-below m w at n pos (h .below))
 
-  pub lent-length : length (lent w at n) ≡ n
-  lent-length = ap length lent-part ∙ part-length w at n
+  pub slice-length : length (slice w at n) ≡ n
+  slice-length = ap length slice-part ∙ part-length w at n
 
-module _ (m reciprocal : ℕ) (w : List ℕ) (start p r pn q s qn k : ℕ) (input : CoefficientInput m reciprocal w start p r pn q s qn k) where
-  positive : 0 < m
-  positive = input .reducible .reciprocal .positive
+module _ (m reciprocal : ℕ) (w : List ℕ) (start p r pn q s qn k : ℕ)
+    (input : CoefficientInput m reciprocal w start p r pn q s qn k) where
+  open SourceInput (input .sources) using (reducible, startBelow, pSource, qSource, rSource, sSource)
 
-  pub coefficient-input : ProductsInput m reciprocal start (lent w p pn) (lent w q qn) (lent w r pn) (lent w s qn) k
+  pub coefficient-input : ProductsInput m reciprocal start (slice w p pn) (slice w q qn) (slice w r pn) (slice w s qn) k
   coefficient-input = record {
-    reducible = input .reducible;
-    startBelow = input .startBelow;
-    pBelow = lent-below m w p pn (input .pSource) positive;
-    qBelow = lent-below m w q qn (input .qSource) positive;
-    rBelow = lent-below m w r pn (input .rSource) positive;
-    sBelow = lent-below m w s qn (input .sSource) positive;
-    rLong = lent-length m w r pn (input .rSource) ∙ sym (lent-length m w p pn (input .pSource));
-    sLong = lent-length m w s qn (input .sSource) ∙ sym (lent-length m w q qn (input .qSource));
-    reached = rw (lent-length m w p pn (input .pSource), lent-length m w q qn (input .qSource)) (input .reached);
+    reducible = reducible;
+    startBelow = startBelow;
+    pBelow = slice-below m w p pn pSource pos;
+    qBelow = slice-below m w q qn qSource pos;
+    rBelow = slice-below m w r pn rSource pos;
+    sBelow = slice-below m w s qn sSource pos;
+    rLong = slice-length m w r pn rSource ∙ sym (slice-length m w p pn pSource);
+    sLong = slice-length m w s qn sSource ∙ sym (slice-length m w q qn qSource);
+    reached = rw (slice-length m w p pn pSource, slice-length m w q qn qSource) (input .reached);
   }
+    where
+      pos : 0 < m
+      pos = reducible .reciprocal .positive
 
-  pub coefficient-is : (v : ℕ) → v ≡ (start + productAt (lent w p pn) (lent w q qn) k + productAt (lent w r pn) (lent w s qn) k) % m
+  pub coefficient-is : (v : ℕ) → v ≡ (start + productAt (slice w p pn) (slice w q qn) k + productAt (slice w r pn) (slice w s qn) k) % m
       → v ≡ (start + productAt (part w p pn) (part w q qn) k + productAt (part w r pn) (part w s qn) k) % m
   coefficient-is v e =
-      let first : productAt (lent w p pn) (lent w q qn) k ≡ productAt (part w p pn) (part w q qn) k = ap₂ (λ x y. productAt x y k) (lent-part m w p pn (input .pSource)) (lent-part m w q qn (input .qSource)) in
-      let second : productAt (lent w r pn) (lent w s qn) k ≡ productAt (part w r pn) (part w s qn) k = ap₂ (λ x y. productAt x y k) (lent-part m w r pn (input .rSource)) (lent-part m w s qn (input .sSource)) in
-      e ∙ ap₂ (λ x y. (start + x + y) % m) first second
+      e ∙ ap₂ (λ x y. (start + x + y) % m)
+      (ap₂ (λ x y. productAt x y k) (slice-part m w p pn pSource) (slice-part m w q qn qSource))
+      (ap₂ (λ x y. productAt x y k) (slice-part m w r pn rSource) (slice-part m w s qn sSource))
 
 -- ---- past the end of both products
 module _ (m reciprocal : ℕ) (w : List ℕ) (start p r pn q s qn k : ℕ) (input : SourceInput m reciprocal w start p r pn q s qn) where
   pub coefficient-there : k < pn + qn → CoefficientInput m reciprocal w start p r pn q s qn k
-  coefficient-there l = record {
-    reducible = input .reducible;
-    startBelow = input .startBelow;
-    pSource = input .pSource;
-    rSource = input .rSource;
-    qSource = input .qSource;
-    sSource = input .sSource;
-    reached = l;
-  }
+  coefficient-there l = record { sources = input; reached = l }
 
-  pub coefficient-past : pn + qn ≤ k → start ≡ (start + productAt (part w p pn) (part w q qn) k + productAt (part w r pn) (part w s qn) k) %
-      m
+  pub coefficient-past : pn + qn ≤ k
+      → start ≡ (start + productAt (part w p pn) (part w q qn) k + productAt (part w r pn) (part w s qn) k) % m
   coefficient-past l =
       let none : (at at′ : ℕ) → productAt (part w at pn) (part w at′ qn) k ≡ 0 =
       λ at at′. product-past (part w at pn) (part w at′ qn) k (rw (part-length w at pn, part-length w at′ qn) l) in
-      sym (ap₂ (λ x y. (start + x + y) % m) (none p q) (none r s) ∙ rw (add-zero (start + 0), add-zero start) (mod-eq-of-lt (input .startBelow)))
+      sym (ap₂ (λ x y. (start + x + y) % m) (none p q) (none r s)
+      ∙ rw (add-zero (start + 0), add-zero start) (mod-eq-of-lt (input .startBelow)))
 
 -- ---- zeros at the end
 used-more : (w : List ℕ) (at pn n : ℕ) → n < pn → getD (part w at pn) n 0 ≡ 0
@@ -197,30 +194,31 @@ used-less w p r pn n pos u zp zr =
 
 -- ---- one term of a sum of two transposed products
 module _ (m reciprocal : ℕ) (w : List ℕ) (p q pn v u vn i : ℕ) (input : TermInput m reciprocal w p q pn v u vn) where
-  positive₂ : 0 < m
-  positive₂ = input .reducible .reciprocal .positive
-
-  pub term-input : TransposedSumInput m reciprocal (lent w p pn) (lent w v vn) (lent w q pn) (lent w u vn)
+  pub term-input : TransposedSumInput m reciprocal (slice w p pn) (slice w v vn) (slice w q pn) (slice w u vn)
   term-input = record {
     reducible = input .reducible;
-    pBelow = lent-below m w p pn (input .pSource) positive₂;
-    vBelow = lent-below m w v vn (input .vSource) positive₂;
-    qBelow = lent-below m w q pn (input .qSource) positive₂;
-    uBelow = lent-below m w u vn (input .uSource) positive₂;
-    qLong = lent-length m w q pn (input .qSource) ∙ sym (lent-length m w p pn (input .pSource));
-    uLong = lent-length m w u vn (input .uSource) ∙ sym (lent-length m w v vn (input .vSource));
+    pBelow = slice-below m w p pn (input .pSource) pos;
+    vBelow = slice-below m w v vn (input .vSource) pos;
+    qBelow = slice-below m w q pn (input .qSource) pos;
+    uBelow = slice-below m w u vn (input .uSource) pos;
+    qLong = slice-length m w q pn (input .qSource) ∙ sym (slice-length m w p pn (input .pSource));
+    uLong = slice-length m w u vn (input .uSource) ∙ sym (slice-length m w v vn (input .vSource));
   }
+    where
+      pos : 0 < m
+      pos = input .reducible .reciprocal .positive
 
-  pub term-is : (y : ℕ) → y ≡ (transposedAt (lent w p pn) (lent w v vn) i + transposedAt (lent w q pn) (lent w u vn) i) % m → y ≡
-      transposedEntry m w p q pn v u vn i
+  pub term-is : (y : ℕ) → y ≡ (transposedAt (slice w p pn) (slice w v vn) i + transposedAt (slice w q pn) (slice w u vn) i) % m
+      → y ≡ transposedEntry m w p q pn v u vn i
   unfolding transposedEntry
   term-is y e =
-      let first : transposedAt (lent w p pn) (lent w v vn) i ≡ transposedAt (part w p pn) (part w v vn) i = ap₂ (λ x y. transposedAt x y i) (lent-part m w p pn (input .pSource)) (lent-part m w v vn (input .vSource)) in
-      let second : transposedAt (lent w q pn) (lent w u vn) i ≡ transposedAt (part w q pn) (part w u vn) i = ap₂ (λ x y. transposedAt x y i) (lent-part m w q pn (input .qSource)) (lent-part m w u vn (input .uSource)) in
-      e ∙ ap₂ (λ x y. (x + y) % m) first second
+      e ∙ ap₂ (λ x y. (x + y) % m)
+      (ap₂ (λ x y. transposedAt x y i) (slice-part m w p pn (input .pSource)) (slice-part m w v vn (input .vSource)))
+      (ap₂ (λ x y. transposedAt x y i) (slice-part m w q pn (input .qSource)) (slice-part m w u vn (input .uSource)))
 
 -- ---- all of them
-module _ (m : ℕ) (w₀ : List ℕ) (target n : ℕ) (f : ℕ → ℕ) (w : List ℕ) (k : ℕ) (h : Writing w₀ target n f w k) (at c : ℕ) (a : Aside m w₀ target (target + n) at c) where
+module _ (m : ℕ) (w₀ : List ℕ) (target n : ℕ) (f : ℕ → ℕ) (w : List ℕ) (k : ℕ) (h : Writing w₀ target n f w k)
+    (at c : ℕ) (a : Aside m w₀ target (target + n) at c) where
   -- what lies apart from the target is there still
   aside-part : part w at c ≡ part w₀ at c
   aside-part = kept-part target (target + n) w₀ w (writing-kept w₀ target n f w k h) at c (a .apart)
@@ -231,7 +229,8 @@ module _ (m : ℕ) (w₀ : List ℕ) (target n : ℕ) (f : ℕ → ℕ) (w : Lis
     below = kept-residues target (target + n) w₀ w (writing-kept w₀ target n f w k h) m at c (a .apart) (a .source .below);
   }
 
-module _ (m : ℕ) (w₀ : List ℕ) (target n t tn p r pn q s qn : ℕ) (places : ProductPlaces m w₀ target n t tn p r pn q s qn) (w : List ℕ) (k : ℕ) (l : k < n) (h : Writing w₀ target n (productEntry m w₀ t tn p r pn q s qn) w k) where
+module _ (m : ℕ) (w₀ : List ℕ) (target n t tn p r pn q s qn : ℕ) (places : ProductPlaces m w₀ target n t tn p r pn q s qn)
+    (w : List ℕ) (k : ℕ) (l : k < n) (h : Writing w₀ target n (productEntry m w₀ t tn p r pn q s qn) w k) where
   source : (at c : ℕ) → Aside m w₀ target (target + n) at c → Source m w at c
   source = aside-source m w₀ target n (productEntry m w₀ t tn p r pn q s qn) w k h
 
@@ -244,8 +243,8 @@ module _ (m : ℕ) (w₀ : List ℕ) (target n t tn p r pn q s qn : ℕ) (places
         aside-within m w₀ target (target + n) at pn target (target + n) at used a (omega arith) (omega arith) (omega arith)
         (omega (arith, u .within))
 
-    pub product-sources : Reciprocal m reciprocal → (start : ℕ) → start ≡ getD (part w t tn) k 0 → SourceInput m reciprocal w start p r used
-        q s qn
+    pub product-sources : Reciprocal m reciprocal → (start : ℕ) → start ≡ getD (part w t tn) k 0
+        → SourceInput m reciprocal w start p r used q s qn
     product-sources held start e = record {
       reducible = record { most = places .most; reciprocal = held };
       startBelow = rw e (part-below m w t tn (places .least) (source t tn (places .tAside) .below) k);
@@ -263,15 +262,25 @@ module _ (m : ℕ) (w₀ : List ℕ) (target n t tn p r pn q s qn : ℕ) (places
         let first = product-entries (part w₀ p used) (part w₀ p pn) (part w₀ q qn) k (u .pSame) in
         let second = product-entries (part w₀ r used) (part w₀ r pn) (part w₀ s qn) k (u .rSame) in
         writing-next w₀ target n (productEntry m w₀ t tn p r pn q s qn) w k h v l
-        (g ∙ rw (e, kept t tn (places .tAside), kept p used (front p (places .pAside)), kept q qn (places .qAside), kept r used (front r (places .rAside)), kept s qn (places .sAside), first, second))
+        (g ∙ rw (
+          e,
+          kept t tn (places .tAside),
+          kept p used (front p (places .pAside)),
+          kept q qn (places .qAside),
+          kept r used (front r (places .rAside)),
+          kept s qn (places .sAside),
+          first,
+          second,
+        ))
 
-pub product-ends : (m : ℕ) (w₀ : List ℕ) (target n t tn p r pn q s qn : ℕ) (w : List ℕ) (k : ℕ) → n ≤ k → Writing w₀ target n
-    (productEntry m w₀ t tn p r pn q s qn) w k
+pub product-ends : (m : ℕ) (w₀ : List ℕ) (target n t tn p r pn q s qn : ℕ) (w : List ℕ) (k : ℕ) → n ≤ k
+    → Writing w₀ target n (productEntry m w₀ t tn p r pn q s qn) w k
     → w ≡ written w₀ target (plusProducts m n (part w₀ t tn) (part w₀ p pn) (part w₀ q qn) (part w₀ r pn) (part w₀ s qn))
 unfolding productEntry plusProducts
 product-ends m w₀ target n t tn p r pn q s qn w k l h = writing-ends w₀ target n (productEntry m w₀ t tn p r pn q s qn) w k h l
 
-module _ (m : ℕ) (w₀ : List ℕ) (target n p q pn v u vn : ℕ) (places : TransposedPlaces m w₀ target n p q pn v u vn) (w : List ℕ) (i : ℕ) (l : i < n) (h : Writing w₀ target n (transposedEntry m w₀ p q pn v u vn) w i) where
+module _ (m : ℕ) (w₀ : List ℕ) (target n p q pn v u vn : ℕ) (places : TransposedPlaces m w₀ target n p q pn v u vn)
+    (w : List ℕ) (i : ℕ) (l : i < n) (h : Writing w₀ target n (transposedEntry m w₀ p q pn v u vn) w i) where
   pub transposed-term : (reciprocal : ℕ) → Reciprocal m reciprocal → TermInput m reciprocal w p q pn v u vn
   transposed-term reciprocal held = record {
     reducible = record { most = places .most; reciprocal = held };
@@ -284,8 +293,8 @@ module _ (m : ℕ) (w₀ : List ℕ) (target n p q pn v u vn : ℕ) (places : Tr
       still : (at c : ℕ) → Aside m w₀ target (target + n) at c → Source m w at c
       still = aside-source m w₀ target n (transposedEntry m w₀ p q pn v u vn) w i h
 
-  pub transposed-next : (x : ℕ) → x ≡ transposedEntry m w p q pn v u vn i → Writing w₀ target n (transposedEntry m w₀ p q pn v u vn)
-      (set w (target + i) x) (i + 1)
+  pub transposed-next : (x : ℕ) → x ≡ transposedEntry m w p q pn v u vn i
+      → Writing w₀ target n (transposedEntry m w₀ p q pn v u vn) (set w (target + i) x) (i + 1)
   unfolding transposedEntry
   transposed-next x g = writing-next w₀ target n (transposedEntry m w₀ p q pn v u vn) w i h x l
       (g ∙ rw (same p pn (places .pAside), same v vn (places .vAside), same q pn (places .qAside), same u vn (places .uAside)))
@@ -293,8 +302,8 @@ module _ (m : ℕ) (w₀ : List ℕ) (target n p q pn v u vn : ℕ) (places : Tr
       same : (at c : ℕ) → Aside m w₀ target (target + n) at c → part w at c ≡ part w₀ at c
       same = aside-part m w₀ target n (transposedEntry m w₀ p q pn v u vn) w i h
 
-pub transposed-ends : (m : ℕ) (w₀ : List ℕ) (target n p q pn v u vn : ℕ) (w : List ℕ) (i : ℕ) → n ≤ i → Writing w₀ target n
-    (transposedEntry m w₀ p q pn v u vn) w i
+pub transposed-ends : (m : ℕ) (w₀ : List ℕ) (target n p q pn v u vn : ℕ) (w : List ℕ) (i : ℕ) → n ≤ i
+    → Writing w₀ target n (transposedEntry m w₀ p q pn v u vn) w i
     → w ≡ written w₀ target (transposedSum m n (part w₀ p pn) (part w₀ v vn) (part w₀ q pn) (part w₀ u vn))
 unfolding transposedEntry transposedSum
 transposed-ends m w₀ target n p q pn v u vn w i l h = writing-ends w₀ target n (transposedEntry m w₀ p q pn v u vn) w i h l
@@ -312,7 +321,8 @@ listEntry m p u i = transposedAt p u i % m
 
 module _ (m : ℕ) (p u w₀ : List ℕ) (target n : ℕ) (input : ListInput m p u w₀ target n) where
   pub list-input : (reciprocal : ℕ) → Reciprocal m reciprocal → TransposedInput m reciprocal p u
-  list-input reciprocal held = record { reducible = record { most = input .most; reciprocal = held }; pBelow = input .pBelow; wBelow = input .uBelow }
+  list-input reciprocal held =
+      record { reducible = record { most = input .most; reciprocal = held }; pBelow = input .pBelow; wBelow = input .uBelow }
 
   pub list-next : (w : List ℕ) (i r : ℕ) → i < n → Writing w₀ target n (listEntry m p u) w i → r ≡ transposedAt p u i % m
       → Writing w₀ target n (listEntry m p u) (set w (target + i) r) (i + 1)

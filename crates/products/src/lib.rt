@@ -4,7 +4,8 @@ ghost use Prim.Native.Nat.{_+_, _%_, _≤_};
 ghost use lib.ListN.{length, getD};
 ghost use Rattle.numbers.specs.Regions.{part, written};
 ghost use Rattle.numbers.specs.Products.{productAt, plusProducts, transposed, transposedSum};
-ghost use Rattle.products.specs.Places.{CoefficientInput, SourceInput, Used, ProductPlaces, TermInput, TransposedPlaces, transposedEntry, ListInput};
+ghost use Rattle.products.specs.Places.{CoefficientInput, SourceInput, Used, ProductPlaces};
+ghost use Rattle.products.specs.Places.{TermInput, TransposedPlaces, transposedEntry, ListInput};
 use convolution::products_at;
 use convolution::transposed_at;
 use convolution::transposed_sum_at;
@@ -38,7 +39,8 @@ fn coefficient(
     k: usize,
 ) -> u32
     requires { ⌜ CoefficientInput m reciprocal (now w) start p r pn q s qn k ⌝ }
-    ensures { λ v. ⌜ v ≡ (start + productAt (part (now (w .entry)) p pn) (part (now (w .entry)) q qn) k + productAt (part (now (w .entry)) r pn) (part (now (w .entry)) s qn) k) % m ⌝ }
+    ensures { λ v. ⌜ v ≡ (start + productAt (part (now (w .entry)) p pn) (part (now (w .entry)) q qn) k
+        + productAt (part (now (w .entry)) r pn) (part (now (w .entry)) s qn) k) % m ⌝ }
 {
     products_at(
         m,
@@ -67,7 +69,8 @@ fn coefficient_or_start(
     k: usize,
 ) -> u32
     requires { ⌜ SourceInput m reciprocal (now w) start p r pn q s qn ⌝ }
-    ensures { λ v. ⌜ v ≡ (start + productAt (part (now (w .entry)) p pn) (part (now (w .entry)) q qn) k + productAt (part (now (w .entry)) r pn) (part (now (w .entry)) s qn) k) % m ⌝ }
+    ensures { λ v. ⌜ v ≡ (start + productAt (part (now (w .entry)) p pn) (part (now (w .entry)) q qn) k
+        + productAt (part (now (w .entry)) r pn) (part (now (w .entry)) s qn) k) % m ⌝ }
 {
     if excess(k, pn) < qn {
         return coefficient(m, reciprocal, w, start, p, r, pn, q, s, qn, k);
@@ -114,7 +117,9 @@ pub fn add_products(
     qn: usize,
 )
     requires { ⌜ ProductPlaces m (now w) target n t tn p r pn q s qn ⌝ }
-    ensures { λ _. ⌜ now (w .exit) ≡ written (now (w .entry)) target (plusProducts m n (part (now (w .entry)) t tn) (part (now (w .entry)) p pn) (part (now (w .entry)) q qn) (part (now (w .entry)) r pn) (part (now (w .entry)) s qn)) ⌝ }
+    ensures { λ _. ⌜ now (w .exit) ≡ written (now (w .entry)) target
+        (plusProducts m n (part (now (w .entry)) t tn) (part (now (w .entry)) p pn) (part (now (w .entry)) q qn)
+        (part (now (w .entry)) r pn) (part (now (w .entry)) s qn)) ⌝ }
 {
     let reciprocal = reduction::reciprocal(m);
     let used = used_length(w, p, r, pn);
@@ -170,7 +175,9 @@ pub fn transposed_sum(
     vn: usize,
 )
     requires { ⌜ TransposedPlaces m (now w) target n p q pn v u vn ⌝ }
-    ensures { λ _. ⌜ now (w .exit) ≡ written (now (w .entry)) target (transposedSum m n (part (now (w .entry)) p pn) (part (now (w .entry)) v vn) (part (now (w .entry)) q pn) (part (now (w .entry)) u vn)) ⌝ }
+    ensures { λ _. ⌜ now (w .exit) ≡ written (now (w .entry)) target
+        (transposedSum m n (part (now (w .entry)) p pn) (part (now (w .entry)) v vn)
+        (part (now (w .entry)) q pn) (part (now (w .entry)) u vn)) ⌝ }
 {
     let reciprocal = reduction::reciprocal(m);
     let mut i: usize = 0;

@@ -35,19 +35,23 @@ module _ (t : List ℕ) (at first : ℕ) where
       unfolding readDigits
       digits-end e =
           sym (ap (placed (length t)) (d .same) ∙ ap (λ q. placed (length t) (readDigits value q)) (drop-cons t i 0 l)
-          ∙ (rw e (ap (λ q. Number.Found value (length t - length q)) (sym (drop-cons t i 0 l)) ∙ ap (Number.Found value) (place-drop t i (omega arith)))))
+          ∙ (rw e (ap (λ q. Number.Found value (length t - length q)) (sym (drop-cons t i 0 l))
+          ∙ ap (Number.Found value) (place-drop t i (omega arith)))))
 
       module _ (low : 48 ≤ getD t i 0) (high : getD t i 0 ≤ 57) where
-        pub digits-large : greatestNumber < value * 10 + (getD t i 0 - 48) → Number.Wrong ≡ placed (length t) (readDigits first (drop at t))
-        unfolding readDigits
-        digits-large g = rw (d .same, drop-cons t i 0, digit-true (getD t i 0) low high, lt-leb (value * 10 + (getD t i 0 - 48)) greatestNumber)
+        abbrev next : ℕ
+        next = value * 10 + (getD t i 0 - 48)
 
-        pub digits-next : value * 10 + (getD t i 0 - 48) ≤ greatestNumber → Digits t at first (value * 10 + (getD t i 0 - 48)) (i + 1)
+        pub digits-large : greatestNumber < next → Number.Wrong ≡ placed (length t) (readDigits first (drop at t))
+        unfolding readDigits
+        digits-large g = rw (d .same, drop-cons t i 0, digit-true (getD t i 0) low high, lt-leb next greatestNumber)
+
+        pub digits-next : next ≤ greatestNumber → Digits t at first next (i + 1)
         unfolding readDigits
         digits-next g = record {
           inside = omega arith;
           small = g;
-          same = d .same ∙ rw (drop-cons t i 0, digit-true (getD t i 0) low high, le-leb (value * 10 + (getD t i 0 - 48)) greatestNumber, add-one);
+          same = d .same ∙ rw (drop-cons t i 0, digit-true (getD t i 0) low high, le-leb next greatestNumber, add-one);
         }
 
 module _ (t : List ℕ) (at : ℕ) where

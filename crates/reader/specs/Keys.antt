@@ -2,7 +2,7 @@
 --   Compared t at key k    the first k bytes of the key stand at place at
 --   KeyAt t at key         the whole key does
 -- Proved: how a comparison begins, goes on and ends; what has_key says; a line by its key and its content. Assumes nothing.
-use mathlib.Core.Path.{_≡_, refl, sym, _∙_, ap, subst⁻¹}
+use mathlib.Core.Path.{_≡_, refl, sym, _∙_, ap}
 use mathlib.Core.Bool.{Bool, true, false, true≢false}
 use mathlib.Core.List.{List}
 use Prim.Native.Nat.{ℕ, _+_, _-_, _<_, _≤_}
@@ -12,11 +12,9 @@ use native.Mathlib.Omega.{arith}
 use lib.ListN.{length, drop, getD, length-append, length-drop, drop-of-length-le}
 use lib.Seq.{drop-append-seam, drop-cons, drop-drop}
 use borrow.Author.Tests.{eq-eqb, ne-eqb}
-use Rattle.definitions.specs.Reading.{Front, got, bad, readKey, readNumbers, ended, readLine}
+use Rattle.definitions.specs.Reading.{Front, got, bad, readKey, ended, readLine}
 use Rattle.texts.specs.LinesReading.{key-read}
 use Rattle.reader.specs.Places.{opens}
-use Rattle.reader.specs.Storing.{Listed}
-use Rattle.reader.specs.declared.Numbers.{Numbers}
 
 pub record Compared (t : List ℕ) (at : ℕ) (key : List ℕ) (k : ℕ) : Type 0 where
   pub within : k ≤ length key
@@ -62,7 +60,8 @@ module _ (t : List ℕ) (at : ℕ) (key : List ℕ) (r : Bool) (says : r ≡ ope
       cases : (f : Front (Unit {0})) → readKey key (drop at t) ≡ f → opens f ≡ true → KeyAt t at key
       cases (got u rest) e f =
           let text = key-read key (drop at t) u rest e in
-          let left : drop (at + length key) t ≡ rest = sym (drop-drop (length key) at t) ∙ ap (drop (length key)) text ∙ drop-append-seam key rest in
+          let left : drop (at + length key) t ≡ rest =
+          sym (drop-drop (length key) at t) ∙ ap (drop (length key)) text ∙ drop-append-seam key rest in
           let n : length t - at ≡ length key + length rest = sym (length-drop at t) ∙ ap length text ∙ length-append key rest in
           record { read = e ∙ ap (got tt) (sym left); inside = omega arith }
       cases bad e f = absurd (true≢false (sym f))
@@ -80,11 +79,7 @@ module _ {A : Type 0} (key : List ℕ) (content : List ℕ → Front A) where
   unfolding readLine
   line-none q e = rw e
 
-  pub line-content : (t : List ℕ) (at : ℕ) → KeyAt t at key → readLine key content (drop at t) ≡ ended (content (drop (at + length key) t))
+  pub line-content : (t : List ℕ) (at : ℕ) → KeyAt t at key
+      → readLine key content (drop at t) ≡ ended (content (drop (at + length key) t))
   unfolding readLine
   line-content t at k = rw (k .read)
-
--- ---- a line of numbers
-pub line-listed : (t : List ℕ) (at : ℕ) (key out out′ : List ℕ) (r : Numbers) → KeyAt t at key
-    → Listed t (ended (readNumbers (drop (at + length key) t))) out out′ r → Listed t (readLine key readNumbers (drop at t)) out out′ r
-line-listed t at key out out′ r k = subst⁻¹ (λ f. Listed t f out out′ r) (line-content key readNumbers t at k)

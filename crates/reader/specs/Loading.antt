@@ -18,7 +18,7 @@ use Rattle.reader.specs.Places.{NumberAt}
 use Rattle.reader.specs.Digits.{number-past, number-other}
 use Rattle.reader.specs.Storing.{kept, ListAt, kept-none, kept-next}
 
-abbrev pub onto : List ℕ → Front (List ℕ) → Front (List ℕ)
+abbrev onto : List ℕ → Front (List ℕ) → Front (List ℕ)
 onto done (got xs rest) = got (done ++ xs) rest
 onto done bad = bad
 
@@ -95,10 +95,12 @@ module _ (t : List ℕ) (at : ℕ) (old : List ℕ) where
     unfolding readNumbers
     readNumbers-some n = cases (isDigit (getD t at 0)) refl
       where
-        cases : (d : Bool) → isDigit (getD t at 0) ≡ d → ended (readNumbers (drop at t)) ≡ ended (readSome (length (drop at t)) (drop at t))
+        cases : (d : Bool) → isDigit (getD t at 0) ≡ d
+            → ended (readNumbers (drop at t)) ≡ ended (readSome (length (drop at t)) (drop at t))
         cases true d = ap ended (rw (drop-cons t at 0, d))
         cases false d =
-            let none : ended (readNumbers (drop at t)) ≡ bad = rw (drop-cons t at 0, d, ended-other [] (getD t at 0) (drop (suc at) t) n) in
+            let none : ended (readNumbers (drop at t)) ≡ bad =
+            rw (drop-cons t at 0, d, ended-other [] (getD t at 0) (drop (suc at) t) n) in
             none ∙ sym (ap ended (some-bad (length (drop at t)) (drop at t) (number-other t at l d)) ∙ ended-bad)
 
     pub loading-starts : (getD t at 0 ≡ newline → ⊥) → Loading old 0 at
@@ -109,7 +111,8 @@ module _ (t : List ℕ) (at : ℕ) (old : List ℕ) where
           passed = omega arith;
           done = [];
           count = refl;
-          same = readNumbers-some n ∙ ap (λ k. ended (readSome k (drop at t))) f ∙ onto-none (ended (readSome (length t - (at + 0)) (drop at t)));
+          same = readNumbers-some n ∙ ap (λ k. ended (readSome k (drop at t))) f
+              ∙ onto-none (ended (readSome (length t - (at + 0)) (drop at t)));
           front = sym (kept-none old);
           size = refl;
         }

@@ -31,7 +31,8 @@ wrong-way : _≡_ {A = ℕ} 0 1 → ⊥
 wrong-way e = omega arith
 
 module _ (n : ℕ) where
-  placed-found : (f : Front ℕ) (x next : ℕ) → placed n f ≡ Number.Found x next → (rest : List ℕ) × (f ≡ got x rest) × (next ≡ n - length rest)
+  placed-found : (f : Front ℕ) (x next : ℕ) → placed n f ≡ Number.Found x next
+      → (rest : List ℕ) × (f ≡ got x rest) × (next ≡ n - length rest)
   placed-found (got y rest) x next e = (rest, cc, cc)
   placed-found bad x next e = absurd (wrong-way cc)
 

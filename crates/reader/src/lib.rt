@@ -1,12 +1,15 @@
-// Reads numbers and lines of numbers (the scope paper, 'The job text'). A line's numbers are put into a lent list while its form is
-// checked, as far as the list has room; those past it are still counted, so the caller can refuse by their number. Every contract
-// says what the reading of definitions answers.
+// Reads numbers and lines, of numbers, of one number and of an operation (the scope paper, 'The job text'), at any place of a text.
+// A line's numbers are put into a lent list while its form is checked, as far as the list has room; those past it are still counted,
+// so the caller can refuse by their number. Every contract says what the reading of definitions answers.
 ghost use mathlib.Core.Path.{_≡_};
 ghost use Prim.Native.Nat.{_≤_};
 ghost use lib.ListN.{length, drop, set};
-ghost use Rattle.definitions.specs.Reading.{readKey, readDigits, readNumber, readNumbers, ended, readLine};
+ghost use Rattle.definitions.specs.Text.{operationKey};
+ghost use Rattle.definitions.specs.Reading.{readKey, readDigits, readNumber, readNumbers, readName, ended, readLine};
 ghost use Rattle.reader.specs.Places.{placed, opens};
 ghost use Rattle.reader.specs.Storing.{Listed};
+ghost use Rattle.reader.specs.Lines.{Numbered, Chosen};
+use definitions::Operation;
 
 // A number and the place after it, or none.
 pub enum Number {
@@ -17,6 +20,12 @@ pub enum Number {
 // How many numbers end their line, and the place after the line, or none.
 pub enum Numbers {
     Found(usize, usize),
+    Wrong,
+}
+
+// An operation and the place after its line, or none.
+pub enum Choice {
+    Found(Operation, usize),
     Wrong,
 }
 
@@ -90,7 +99,9 @@ fn store(out: &mut [u32], k: usize, x: u32)
 
 // The numbers from a place to the end of the line.
 fn load_numbers(text: &[u8], at: usize, out: &mut [u32]) -> Numbers
-    ensures { λ r. ⌜ Listed (now (text .entry)) (ended (readNumbers (drop at (now (text .entry))))) (now (out .entry)) (now (out .exit)) r ⌝ }
+    ensures { λ r. ⌜ Listed
+        (now (text .entry)) (ended (readNumbers (drop at (now (text .entry)))))
+        (now (out .entry)) (now (out .exit)) r ⌝ }
 {
     if text.len() <= at {
         return Numbers::Wrong;
@@ -128,11 +139,52 @@ fn load_numbers(text: &[u8], at: usize, out: &mut [u32]) -> Numbers
 // The line with a key and a list of numbers, which are put at the front of `out` as far as it has room.
 pub fn numbers_line(text: &[u8], at: usize, key: &[u8], out: &mut [u32]) -> Numbers
     requires { ⌜ at ≤ length (now text) ⌝ }
-    ensures { λ r. ⌜ Listed (now (text .entry)) (readLine (now (key .entry)) readNumbers (drop at (now (text .entry))))
+    ensures { λ r. ⌜ Listed
+        (now (text .entry)) (readLine (now (key .entry)) readNumbers (drop at (now (text .entry))))
         (now (out .entry)) (now (out .exit)) r ⌝ }
 {
     if !has_key(text, at, key) {
         return Numbers::Wrong;
     }
     load_numbers(text, at + key.len(), out)
+}
+
+// The line with a key and one number.
+pub fn number_line(text: &[u8], at: usize, key: &[u8]) -> Number
+    requires { ⌜ at ≤ length (now text) ⌝ }
+    ensures { λ r. ⌜ Numbered (now (text .entry)) (readLine (now (key .entry)) readNumber (drop at (now (text .entry)))) r ⌝ }
+{
+    if !has_key(text, at, key) {
+        return Number::Wrong;
+    }
+    let Number::Found(x, next) = read_number(text, at + key.len()) else {
+        return Number::Wrong;
+    };
+    if !has_key(text, next, b"\n") {
+        return Number::Wrong;
+    }
+    Number::Found(x, next + 1)
+}
+
+// The line of an operation.
+pub fn operation_line(text: &[u8], at: usize) -> Choice
+    requires { ⌜ at ≤ length (now text) ⌝ }
+    ensures { λ r. ⌜ Chosen (now (text .entry)) (readLine operationKey readName (drop at (now (text .entry)))) r ⌝ }
+{
+    if has_key(text, at, b"op=expand\n") {
+        return Choice::Found(Operation::Expand, at + 10);
+    }
+    if has_key(text, at, b"op=adjoint\n") {
+        return Choice::Found(Operation::Adjoint, at + 11);
+    }
+    if has_key(text, at, b"op=decompose\n") {
+        return Choice::Found(Operation::Decompose, at + 13);
+    }
+    if has_key(text, at, b"op=moments\n") {
+        return Choice::Found(Operation::Moments, at + 11);
+    }
+    if has_key(text, at, b"op=norms\n") {
+        return Choice::Found(Operation::Norms, at + 9);
+    }
+    Choice::Wrong
 }

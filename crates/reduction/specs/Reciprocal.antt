@@ -10,7 +10,9 @@
 use mathlib.Core.Path.{_≡_, sym, _∙_, ap, ap₂}
 use Prim.Native.Nat.{ℕ, _+_, _*_, _-_, _/_, _%_, _≤_, _<_}
 use native.Mathlib.Decide.{decLt}
-use native.Mathlib.Nat.{add-mul, mul-add, mul-assoc, mul-comm, mul-right-comm, one-mul, mul-le-mul, mul-le-mul-left, mul-le-mul-right, mul-lt-mul-of-pos-right, lt-of-mul-lt-mul-right, le-of-mul-le-mul-right, div-add-mod', div-mul-le-self, lt-div-mul-add, mod-lt, mod-eq-of-lt, add-mul-mod-self-right}
+use native.Mathlib.Nat.{add-mul, mul-add, mul-assoc, mul-comm, mul-right-comm, one-mul, mul-le-mul, mul-le-mul-left}
+use native.Mathlib.Nat.{mul-le-mul-right, mul-lt-mul-of-pos-right, lt-of-mul-lt-mul-right, le-of-mul-le-mul-right}
+use native.Mathlib.Nat.{div-add-mod', div-mul-le-self, lt-div-mul-add, mod-lt, mod-eq-of-lt, add-mul-mod-self-right}
 use native.Mathlib.Omega.{arith}
 
 abbrev pub word : ℕ
@@ -69,7 +71,8 @@ by-halves w x₁ x₀ y₁ y₀ =
 pub high-half : (x y t u v : ℕ) → t ≡ x % half * (y % half) → u ≡ x / half * (y % half) + t / half → v ≡ x % half * (y / half) + u % half
     → HighHalf x y (x / half * (y / half) + u / half + v / half)
 high-half x y t u v et eu ev =
-    let halves : x * y ≡ (x / half * half + x % half) * (y / half * half + y % half) = sym (ap₂ _*_ (div-add-mod' x half) (div-add-mod' y half)) in
+    let halves : x * y ≡ (x / half * half + x % half) * (y / half * half + y % half) =
+    sym (ap₂ _*_ (div-add-mod' x half) (div-add-mod' y half)) in
     let whole = halves ∙ by-halves half (x / half) (x % half) (y / half) (y % half) in
     record { most = omega (arith, whole); next = omega (arith, whole) }
 
@@ -93,7 +96,8 @@ module _ (w m v x q : ℕ) where
       let left : q * w * m ≡ q * m * w = mul-right-comm q w m in
       let right : x * v * m ≡ x * (v * m) = mul-assoc x v m in
       let turned : w * m ≡ m * w = mul-comm w m in
-      let whole : (q * m + (m + m)) * w ≡ q * m * w + (m * w + m * w) = add-mul (q * m) (m + m) w ∙ ap (λ z. q * m * w + z) (add-mul m m w) in
+      let whole : (q * m + (m + m)) * w ≡ q * m * w + (m * w + m * w) =
+      add-mul (q * m) (m + m) w ∙ ap (λ z. q * m * w + z) (add-mul m m w) in
       lt-of-mul-lt-mul-right w {m = x} {n = q * m + (m + m)} (omega arith)
 
 pub record QuotientBounds (m x q : ℕ) : Type 0 where

@@ -6,10 +6,11 @@
 --   spareOf m v                  what 2^64 leaves beside the multiple v m
 -- Proved: a sum and its count go on together (`wraps-next`), and both settle the remainder of the whole (`settled`).
 -- Assumes nothing.
-use mathlib.Core.Path.{_≡_, sym, _∙_, ap, ap₂}
+use mathlib.Core.Path.{_≡_, sym, _∙_, ap}
 use Prim.Native.Nat.{ℕ, _+_, _*_, _-_, _/_, _%_, _≤_, _<_}
 use native.Mathlib.Decide.{decLt}
-use native.Mathlib.Nat.{add-assoc, add-mul, mul-add, mul-assoc, mul-right-comm, mul-le-mul, zero-add, zero-mul, div-add-mod', mod-lt, mod-mod, add-mul-mod-self-right}
+use native.Mathlib.Nat.{add-assoc, add-mul, mul-add, mul-assoc, mul-right-comm, mul-le-mul}
+use native.Mathlib.Nat.{zero-add, zero-mul, div-add-mod', mod-lt, mod-mod, add-mul-mod-self-right}
 use native.Mathlib.Omega.{arith}
 use Rattle.definitions.specs.Family.{greatestModulus}
 use Rattle.reduction.specs.Reciprocal.{word, half, Reciprocal}

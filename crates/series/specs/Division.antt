@@ -12,7 +12,7 @@ use mathlib.Core.List.{List, _++_}
 use mathlib.Core.Logic.{by-cases}
 use Prim.Native.Nat.{ℕ, zero, suc, _+_, _*_, _-_, _%_, _≤_, _<_}
 use native.Mathlib.Decide.{decLt}
-use native.Mathlib.Nat.{mul-zero, zero-add, mod-lt, le-of-suc-le-suc}
+use native.Mathlib.Nat.{mul-zero, le-of-suc-le-suc}
 use native.Mathlib.Omega.{arith}
 use lib.ListN.{length, getD, take, drop, set}
 use Rattle.definitions.specs.Family.{Modulus}
@@ -21,10 +21,10 @@ use Rattle.definitions.specs.Orthogonality.{reversal, nextQuotient, quotient}
 use Rattle.numbers.specs.Inverse.{inverse-unique}
 use Rattle.numbers.specs.Lists.{Filling, filled, table-entries, filling-start, filling-next, filling-stop, filling-below}
 use Rattle.numbers.specs.Products.{Below, transposedAt}
-use Rattle.theory.specs.Quotient.{quotient-length, quotient-entry, quotient-next, quotient-below}
 use Rattle.numbers.specs.Regions.{part, part-length, part-entry, part-slice, part-below}
 use Rattle.numbers.specs.Residue.{negative-mod}
 use Rattle.numbers.specs.Sums.{sum-equal, sum-between}
+use Rattle.theory.specs.Quotient.{quotient-length, quotient-entry, quotient-next, quotient-below}
 use Rattle.reduction.specs.Reciprocal.{Reciprocal}
 use Rattle.convolution.specs.Coefficients.{TransposedInput}
 
@@ -109,7 +109,8 @@ module _ (m reciprocal : ℕ) (g d : List ℕ) (n y : ℕ) (q : List ℕ) (k : �
   term-standing : (j : ℕ) → j < k - (k - n) → term (k - n + j) ≡ getD (part q (k - n) (k - (k - n))) j 0 * getD d (n - k + j) 0
   term-standing j h =
       let e : suc n - 1 - (k - (k - n + j)) ≡ n - k + j = omega arith in
-      ap₂ _*_ (sym (part-entry q (k - n) (k - (k - n)) j h)) (sym (reversed-inside (suc n) d (k - (k - n + j)) (omega arith)) ∙ ap (λ i. getD d i 0) e)
+      ap₂ _*_ (sym (part-entry q (k - n) (k - (k - n)) j h))
+      (sym (reversed-inside (suc n) d (k - (k - n + j)) (omega arith)) ∙ ap (λ i. getD d i 0) e)
 
   sum-transposed : sum k term ≡ transposedAt standing d (n - k)
   unfolding transposedAt
@@ -119,31 +120,33 @@ module _ (m reciprocal : ℕ) (g d : List ℕ) (n y : ℕ) (q : List ℕ) (k : �
       ∙ ap (λ c. sum c (λ j. getD (part q (k - n) (k - (k - n))) j 0 * getD d (n - k + j) 0)) (sym (part-length q (k - n) (k - (k - n))))
       ∙ ap (λ p. sum (length p) (λ j. getD p j 0 * getD d (n - k + j) 0)) (sym standing-part)
 
-  pub coefficient-fits : (x top opposite : ℕ) → top ≡ getD (reversed n g) k 0 → opposite ≡ negative m x → top + opposite < 4294967296
+  pub coefficient-fits : (x top less : ℕ) → top ≡ getD (reversed n g) k 0 → less ≡ negative m x → top + less < 4294967296
   unfolding reversed negative
-  coefficient-fits x top opposite e r =
+  coefficient-fits x top less e r =
       let high : m ≤ 2147483647 = input .divides .modulus .greatest in
       let low : getD (reversed n g) k 0 < m = by-cases (decLt k n)
       (λ h. rw (← reversed-inside n g k h) (input .divides .gBelow (n - 1 - k)))
       (λ h. rw (← reversed-past n g k (omega arith)) positive) in
       omega arith
 
-  pub coefficient-is : (first at s top opposite r : ℕ) → first ≡ k - n → at ≡ n - k → s ≡ transposedAt (take (k - first) (drop first q)) d
-      at % m
-      → top ≡ getD (reversed n g) k 0 → opposite ≡ negative m s → r ≡ (top + opposite) * y % m
+  pub coefficient-is : (first at s top less r : ℕ) → first ≡ k - n → at ≡ n - k
+      → s ≡ transposedAt (take (k - first) (drop first q)) d at % m
+      → top ≡ getD (reversed n g) k 0 → less ≡ negative m s → r ≡ (top + less) * y % m
       → r ≡ nextQuotient m (reversed n g) (reversed (suc n) d) k q
   unfolding nextQuotient
-  coefficient-is first at s top opposite r i j sum-is e o h =
+  coefficient-is first at s top less r i j sum-is e o h =
       let moved : transposedAt (take (k - first) (drop first q)) d at ≡ transposedAt standing d (n - k) = rw (i, j) in
-      let same : negative m s ≡ negative m (sum k term) = ap (negative m) (sum-is ∙ ap (λ x. x % m) (moved ∙ sym sum-transposed)) ∙ negative-mod m (sum k term) in
-      let by : y ≡ inverse m (getD (reversed (suc n) d) 0 0) = inverse-unique m (getD d n 0) y (input .divides .modulus .least) (input .divides .inverseBelow) (input .divides .inverts)
+      let same : negative m s ≡ negative m (sum k term) =
+      ap (negative m) (sum-is ∙ ap (λ x. x % m) (moved ∙ sym sum-transposed)) ∙ negative-mod m (sum k term) in
+      let by : y ≡ inverse m (getD (reversed (suc n) d) 0 0) =
+      inverse-unique m (getD d n 0) y (input .divides .modulus .least) (input .divides .inverseBelow) (input .divides .inverts)
       ∙ ap (inverse m) (reversed-first n d) in
       h ∙ rw (e, o, same) (ap (λ z. (getD (reversed n g) k 0 + negative m (sum k term)) * z % m) by)
 
 -- ---- all of them
 -- coefficient k depends on the k before it only
-nextQuotient-equal : (m : ℕ) (g d : List ℕ) (k : ℕ) (p q : List ℕ) → ((j : ℕ) → j < k → getD p j 0 ≡ getD q j 0) → nextQuotient m g d k p ≡
-    nextQuotient m g d k q
+nextQuotient-equal : (m : ℕ) (g d : List ℕ) (k : ℕ) (p q : List ℕ) → ((j : ℕ) → j < k → getD p j 0 ≡ getD q j 0)
+    → nextQuotient m g d k p ≡ nextQuotient m g d k q
 unfolding nextQuotient
 nextQuotient-equal m g d k p q same = ap (λ s. (getD g k 0 + negative m s) * inverse m (getD d 0 0) % m)
     (sum-equal k _ _ (λ j h. ap (λ x. x * getD d (k - j) 0) (same j h)))
@@ -167,11 +170,12 @@ module _ (m : ℕ) (g d : List ℕ) (n y count : ℕ) (output₀ : List ℕ) (in
       reciprocalIs = held;
       divides = input .divides;
       long = omega (arith, input .room, h .written .sameLength);
-      below = λ i p. rw (filling-below (h .written) i 0 p) (quotient-below m _ _ (omega (arith, input .divides .modulus .least)) count i (omega arith));
+      below = λ i p. rw (filling-below (h .written) i 0 p)
+          (quotient-below m _ _ (omega (arith, input .divides .modulus .least)) count i (omega arith));
     }
 
-    pub dividing-next : k < count → (r : ℕ) → r ≡ nextQuotient m (reversed n g) (reversed (suc n) d) k output → Dividing m g d n count
-        output₀ (set output k r) (k + 1)
+    pub dividing-next : k < count → (r : ℕ) → r ≡ nextQuotient m (reversed n g) (reversed (suc n) d) k output
+        → Dividing m g d n count output₀ (set output k r) (k + 1)
     unfolding quotientEntry
     dividing-next l r e = record {
       reached = omega arith;
@@ -186,4 +190,6 @@ module _ (m : ℕ) (g d : List ℕ) (n y count : ℕ) (output₀ : List ℕ) (in
     dividing-ends l =
         let q = quotient m (reversed n g) (reversed (suc n) d) count in
         filling-stop (h .written) count (omega (arith, h .reached))
-        ∙ ap (λ t. t ++ drop count output₀) (ap (λ c. table c (λ i. getD q i 0)) (sym (quotient-length m (reversed n g) (reversed (suc n) d) count)) ∙ table-entries q 0)
+        ∙ ap (λ t. t ++ drop count output₀)
+        (ap (λ c. table c (λ i. getD q i 0)) (sym (quotient-length m (reversed n g) (reversed (suc n) d) count))
+        ∙ table-entries q 0)

@@ -1,2 +1,4 @@
--- What the contracts of this crate cite, and the laws of its loop. Assumes nothing.
+-- What the contracts of this crate cite, and the laws of its loop.
+--   Division   the quotient of two reversed polynomials
+-- Assumes nothing.
 pub mod Division

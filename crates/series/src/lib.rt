@@ -32,7 +32,8 @@ fn coefficient(
     k: usize,
 ) -> u32
     requires { ⌜ CoefficientInput m reciprocal (now numerator) (now divisor) n inverse (now q) k ⌝ }
-    ensures { λ r. ⌜ r ≡ nextQuotient m (reversed n (now (numerator .entry))) (reversed (suc n) (now (divisor .entry))) k (now (q .entry)) ⌝ }
+    ensures { λ r. ⌜ r ≡ nextQuotient m (reversed n (now (numerator .entry))) (reversed (suc n) (now (divisor .entry)))
+        k (now (q .entry)) ⌝ }
 {
     let first = excess(k, n);
     let at = excess(n, k);
@@ -53,7 +54,8 @@ pub fn quotient(
     output: &mut [u32],
 )
     requires { ⌜ QuotientInput m (now numerator) (now divisor) n inverse count (now output) ⌝ }
-    ensures { λ _. ⌜ now (output .exit) ≡ quotient m (reversed n (now (numerator .entry))) (reversed (suc n) (now (divisor .entry))) count ++ drop count (now (output .entry)) ⌝ }
+    ensures { λ _. ⌜ now (output .exit) ≡ quotient m (reversed n (now (numerator .entry))) (reversed (suc n) (now (divisor .entry))) count
+        ++ drop count (now (output .entry)) ⌝ }
 {
     let reciprocal = reduction::reciprocal(m);
     let mut k: usize = 0;

@@ -7,7 +7,8 @@ use mathlib.Core.List.{List, [], _∷_, _++_}
 use Prim.Native.Nat.{ℕ, suc, _+_, _*_, _<_, _≤_}
 use native.Mathlib.Omega.{arith}
 use lib.ListN.{length, getD, length-append}
-use Rattle.definitions.specs.Text.{greatestNumber, newline, decimal, spaced, numbers, line, operationKey, resultKey, name, answerText, AllWritable}
+use Rattle.definitions.specs.Text.{greatestNumber, newline, decimal, spaced, numbers, line, operationKey, resultKey, name, answerText}
+use Rattle.definitions.specs.Text.{AllWritable}
 use Rattle.definitions.specs.TextCall.{textOutputLength}
 use Rattle.definitions.specs.declared.Operation.{Operation}
 use Rattle.texts.specs.Decimal.{length-decimal}
@@ -21,7 +22,7 @@ unfolding spaced
 length-spaced [] h = omega arith
 length-spaced (x ∷ xs) h = omega (arith, length-append (decimal x) (spaced xs), length-decimal x (h .0), length-spaced xs (h .1))
 
-pub length-numbers : (xs : List ℕ) → AllWritable xs → length (numbers xs) ≤ 11 * length xs
+length-numbers : (xs : List ℕ) → AllWritable xs → length (numbers xs) ≤ 11 * length xs
 unfolding numbers
 length-numbers [] h = omega arith
 length-numbers (x ∷ xs) h = omega (arith, length-append (decimal x) (spaced xs), length-decimal x (h .0), length-spaced xs (h .1))
@@ -40,7 +41,7 @@ length-name Operation.Moments = omega arith
 length-name Operation.Norms = omega arith
 
 module _ (operation : Operation) (xs : List ℕ) where
-  pub length-answerText : length (answerText operation xs) ≡ length (name operation) + length (numbers xs) + 9
+  length-answerText : length (answerText operation xs) ≡ length (name operation) + length (numbers xs) + 9
   unfolding answerText
   length-answerText =
       let rest = line resultKey (numbers xs) [] in

@@ -27,7 +27,8 @@ within-equal zero j x h l = small-within zero x (omega arith) ∙ sym (small-wit
 within-equal (suc k) zero x h l = small-within (suc k) x (omega arith) ∙ sym (small-within zero x (omega arith))
 within-equal (suc k) (suc j) x h l = split (ltb x 10) refl (λ g. within-equal k j (x / 10) (omega arith) (omega arith))
   where
-    split : (b : Bool) → ltb x 10 ≡ b → (10 ≤ x → decimalWithin k (x / 10) ≡ decimalWithin j (x / 10)) → decimalWithin (suc k) x ≡ decimalWithin (suc j) x
+    split : (b : Bool) → ltb x 10 ≡ b → (10 ≤ x → decimalWithin k (x / 10) ≡ decimalWithin j (x / 10))
+        → decimalWithin (suc k) x ≡ decimalWithin (suc j) x
     split true e tens = small-within (suc k) x (ltb-true x 10 e) ∙ sym (small-within (suc j) x (ltb-true x 10 e))
     split false e tens =
         let g = ltb-false x 10 e in
@@ -44,7 +45,8 @@ decimal-large x h = split x refl
     split : (k : ℕ) → x ≡ k → decimalWithin x x ≡ decimalWithin (x / 10) (x / 10) ++ (nought + x % 10) ∷ []
     split zero e = absurd (omega arith)
     split (suc k) e =
-        ap (λ i. decimalWithin i x) e ∙ large-within k x h ∙ ap (λ ds. ds ++ (nought + x % 10) ∷ []) (within-equal k (x / 10) (x / 10) (omega arith) (omega arith))
+        ap (λ i. decimalWithin i x) e ∙ large-within k x h
+        ∙ ap (λ ds. ds ++ (nought + x % 10) ∷ []) (within-equal k (x / 10) (x / 10) (omega arith) (omega arith))
 
 pub decimal-more : (x d : ℕ) → 0 < x → d < 10 → decimal (x * 10 + d) ≡ decimal x ++ (nought + d) ∷ []
 decimal-more x d p h =
@@ -52,7 +54,7 @@ decimal-more x d p h =
     let last : (x * 10 + d) % 10 ≡ d = omega arith in
     decimal-large (x * 10 + d) (omega arith) ∙ rw (tens, last)
 
-pub length-decimal-small : (x : ℕ) → x < 10 → length (decimal x) ≡ 1
+length-decimal-small : (x : ℕ) → x < 10 → length (decimal x) ≡ 1
 length-decimal-small x h = ap length (decimal-small x h)
 
 pub length-decimal-large : (x : ℕ) → 10 ≤ x → length (decimal x) ≡ length (decimal (x / 10)) + 1

@@ -22,7 +22,7 @@ pub digit-true : (b : ℕ) → 48 ≤ b → b ≤ 57 → isDigit b ≡ true
 unfolding isDigit
 digit-true b l h = rw (le-leb 48 b, le-leb b 57)
 
-pub digit-range : (b : ℕ) → isDigit b ≡ true → (48 ≤ b) × (b ≤ 57)
+digit-range : (b : ℕ) → isDigit b ≡ true → (48 ≤ b) × (b ≤ 57)
 unfolding isDigit
 digit-range b e = split (leb 48 b) (leb b 57) refl refl e
   where
@@ -67,15 +67,18 @@ read-nought t = refl
 -- k bounds how often x is divided by ten
 read-within : (k x : ℕ) (t : List ℕ) → x ≤ k → 0 < x → x ≤ greatestNumber → readNumber (decimal x ++ t) ≡ readDigits x t
 read-within zero x t h p l = absurd (omega arith)
-read-within (suc k) x t h p l = split (ltb x 10) refl (λ g. read-within k (x / 10) ((nought + x % 10) ∷ t) (omega arith) (omega arith) (omega arith))
+read-within (suc k) x t h p l =
+    split (ltb x 10) refl (λ g. read-within k (x / 10) ((nought + x % 10) ∷ t) (omega arith) (omega arith) (omega arith))
   where
-    split : (b : Bool) → ltb x 10 ≡ b → (10 ≤ x → readNumber (decimal (x / 10) ++ (nought + x % 10) ∷ t) ≡ readDigits (x / 10) ((nought + x % 10) ∷ t))
+    split : (b : Bool) → ltb x 10 ≡ b
+        → (10 ≤ x → readNumber (decimal (x / 10) ++ (nought + x % 10) ∷ t) ≡ readDigits (x / 10) ((nought + x % 10) ∷ t))
         → readNumber (decimal x ++ t) ≡ readDigits x t
     split true e tens = rw (decimal-small x (ltb-true x 10 e)) (number-begins x t p (ltb-true x 10 e))
     split false e tens =
         let g = ltb-false x 10 e in
         let v : x / 10 * 10 + x % 10 ≡ x = omega arith in
-        ap (λ ds. readNumber (ds ++ t)) (decimal-large x g) ∙ ap readNumber (append-assoc (decimal (x / 10)) ((nought + x % 10) ∷ []) t) ∙ tens g
+        ap (λ ds. readNumber (ds ++ t)) (decimal-large x g)
+        ∙ ap readNumber (append-assoc (decimal (x / 10)) ((nought + x % 10) ∷ []) t) ∙ tens g
         ∙ digits-more (x / 10) t (x % 10) (omega arith) (omega arith) ∙ ap (λ y. readDigits y t) v
 
 pub read-decimal : (x b : ℕ) (t : List ℕ) → x ≤ greatestNumber → isDigit b ≡ false → readNumber (decimal x ++ b ∷ t) ≡ got x (b ∷ t)
@@ -87,14 +90,16 @@ pub record DecimalFront (t : List ℕ) (x : ℕ) (rest : List ℕ) : Type 0 wher
   pub text : t ≡ decimal x ++ rest
   pub writable : x ≤ greatestNumber
 
-digits-read : (t : List ℕ) (x y : ℕ) (rest : List ℕ) → 0 < x → x ≤ greatestNumber → readDigits x t ≡ got y rest → DecimalFront (decimal x ++ t) y rest
+digits-read : (t : List ℕ) (x y : ℕ) (rest : List ℕ) → 0 < x → x ≤ greatestNumber → readDigits x t ≡ got y rest
+    → DecimalFront (decimal x ++ t) y rest
 unfolding readDigits
 digits-read [] x y rest p h e = let q : x ≡ y = cc in record { text = cc; writable = omega arith }
 digits-read (b ∷ t) x y rest p h e =
     split (isDigit b) (leb (x * 10 + (b - 48)) greatestNumber) refl refl (λ q g f. digits-read t (x * 10 + (b - 48)) y rest q g f) e
   where
     split : (d l : Bool) → isDigit b ≡ d → leb (x * 10 + (b - 48)) greatestNumber ≡ l
-        → (0 < x * 10 + (b - 48) → x * 10 + (b - 48) ≤ greatestNumber → readDigits (x * 10 + (b - 48)) t ≡ got y rest → DecimalFront (decimal (x * 10 + (b - 48)) ++ t) y rest)
+        → (0 < x * 10 + (b - 48) → x * 10 + (b - 48) ≤ greatestNumber → readDigits (x * 10 + (b - 48)) t ≡ got y rest
+        → DecimalFront (decimal (x * 10 + (b - 48)) ++ t) y rest)
         → pick d (pick l (readDigits (x * 10 + (b - 48)) t) bad) (got x (b ∷ t)) ≡ got y rest → DecimalFront (decimal x ++ b ∷ t) y rest
     split true true d l next e =
         let g = digit-range b d in
@@ -114,7 +119,8 @@ unfolding readNumber
 decimal-read [] x rest e = absurd (got-not-bad e)
 decimal-read (b ∷ t) x rest e = split (isDigit b) (eqb b 48) refl refl e
   where
-    split : (d z : Bool) → isDigit b ≡ d → eqb b 48 ≡ z → pick d (pick z (got 0 t) (readDigits (b - 48) t)) bad ≡ got x rest → DecimalFront (b ∷ t) x rest
+    split : (d z : Bool) → isDigit b ≡ d → eqb b 48 ≡ z → pick d (pick z (got 0 t) (readDigits (b - 48) t)) bad ≡ got x rest
+        → DecimalFront (b ∷ t) x rest
     split true true d z e =
         let q : 0 ≡ x = cc in
         let k : b ≡ 48 = eqb-true b 48 z in
@@ -124,5 +130,8 @@ decimal-read (b ∷ t) x rest e = split (isDigit b) (eqb b 48) refl refl e
         let n = eqb-false b 48 z in
         let q : 48 + (b - 48) ≡ b = omega arith in
         let i = digits-read t (b - 48) x rest (omega arith) (omega arith) e in
-        record { text = ap (λ c. c ∷ t) (sym q) ∙ ap (λ ds. ds ++ t) (sym (decimal-small (b - 48) (omega arith))) ∙ i .text; writable = i .writable }
+        record {
+          text = ap (λ c. c ∷ t) (sym q) ∙ ap (λ ds. ds ++ t) (sym (decimal-small (b - 48) (omega arith))) ∙ i .text;
+          writable = i .writable;
+        }
     split false z d g e = absurd (got-not-bad e)

@@ -1,14 +1,16 @@
 -- Keys, keyed lines and the names of the operations, written and read.
+--   NumberLine t key x rest     t begins with a line of that key and the 32-bit number x
 --   NumbersLine t key xs rest   t begins with a line of that key and the 32-bit numbers xs
--- Proved of each layer: what is written is read back (read-), and what is read stood there so written (-read).
+-- Proved of each layer: what is written is read back (read-), and what is read stood there so written (-read); what follows a line
+-- is put after it (line-then).
 -- Assumes nothing.
 use mathlib.Core.Path.{_≡_, refl, _∙_, ap}
 use mathlib.Core.Bool.{Bool, true, false}
-use mathlib.Core.List.{List, [], _∷_, _++_}
+use mathlib.Core.List.{List, [], _∷_, _++_, append-assoc}
 use Prim.Native.Nat.{ℕ, _≤_}
 use lib.Dec.{eqb}
 use borrow.Author.Tests.{eq-eqb, eqb-true}
-use Rattle.definitions.specs.Text.{greatestNumber, newline, decimal, numbers, line, modulusKey, operationKey, name, AllWritable}
+use Rattle.definitions.specs.Text.{greatestNumber, newline, decimal, numbers, line, operationKey, name, AllWritable}
 use Rattle.definitions.specs.Reading.{Front, got, bad, pick, then, readKey, readNumber, readNumbers, orElse, readName, ended, readLine}
 use Rattle.definitions.specs.declared.Operation.{Operation}
 use Rattle.texts.specs.DecimalReading.{got-not-bad, read-decimal, decimal-read}
@@ -25,7 +27,8 @@ key-read [] t u rest e = cc
 key-read (k ∷ key) [] u rest e = absurd (got-not-bad e)
 key-read (k ∷ key) (b ∷ t) u rest e = split (eqb b k) refl (key-read key t u rest) e
   where
-    split : (s : Bool) → eqb b k ≡ s → (readKey key t ≡ got u rest → t ≡ key ++ rest) → pick s (readKey key t) bad ≡ got u rest → b ∷ t ≡ k ∷ (key ++ rest)
+    split : (s : Bool) → eqb b k ≡ s → (readKey key t ≡ got u rest → t ≡ key ++ rest)
+        → pick s (readKey key t) bad ≡ got u rest → b ∷ t ≡ k ∷ (key ++ rest)
     split true s next e =
         let same : b ≡ k = eqb-true b k s in
         let text = next e in
@@ -33,7 +36,12 @@ key-read (k ∷ key) (b ∷ t) u rest e = split (eqb b k) refl (key-read key t u
     split false s next e = absurd (got-not-bad e)
 
 -- ---- a line, whatever its content
-pub ended-got : {A : Type 0} (r : Front A) (x : A) (rest : List ℕ) → ended r ≡ got x rest → r ≡ got x (newline ∷ rest)
+pub line-then : (key content rest : List ℕ) → line key content [] ++ rest ≡ line key content rest
+unfolding line
+line-then key content rest =
+    append-assoc key (content ++ newline ∷ []) rest ∙ ap (λ q. key ++ q) (append-assoc content (newline ∷ []) rest)
+
+ended-got : {A : Type 0} (r : Front A) (x : A) (rest : List ℕ) → ended r ≡ got x rest → r ≡ got x (newline ∷ rest)
 unfolding ended
 ended-got r x rest e =
     let g = then-got r (λ y t. then (readKey (newline ∷ []) t) (λ u q. got y q)) x rest e in
@@ -45,32 +53,38 @@ ended-got r x rest e =
     same e = cc
 
 module _ {A : Type 0} (key : List ℕ) (content : List ℕ → Front A) (x : A) where
-  pub read-line : (written rest : List ℕ) → content (written ++ newline ∷ rest) ≡ got x (newline ∷ rest) → readLine key content (line key written rest) ≡ got x rest
+  read-line : (written rest : List ℕ) → content (written ++ newline ∷ rest) ≡ got x (newline ∷ rest)
+      → readLine key content (line key written rest) ≡ got x rest
   unfolding readLine ended line
   read-line written rest e = rw (read-key key (written ++ newline ∷ rest), e, read-key (newline ∷ []) rest)
 
-  pub line-parts : (t rest : List ℕ) → readLine key content t ≡ got x rest → (q : List ℕ) × (t ≡ key ++ q) × (content q ≡ got x (newline ∷ rest))
+  line-parts : (t rest : List ℕ) → readLine key content t ≡ got x rest
+      → (q : List ℕ) × (t ≡ key ++ q) × (content q ≡ got x (newline ∷ rest))
   unfolding readLine
   line-parts t rest e =
       let g = then-got (readKey key t) (λ u q. ended (content q)) x rest e in
       (g .1, key-read key t (g .0) (g .1) (g .2), ended-got (content (g .1)) x rest (g .3))
 
 -- ---- the three kinds of line
-pub read-modulus-line : (m : ℕ) (rest : List ℕ) → m ≤ greatestNumber → readLine modulusKey readNumber (line modulusKey (decimal m) rest) ≡ got m rest
-read-modulus-line m rest h = read-line modulusKey readNumber m (decimal m) rest (read-decimal m newline rest h newline-no-digit)
-
-pub modulus-line-read : (t : List ℕ) (m : ℕ) (rest : List ℕ) → readLine modulusKey readNumber t ≡ got m rest → (t ≡ line modulusKey (decimal m) rest) × (m ≤ greatestNumber)
-unfolding line
-modulus-line-read t m rest e =
-    let g = line-parts modulusKey readNumber m t rest e in
-    let front = decimal-read (g .0) m (newline ∷ rest) (g .2) in
-    (g .1 ∙ ap (λ q. modulusKey ++ q) (front .text), front .writable)
+pub record NumberLine (t key : List ℕ) (x : ℕ) (rest : List ℕ) : Type 0 where
+  pub text : t ≡ line key (decimal x) rest
+  pub writable : x ≤ greatestNumber
 
 pub record NumbersLine (t key xs rest : List ℕ) : Type 0 where
   pub text : t ≡ line key (numbers xs) rest
   pub writable : AllWritable xs
 
 module _ (key : List ℕ) where
+  pub read-number-line : (x : ℕ) (rest : List ℕ) → x ≤ greatestNumber → readLine key readNumber (line key (decimal x) rest) ≡ got x rest
+  read-number-line x rest h = read-line key readNumber x (decimal x) rest (read-decimal x newline rest h newline-no-digit)
+
+  pub number-line-read : (t : List ℕ) (x : ℕ) (rest : List ℕ) → readLine key readNumber t ≡ got x rest → NumberLine t key x rest
+  unfolding line
+  number-line-read t x rest e =
+      let g = line-parts key readNumber x t rest e in
+      let front = decimal-read (g .0) x (newline ∷ rest) (g .2) in
+      record { text = g .1 ∙ ap (λ q. key ++ q) (front .text); writable = front .writable }
+
   pub read-numbers-line : (xs rest : List ℕ) → AllWritable xs → readLine key readNumbers (line key (numbers xs) rest) ≡ got xs rest
   read-numbers-line xs rest h = read-line key readNumbers xs (numbers xs) rest (read-numbers xs rest h)
 
@@ -90,7 +104,8 @@ read-name Operation.Moments t = refl
 read-name Operation.Norms t = refl
 
 module _ (t : List ℕ) (operation : Operation) (rest : List ℕ) where
-  name-or : (o : Operation) (r : Front (Unit {0})) (other : Front Operation) → readKey (name o) t ≡ r → (other ≡ got operation rest → t ≡ name operation ++ rest)
+  name-or : (o : Operation) (r : Front (Unit {0})) (other : Front Operation) → readKey (name o) t ≡ r
+      → (other ≡ got operation rest → t ≡ name operation ++ rest)
       → orElse o r other ≡ got operation rest → t ≡ name operation ++ rest
   name-or o (got u q) other h next e =
       let a : o ≡ operation = cc in
@@ -108,10 +123,12 @@ module _ (t : List ℕ) (operation : Operation) (rest : List ℕ) where
       (name-or Operation.Norms _ _ refl (λ e. absurd (got-not-bad e))))))
       e
 
-pub read-operation-line : (operation : Operation) (rest : List ℕ) → readLine operationKey readName (line operationKey (name operation) rest) ≡ got operation rest
+pub read-operation-line : (operation : Operation) (rest : List ℕ)
+    → readLine operationKey readName (line operationKey (name operation) rest) ≡ got operation rest
 read-operation-line operation rest = read-line operationKey readName operation (name operation) rest (read-name operation (newline ∷ rest))
 
-pub operation-line-read : (t : List ℕ) (operation : Operation) (rest : List ℕ) → readLine operationKey readName t ≡ got operation rest → t ≡ line operationKey (name operation) rest
+pub operation-line-read : (t : List ℕ) (operation : Operation) (rest : List ℕ) → readLine operationKey readName t ≡ got operation rest
+    → t ≡ line operationKey (name operation) rest
 unfolding line
 operation-line-read t operation rest e =
     let g = line-parts operationKey readName operation t rest e in

@@ -29,7 +29,7 @@ unfolding readSome
 readSome-step k x t rest e = rw e
 
 module _ (next : List ℕ → Front (List ℕ)) (x : ℕ) (t : List ℕ) where
-  pub readOn-space : readOn next x (space ∷ t) ≡ put x (next t)
+  readOn-space : readOn next x (space ∷ t) ≡ put x (next t)
   unfolding readOn
   readOn-space = refl
 
@@ -43,12 +43,14 @@ unfolding readNumbers readNumber
 readNumbers-some x [] rest e = absurd (got-not-bad e)
 readNumbers-some x (b ∷ t) rest e = split (isDigit b) refl e
   where
-    split : (d : Bool) → isDigit b ≡ d → pick d (pick (eqb b nought) (got 0 t) (readDigits (b - nought) t)) bad ≡ got x rest → readNumbers (b ∷ t) ≡ readSome (length (b ∷ t)) (b ∷ t)
+    split : (d : Bool) → isDigit b ≡ d → pick d (pick (eqb b nought) (got 0 t) (readDigits (b - nought) t)) bad ≡ got x rest
+        → readNumbers (b ∷ t) ≡ readSome (length (b ∷ t)) (b ∷ t)
     split true d e = rw d
     split false d e = absurd (got-not-bad e)
 
 -- ---- numbers are read back
-pub read-first : (x : ℕ) (xs t : List ℕ) → x ≤ greatestNumber → readNumber (decimal x ++ (spaced xs ++ newline ∷ t)) ≡ got x (spaced xs ++ newline ∷ t)
+read-first : (x : ℕ) (xs t : List ℕ) → x ≤ greatestNumber
+    → readNumber (decimal x ++ (spaced xs ++ newline ∷ t)) ≡ got x (spaced xs ++ newline ∷ t)
 unfolding spaced
 read-first x [] t h = read-decimal x newline t h newline-no-digit
 read-first x (y ∷ ys) t h = read-decimal x space ((decimal y ++ spaced ys) ++ newline ∷ t) h space-no-digit
@@ -60,7 +62,8 @@ readSome-spaced zero x xs t l h = absurd (omega arith)
 readSome-spaced (suc k) x xs t l h = readSome-step k x _ _ (read-first x xs t (h .0)) ∙ on xs l (h .1) (readSome-spaced k)
   where
     on : (xs : List ℕ) → length xs < suc k → AllWritable xs
-        → ((y : ℕ) (ys t : List ℕ) → length ys < k → AllWritable (y ∷ ys) → readSome k (decimal y ++ (spaced ys ++ newline ∷ t)) ≡ got (y ∷ ys) (newline ∷ t))
+        → ((y : ℕ) (ys t : List ℕ) → length ys < k → AllWritable (y ∷ ys)
+        → readSome k (decimal y ++ (spaced ys ++ newline ∷ t)) ≡ got (y ∷ ys) (newline ∷ t))
         → readOn (readSome k) x (spaced xs ++ newline ∷ t) ≡ got (x ∷ xs) (newline ∷ t)
     on [] l h next = readOn-newline (readSome k) x t
     on (y ∷ ys) l h next =
@@ -79,7 +82,8 @@ read-numbers (x ∷ xs) t h =
     let s = decimal x ++ (spaced xs ++ newline ∷ t) in
     let l : length xs < length s =
     omega (arith, length-append (decimal x) (spaced xs ++ newline ∷ t), length-append (spaced xs) (newline ∷ t), length-spaced xs) in
-    ap readNumbers (append-assoc (decimal x) (spaced xs) (newline ∷ t)) ∙ readNumbers-some x s _ (read-first x xs t (h .0)) ∙ readSome-spaced (length s) x xs t l h
+    ap readNumbers (append-assoc (decimal x) (spaced xs) (newline ∷ t)) ∙ readNumbers-some x s _ (read-first x xs t (h .0))
+    ∙ readSome-spaced (length s) x xs t l h
 
 -- ---- what is read stood there
 pub record NumbersFront (t xs rest : List ℕ) : Type 0 where
@@ -91,11 +95,12 @@ pub then-got : {A B : Type 0} (r : Front A) (next : A → List ℕ → Front B) 
 then-got (got x q) next y rest e = (x, q, refl, e)
 then-got bad next y rest e = absurd (got-not-bad e)
 
-pub put-got : (x : ℕ) (r : Front (List ℕ)) (xs rest : List ℕ) → put x r ≡ got xs rest → (ys : List ℕ) × (r ≡ got ys rest) × (x ∷ ys ≡ xs)
+put-got : (x : ℕ) (r : Front (List ℕ)) (xs rest : List ℕ) → put x r ≡ got xs rest
+    → (ys : List ℕ) × (r ≡ got ys rest) × (x ∷ ys ≡ xs)
 put-got x (got ys q) xs rest e = let a : q ≡ rest = cc in (ys, cc, cc)
 put-got x bad xs rest e = absurd (got-not-bad e)
 
-pub spaced-numbers : (xs : List ℕ) → 0 < length xs → spaced xs ≡ space ∷ numbers xs
+spaced-numbers : (xs : List ℕ) → 0 < length xs → spaced xs ≡ space ∷ numbers xs
 unfolding spaced numbers
 spaced-numbers [] h = absurd (omega arith)
 spaced-numbers (x ∷ xs) h = refl
@@ -120,14 +125,16 @@ some-read (suc k) t xs rest e =
     after (g .0) (g .1) (front .text) (front .writable) (g .3) (λ q ys h. some-read k q ys rest h)
   where
     after : (x : ℕ) (q : List ℕ) → t ≡ decimal x ++ q → x ≤ greatestNumber → readOn (readSome k) x q ≡ got xs rest
-        → ((q ys : List ℕ) → readSome k q ≡ got ys rest → NumbersFront q ys rest × (0 < length ys)) → NumbersFront t xs rest × (0 < length xs)
+        → ((q ys : List ℕ) → readSome k q ≡ got ys rest → NumbersFront q ys rest × (0 < length ys))
+        → NumbersFront t xs rest × (0 < length xs)
     after x [] f w e next =
         let a : x ∷ [] ≡ xs = cc in
         let u : [] ≡ rest = cc in
         rw (← a, ← u) (record { text = one-front x t [] f; writable = (w, tt) }, omega arith)
     after x (b ∷ q) f w e next = split (eqb b space) refl e
       where
-        split : (s : Bool) → eqb b space ≡ s → pick s (put x (readSome k q)) (got (x ∷ []) (b ∷ q)) ≡ got xs rest → NumbersFront t xs rest × (0 < length xs)
+        split : (s : Bool) → eqb b space ≡ s → pick s (put x (readSome k q)) (got (x ∷ []) (b ∷ q)) ≡ got xs rest
+            → NumbersFront t xs rest × (0 < length xs)
         split true s e =
             let g = put-got x (readSome k q) xs rest e in
             let i = next q (g .0) (g .1) in

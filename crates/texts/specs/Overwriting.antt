@@ -34,21 +34,24 @@ module _ (w : List ℕ) (at : ℕ) (xs : List ℕ) (fits : at + length xs ≤ le
   unfolding over
   length-over = simp (length-append, length-drop, length-before) (omega arith)
 
-  pub over-next : (ys : List ℕ) → over (over w at xs) (at + length xs) ys ≡ over w at (xs ++ ys)
+  over-next : (ys : List ℕ) → over (over w at xs) (at + length xs) ys ≡ over w at (xs ++ ys)
   unfolding over
   over-next ys =
       let before = take at w in
       let rest = drop (at + length xs) w in
       let long : length (before ++ xs) ≡ at + length xs = length-append before xs ∙ ap (λ n. n + length xs) length-before in
       let grouped : before ++ (xs ++ rest) ≡ (before ++ xs) ++ rest = sym (append-assoc before xs rest) in
-      let kept : take (at + length xs) (before ++ (xs ++ rest)) ≡ before ++ xs = ap (take (at + length xs)) grouped ∙ take-at (before ++ xs) rest (at + length xs) long in
+      let kept : take (at + length xs) (before ++ (xs ++ rest)) ≡ before ++ xs =
+      ap (take (at + length xs)) grouped ∙ take-at (before ++ xs) rest (at + length xs) long in
       let left : drop (at + length xs + length ys) (before ++ (xs ++ rest)) ≡ drop (at + length (xs ++ ys)) w =
       ap (drop (at + length xs + length ys)) grouped ∙ ap (λ n. drop (n + length ys) ((before ++ xs) ++ rest)) (sym long)
       ∙ drop-append-add (before ++ xs) rest (length ys) ∙ drop-drop (length ys) (at + length xs) w
       ∙ ap (λ n. drop n w) (add-assoc at (length xs) (length ys) ∙ ap (λ n. at + n) (sym (length-append xs ys))) in
+      let after = drop (at + length (xs ++ ys)) w in
       ap (λ l. l ++ (ys ++ drop (at + length xs + length ys) (before ++ (xs ++ rest)))) kept ∙ ap (λ l. (before ++ xs) ++ (ys ++ l)) left
-      ∙ append-assoc before xs (ys ++ drop (at + length (xs ++ ys)) w) ∙ ap (λ l. before ++ l) (sym (append-assoc xs ys (drop (at + length (xs ++ ys)) w)))
+      ∙ append-assoc before xs (ys ++ after) ∙ ap (λ l. before ++ l) (sym (append-assoc xs ys after))
 
   -- v is w with xs written over it, and u is v with ys right after them
-  pub over-on : (v u ys : List ℕ) (next : ℕ) → v ≡ over w at xs → next ≡ at + length xs → u ≡ over v next ys → u ≡ over w at (xs ++ ys)
+  pub over-on : (v u ys : List ℕ) (next : ℕ) → v ≡ over w at xs → next ≡ at + length xs → u ≡ over v next ys
+      → u ≡ over w at (xs ++ ys)
   over-on v u ys next e f g = g ∙ ap (λ n. over v n ys) f ∙ ap (λ l. over l (at + length xs) ys) e ∙ over-next ys

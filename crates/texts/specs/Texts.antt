@@ -9,13 +9,16 @@ use mathlib.Core.List.{List, [], _∷_}
 use mathlib.Core.Logic.{_↔_}
 use Prim.Native.Nat.{ℕ}
 use native.Mathlib.Omega.{arith}
-use Rattle.definitions.specs.Text.{decimal, numbers, line, modulusKey, aKey, bKey, cKey, operationKey, curveKey, name, WrittenJob, Writable, jobText}
-use Rattle.definitions.specs.Reading.{Front, Read, got, bad, found, malformed, readNumber, readNumbers, readName, readLine, whole, readLines, readJob}
+use Rattle.definitions.specs.Text.{decimal, numbers, line, modulusKey, aKey, bKey, cKey, operationKey, curveKey, name}
+use Rattle.definitions.specs.Text.{WrittenJob, Writable, jobText}
+use Rattle.definitions.specs.Reading.{Front, Read, got, bad, found, malformed}
+use Rattle.definitions.specs.Reading.{readNumber, readNumbers, readName, readLine, whole, readLines, readJob}
 use Rattle.definitions.specs.declared.Operation.{Operation}
 use Rattle.texts.specs.NumbersReading.{then-got}
-use Rattle.texts.specs.LinesReading.{read-modulus-line, modulus-line-read, read-numbers-line, numbers-line-read, read-operation-line, operation-line-read}
+use Rattle.texts.specs.LinesReading.{read-number-line, number-line-read, read-numbers-line, numbers-line-read}
+use Rattle.texts.specs.LinesReading.{read-operation-line, operation-line-read}
 
-pub found-not-malformed : (w : WrittenJob) → found w ≡ malformed → ⊥
+found-not-malformed : (w : WrittenJob) → found w ≡ malformed → ⊥
 found-not-malformed w e = let z : _≡_ {A = ℕ} 0 1 = cc in omega arith
 
 pub read-job : (w : WrittenJob) → Writable w → readJob (jobText w) ≡ found w
@@ -26,21 +29,28 @@ read-job w h =
     let t₃ = line cKey (numbers (w .c)) t₄ in
     let t₂ = line bKey (numbers (w .b)) t₃ in
     let t₁ = line aKey (numbers (w .a)) t₂ in
-    rw (read-modulus-line (w .modulus) t₁ (h .modulus), read-numbers-line aKey (w .a) t₂ (h .a), read-numbers-line bKey (w .b) t₃ (h .b), read-numbers-line cKey (w .c) t₄ (h .c), read-operation-line (w .operation) t₅, read-numbers-line curveKey (w .curve) [] (h .curve))
+    rw (
+      read-number-line modulusKey (w .modulus) t₁ (h .modulus),
+      read-numbers-line aKey (w .a) t₂ (h .a),
+      read-numbers-line bKey (w .b) t₃ (h .b),
+      read-numbers-line cKey (w .c) t₄ (h .c),
+      read-operation-line (w .operation) t₅,
+      read-numbers-line curveKey (w .curve) [] (h .curve),
+    )
 
 -- the six lines of a job that was read, and the bytes after each
-pub record LinesRead (t : List ℕ) (w : WrittenJob) (rest : List ℕ) : Type 0 where
-  pub t₁ : List ℕ
-  pub t₂ : List ℕ
-  pub t₃ : List ℕ
-  pub t₄ : List ℕ
-  pub t₅ : List ℕ
-  pub modulus : readLine modulusKey readNumber t ≡ got (w .modulus) t₁
-  pub a : readLine aKey readNumbers t₁ ≡ got (w .a) t₂
-  pub b : readLine bKey readNumbers t₂ ≡ got (w .b) t₃
-  pub c : readLine cKey readNumbers t₃ ≡ got (w .c) t₄
-  pub operation : readLine operationKey readName t₄ ≡ got (w .operation) t₅
-  pub curve : readLine curveKey readNumbers t₅ ≡ got (w .curve) rest
+record LinesRead (t : List ℕ) (w : WrittenJob) (rest : List ℕ) : Type 0 where
+  t₁ : List ℕ
+  t₂ : List ℕ
+  t₃ : List ℕ
+  t₄ : List ℕ
+  t₅ : List ℕ
+  modulus : readLine modulusKey readNumber t ≡ got (w .modulus) t₁
+  a : readLine aKey readNumbers t₁ ≡ got (w .a) t₂
+  b : readLine bKey readNumbers t₂ ≡ got (w .b) t₃
+  c : readLine cKey readNumbers t₃ ≡ got (w .c) t₄
+  operation : readLine operationKey readName t₄ ≡ got (w .operation) t₅
+  curve : readLine curveKey readNumbers t₅ ≡ got (w .curve) rest
 
 -- each part is a variable here, so that nothing large is compared
 lines-of : (t : List ℕ) (w : WrittenJob) (rest : List ℕ) (m : ℕ) (a b c v : List ℕ) (o : Operation) (t₁ t₂ t₃ t₄ t₅ t₆ : List ℕ)
@@ -91,17 +101,20 @@ pub job-read : (t : List ℕ) (w : WrittenJob) → readJob t ≡ found w → Job
 unfolding readJob jobText
 job-read t w e =
     let l = lines-read t w [] (whole-found (readLines t) w e) in
-    let m = modulus-line-read t (w .modulus) (l .t₁) (l .modulus) in
+    let m = number-line-read modulusKey t (w .modulus) (l .t₁) (l .modulus) in
     let a = numbers-line-read aKey (l .t₁) (w .a) (l .t₂) (l .a) in
     let b = numbers-line-read bKey (l .t₂) (w .b) (l .t₃) (l .b) in
     let c = numbers-line-read cKey (l .t₃) (w .c) (l .t₄) (l .c) in
     let o = operation-line-read (l .t₄) (w .operation) (l .t₅) (l .operation) in
     let v = numbers-line-read curveKey (l .t₅) (w .curve) [] (l .curve) in
     record {
-      text = sym (m .0
-          ∙ ap (line modulusKey (decimal (w .modulus))) (a .text ∙ ap (line aKey (numbers (w .a))) (b .text ∙ ap (line bKey (numbers (w .b))) (c .text
-          ∙ ap (line cKey (numbers (w .c))) (o ∙ ap (line operationKey (name (w .operation))) (v .text))))));
-      writable = record { modulus = m .1; a = a .writable; b = b .writable; c = c .writable; curve = v .writable };
+      text = sym (m .text
+          ∙ ap (line modulusKey (decimal (w .modulus))) (a .text
+          ∙ ap (line aKey (numbers (w .a))) (b .text
+          ∙ ap (line bKey (numbers (w .b))) (c .text
+          ∙ ap (line cKey (numbers (w .c))) (o
+          ∙ ap (line operationKey (name (w .operation))) (v .text))))));
+      writable = record { modulus = m .writable; a = a .writable; b = b .writable; c = c .writable; curve = v .writable };
     }
 
 -- ---- what it is for a text to be of the form
@@ -116,10 +129,16 @@ written-unique v w p q e = same (sym (read-job v p) ∙ ap readJob e ∙ read-jo
     same e = cc
 
 pub of-the-form : (t : List ℕ) → ((w : WrittenJob) × (readJob t ≡ found w)) ↔ OfTheForm t
-of-the-form t = (λ r. record { job = r .0; is = job-read t (r .0) (r .1) }, λ f. (f .job, ap readJob (sym (f .is .text)) ∙ read-job (f .job) (f .is .writable)))
+of-the-form t = (
+  λ r. record { job = r .0; is = job-read t (r .0) (r .1) },
+  λ f. (f .job, ap readJob (sym (f .is .text)) ∙ read-job (f .job) (f .is .writable)),
+)
 
 pub not-of-the-form : (t : List ℕ) → (readJob t ≡ malformed) ↔ (OfTheForm t → ⊥)
-not-of-the-form t = (λ e f. let r = of-the-form t .1 f in found-not-malformed (r .0) (sym (r .1) ∙ e), λ n. cases (readJob t) refl n)
+not-of-the-form t = (
+  λ e f. let r = of-the-form t .1 f in found-not-malformed (r .0) (sym (r .1) ∙ e),
+  λ n. cases (readJob t) refl n,
+)
   where
     cases : (r : Read) → readJob t ≡ r → (OfTheForm t → ⊥) → readJob t ≡ malformed
     cases (found w) e n = absurd (n (of-the-form t .0 (w, e)))

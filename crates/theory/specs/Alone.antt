@@ -12,7 +12,8 @@ use Rattle.definitions.specs.Family.{Family, rows, F, term}
 use Rattle.definitions.specs.Number.{sum, table, inverse}
 use Rattle.numbers.specs.Inverse.{inverse-unique}
 
-table-alone : (m r : ℕ) (u : List ℕ) (g : ℕ → ℕ → ℕ) → r ≡ 0 → g 0 0 ≡ 1 → table (suc r) (λ i. sum (suc r) (λ j. getD u j 0 * g j i) % m) ≡ getD u 0 0 % m ∷ []
+table-alone : (m r : ℕ) (u : List ℕ) (g : ℕ → ℕ → ℕ) → r ≡ 0 → g 0 0 ≡ 1
+    → table (suc r) (λ i. sum (suc r) (λ j. getD u j 0 * g j i) % m) ≡ getD u 0 0 % m ∷ []
 unfolding table sum
 table-alone m zero u g e one = ap (λ x. x % m ∷ []) (zero-add (getD u 0 0 * g 0 0) ∙ ap (λ x. getD u 0 0 * x) one ∙ mul-one (getD u 0 0))
 table-alone m (suc r) u g e one = absurd (omega arith)

@@ -2,14 +2,14 @@
 --   entries m pos u      a list as a sequence of residues, zero past its end
 --   ringRows m pos row   rows of numbers as rows of residues
 --   rowsOf f pos         the rows of a family, the closing row from row n on
--- Proves that the residues of F_j and G_j are the terms of the recurrence over the ring, that the entries of Expand and
--- Adjoint are sums in it, and that these lists are curves, which their residues settle.
+-- Proves that the residues of F_j and G_j are the terms of the recurrence over the ring (term-further is the one over numbers), that
+-- the entries of Expand and Adjoint are sums in it, and that these lists are curves, which their residues settle.
 -- pos, that m is not zero, is all that is needed: no inverse, and nothing of the rows or of the curve. Assumes nothing.
 use mathlib.Core.Path.{_≡_, refl, _∙_, ap}
 use mathlib.Core.List.{List}
-use Prim.Native.Nat.{ℕ, zero, suc, _+_, _*_, _%_, _<_}
+use Prim.Native.Nat.{ℕ, zero, suc, _+_, _*_, _%_, _<_, _≤_}
 use native.Mathlib.Nat.{mod-lt}
-use lib.ListN.{getD}
+use lib.ListN.{length, getD, List·getD-eq-default}
 use Rattle.algebra.specs.Residues.{Zmod, res, res-zero, res-one, res-add, res-mul, res-mod}
 use Rattle.algebra.specs.Ring.{CommRing}
 use Rattle.algebra.specs.Sum as Sum
@@ -18,10 +18,16 @@ use Rattle.definitions.specs.Conversion.{expand, adjoint}
 use Rattle.definitions.specs.Family as Family
 use Rattle.definitions.specs.Family.{Family, Row, Curve, size, rowAt, timesX, F, G}
 use Rattle.definitions.specs.Number.{sum}
-use Rattle.theory.specs.Curves.{table-curve}
 use Rattle.numbers.specs.Lists.{table-entry}
-use Rattle.theory.specs.Recurrence.{Rows, later, term, term-step}
 use Rattle.numbers.specs.Residue.{residue-sum}
+use Rattle.theory.specs.Curves.{table-curve}
+use Rattle.theory.specs.Recurrence.{Rows, later, term, term-step}
+
+-- a further term of the recurrence over the numbers
+pub term-further : (m : ℕ) (row : ℕ → Row) (k i : ℕ) → Family.term m row (suc (suc k)) i
+    ≡ (row k .a * timesX (Family.term m row (suc k)) i + row k .b * Family.term m row (suc k) i + row k .c * Family.term m row k i) % m
+unfolding Family.term
+term-further m row k i = refl
 
 module _ (m : ℕ) (pos : 0 < m) where
   abbrev R : CommRing
@@ -34,6 +40,9 @@ module _ (m : ℕ) (pos : 0 < m) where
   abbrev pub entries : List ℕ → ℕ → Car
   entries u i = res m pos (getD u i 0)
 
+  pub entries-past : (u : List ℕ) (i : ℕ) → length u ≤ i → entries u i ≡ R .zero
+  entries-past u i h = ap (res m pos) (List·getD-eq-default u 0 h) ∙ res-zero m pos
+
   abbrev pub ringRows : (ℕ → Row) → Rows R
   ringRows row = record { a = λ i. res m pos (row i .a); b = λ i. res m pos (row i .b); c = λ i. res m pos (row i .c) }
 
@@ -43,11 +52,6 @@ module _ (m : ℕ) (pos : 0 < m) where
   res-timesX p (suc i) = refl
 
   -- ---- the recurrence
-  number-step : (row : ℕ → Row) (k i : ℕ)
-      → Family.term m row (suc (suc k)) i ≡ (row k .a * timesX (Family.term m row (suc k)) i + row k .b * Family.term m row (suc k) i + row k .c * Family.term m row k i) % m
-  unfolding Family.term
-  number-step row k i = refl
-
   res-term-first : (row : ℕ → Row) (i : ℕ) → res m pos (Family.term m row 1 i) ≡ term R (ringRows row) 1 i
   unfolding Family.term term
   res-term-first row zero = res-one m pos
@@ -60,7 +64,8 @@ module _ (m : ℕ) (pos : 0 < m) where
   pub res-term : (row : ℕ → Row) (k i : ℕ) → res m pos (Family.term m row k i) ≡ term R (ringRows row) k i
   res-term row zero i = res-term-none row i
   res-term row (suc zero) i = res-term-first row i
-  res-term row (suc (suc k)) i = simp (number-step, res-mod m pos, res-add m pos, res-mul m pos, res-timesX, term-step R, res-term row (suc k), res-term row k)
+  res-term row (suc (suc k)) i =
+      simp (term-further m, res-mod m pos, res-add m pos, res-mul m pos, res-timesX, term-step R, res-term row (suc k), res-term row k)
 
 -- ---- a family
 module _ (f : Family) (pos : 0 < f .m) where

@@ -9,10 +9,11 @@ use Prim.Native.Nat.{ℕ, zero, suc, _+_, _*_, _%_, _<_, _≤_}
 use native.Mathlib.Omega.{arith}
 use lib.ListN.{length, getD}
 use Rattle.definitions.specs.Conversion.{expand, adjoint, top, lessTop, decomposeBelow, decompose}
-use Rattle.definitions.specs.Family.{Family, Row, Accepted, rows, size, rowAt, timesX, term, F}
+use Rattle.definitions.specs.Family.{Family, Row, Accepted, rows, size, rowAt, term, F}
 use Rattle.definitions.specs.Number.{negative, inverse}
 use Rattle.numbers.specs.Lists.{getD-default, table-equal}
 use Rattle.numbers.specs.Sums.{sum-equal}
+use Rattle.theory.specs.Bridge.{term-further}
 
 abbrev pub closedBy : Row → Family → Family
 closedBy row f = record { m = f .m; a = f .a; b = f .b; c = f .c; close = row }
@@ -26,10 +27,6 @@ accepted-lengths f acc = record { bLength = acc .bLength; cLength = acc .cLength
 
 -- ---- a polynomial rests on the rows before it
 module _ (m r : ℕ) (row row′ : ℕ → Row) (same : (i : ℕ) → i < r → row i ≡ row′ i) where
-  step : (row : ℕ → Row) (k i : ℕ) → term m row (suc (suc k)) i ≡ (row k .a * timesX (term m row (suc k)) i + row k .b * term m row (suc k) i + row k .c * term m row k i) % m
-  unfolding term
-  step row k i = refl
-
   first-none : (i : ℕ) → term m row 0 i ≡ term m row′ 0 i
   unfolding term
   first-none i = refl
@@ -44,7 +41,7 @@ module _ (m r : ℕ) (row row′ : ℕ → Row) (same : (i : ℕ) → i < r → 
   term-equal (suc zero) i h = first-one i
   term-equal (suc (suc k)) i h =
       let here : term m row (suc k) ≡ term m row′ (suc k) = fun-ext (λ t. term-equal (suc k) t (omega arith)) in
-      step row k i ∙ rw (same k (omega arith), here, term-equal k i (omega arith)) (sym (step row′ k i))
+      term-further m row k i ∙ rw (same k (omega arith), here, term-equal k i (omega arith)) (sym (term-further m row′ k i))
 
 module _ (f : Family) (equal : EqualLengths f) (row : Row) where
   abbrev g : Family
@@ -55,7 +52,11 @@ module _ (f : Family) (equal : EqualLengths f) (row : Row) where
   rowAt-close i h =
       let lb : length (f .b) ≡ rows f = equal .bLength in
       let lc : length (f .c) ≡ rows f = equal .cLength in
-      rw (getD-default (f .a) i (row .a) (f .close .a) h, getD-default (f .b) i (row .b) (f .close .b) (omega arith), getD-default (f .c) i (row .c) (f .close .c) (omega arith))
+      rw (
+        getD-default (f .a) i (row .a) (f .close .a) h,
+        getD-default (f .b) i (row .b) (f .close .b) (omega arith),
+        getD-default (f .c) i (row .c) (f .close .c) (omega arith),
+      )
 
   pub F-close : (j i : ℕ) → j ≤ rows f → F g j i ≡ F f j i
   unfolding F
@@ -63,11 +64,13 @@ module _ (f : Family) (equal : EqualLengths f) (row : Row) where
 
   pub expand-close : (u : List ℕ) → expand g u ≡ expand f u
   unfolding expand
-  expand-close u = table-equal (size f) _ _ (λ i h. ap (λ s. s % f .m) (sum-equal (size f) _ _ (λ j l. ap (λ t. getD u j 0 * t) (F-close j i (omega arith)))))
+  expand-close u = table-equal (size f) _ _
+      (λ i h. ap (λ s. s % f .m) (sum-equal (size f) _ _ (λ j l. ap (λ t. getD u j 0 * t) (F-close j i (omega arith)))))
 
   pub adjoint-close : (u : List ℕ) → adjoint g u ≡ adjoint f u
   unfolding adjoint
-  adjoint-close u = table-equal (size f) _ _ (λ j h. ap (λ s. s % f .m) (sum-equal (size f) _ _ (λ i l. ap (λ t. getD u i 0 * t) (F-close j i (omega arith)))))
+  adjoint-close u = table-equal (size f) _ _
+      (λ j h. ap (λ s. s % f .m) (sum-equal (size f) _ _ (λ i l. ap (λ t. getD u i 0 * t) (F-close j i (omega arith)))))
 
   top-close : (k : ℕ) (p : List ℕ) → k ≤ rows f → top g k p ≡ top f k p
   unfolding top
@@ -81,7 +84,8 @@ module _ (f : Family) (equal : EqualLengths f) (row : Row) where
   unfolding decomposeBelow
   decomposeBelow-close zero p h = refl
   decomposeBelow-close (suc k) p h = ap₂ (λ s y. s ++ y ∷ []) (decomposeBelow-close k (lessTop g k (top g k p) p) (omega arith)
-      ∙ ap (decomposeBelow f k) (lessTop-close k (top g k p) p (omega arith) ∙ ap (λ y. lessTop f k y p) (top-close k p (omega arith)))) (top-close k p (omega arith))
+      ∙ ap (decomposeBelow f k) (lessTop-close k (top g k p) p (omega arith) ∙ ap (λ y. lessTop f k y p) (top-close k p (omega arith))))
+      (top-close k p (omega arith))
 
   pub decompose-close : (p : List ℕ) → decompose g p ≡ decompose f p
   unfolding decompose

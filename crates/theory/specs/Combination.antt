@@ -39,7 +39,8 @@ module _ (R : CommRing) (ρ : Rows R) where
   pub combination-injective : (n : ℕ) → ((j : ℕ) → suc j < n → IsUnit R (ρ .a j)) → (v w : ℕ → Car)
       → ((i : ℕ) → i < n → combination n v i ≡ combination n w i) → (j : ℕ) → j < n → v j ≡ w j
   combination-injective zero units v w e j h = absurd (omega arith)
-  combination-injective (suc n) units v w e j h = at (eq-or-lt-of-le (le-of-suc-le-suc h)) (combination-injective n (λ i l. units i (omega arith)) v w below j)
+  combination-injective (suc n) units v w e j h = at (eq-or-lt-of-le (le-of-suc-le-suc h))
+      (combination-injective n (λ i l. units i (omega arith)) v w below j)
     where
       last : v n ≡ w n
       last = unit-cancel R (v n) (w n) (product-unit R n (ρ .a) (λ i l. units i (omega arith)))
@@ -47,7 +48,8 @@ module _ (R : CommRing) (ρ : Rows R) where
 
       below : (i : ℕ) → i < n → combination n v i ≡ combination n w i
       below i l = Ring.add-cancel R (combination n v i) (combination n w i) (v n ⊗ term R ρ (suc n) i)
-          (sym (combination-last n v i) ∙ e i (omega arith) ∙ combination-last n w i ∙ ap (λ t. combination n w i ⊕ t ⊗ term R ρ (suc n) i) (sym last))
+          (sym (combination-last n v i) ∙ e i (omega arith) ∙ combination-last n w i
+          ∙ ap (λ t. combination n w i ⊕ t ⊗ term R ρ (suc n) i) (sym last))
 
       at : (j ≡ n) ⊎ (j < n) → (j < n → v j ≡ w j) → v j ≡ w j
       at (inl same) ih = subst (λ t. v t ≡ w t) (sym same) last

@@ -20,8 +20,10 @@ module _ (f : Family) where
     curve-lengths : length u ≡ length v
     curve-lengths = cu .long ∙ sym (cv .long)
 
-    pub curves-equal-residues : (pos : 0 < f .m) → ((i : ℕ) → i < size f → res (f .m) pos (getD u i 0) ≡ res (f .m) pos (getD v i 0)) → u ≡ v
+    pub curves-equal-residues : (pos : 0 < f .m)
+        → ((i : ℕ) → i < size f → res (f .m) pos (getD u i 0) ≡ res (f .m) pos (getD v i 0)) → u ≡ v
     curves-equal-residues pos e =
         let lu : length u ≡ size f = cu .long in
         let lv : length v ≡ size f = cv .long in
-        lists-equal (f .m) pos u v curve-lengths (λ i h. cu .below i (omega arith)) (λ i h. cv .below i (omega arith)) (λ i h. e i (omega arith))
+        lists-equal (f .m) pos u v curve-lengths (λ i h. cu .below i (omega arith)) (λ i h. cv .below i (omega arith))
+        (λ i h. e i (omega arith))

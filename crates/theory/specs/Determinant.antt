@@ -51,19 +51,22 @@ module _ (R : CommRing) where
 
   pub determinant-zero : (ρ : Rows R) → determinant ρ 0 ≡ 1#
   unfolding determinant
-  determinant-zero ρ = rw (determinant, reversed-one R ρ, reversed-one R (later R ρ), reversed-zero R (later R ρ)) (ring (Ser R) (reversed R ρ 2 ∷ []) (search reify depth 20) tt)
+  determinant-zero ρ = rw (determinant, reversed-one R ρ, reversed-one R (later R ρ), reversed-zero R (later R ρ))
+      (ring (Ser R) (reversed R ρ 2 ∷ []) (search reify depth 20) tt)
 
   pub determinant-suc : (ρ : Rows R) (i : ℕ) → determinant ρ (suc i) ≡ - (C R (ρ .c (suc i)) * (X R * (X R * determinant ρ i)))
   unfolding determinant
   determinant-suc ρ i = rw (determinant, reversed-step R ρ (suc i), reversed-step R (later R ρ) i)
-      (ring (Ser R) (C R (ρ .a (suc i)) ∷ C R (ρ .b (suc i)) ∷ C R (ρ .c (suc i)) ∷ X R ∷ reversed R ρ (suc i) ∷ reversed R ρ (suc (suc i)) ∷ reversed R (later R ρ) i ∷ reversed R (later R ρ) (suc i) ∷ [])
+      (ring (Ser R) (C R (ρ .a (suc i)) ∷ C R (ρ .b (suc i)) ∷ C R (ρ .c (suc i)) ∷ X R ∷ reversed R ρ (suc i)
+      ∷ reversed R ρ (suc (suc i)) ∷ reversed R (later R ρ) i ∷ reversed R (later R ρ) (suc i) ∷ [])
       (search reify depth 20) tt)
 
   pub determinant-is : (ρ : Rows R) (i : ℕ) → determinant ρ i ≡ C R (signedProduct ρ i) * power (i +ℕ i)
   unfolding signedProduct
   determinant-is ρ zero = determinant-zero ρ ∙ sym (simp (C-one R, power-zero, (Ser R) .mul-one))
   determinant-is ρ (suc i) = determinant-suc ρ i ∙ ap (λ f. - (C R (ρ .c (suc i)) * (X R * (X R * f)))) (determinant-is ρ i)
-      ∙ sym (let e : suc i +ℕ suc i ≡ suc (suc (i +ℕ i)) = omega arith in simp (e, power-suc, C-mul R, C-neg R) (ring (Ser R) (C R (signedProduct ρ i) ∷ C R (ρ .c (suc i)) ∷ X R ∷ power (i +ℕ i) ∷ []) (search reify depth 20) tt))
+      ∙ sym (let e : suc i +ℕ suc i ≡ suc (suc (i +ℕ i)) = omega arith in simp (e, power-suc, C-mul R, C-neg R)
+      (ring (Ser R) (C R (signedProduct ρ i) ∷ C R (ρ .c (suc i)) ∷ X R ∷ power (i +ℕ i) ∷ []) (search reify depth 20) tt))
 
   pub determinant-vanishes : (ρ : Rows R) (i : ℕ) → VanishesBelow R (i +ℕ i) (determinant ρ i)
   determinant-vanishes ρ i n p = ap (λ f. co R f n) (determinant-is ρ i) ∙ co-C-mul R (signedProduct ρ i) (power (i +ℕ i)) n

@@ -57,24 +57,30 @@ module _ {R : CommRing} (ρ : Rows R) (s : ℕ → R .Car) where
   abbrev BothVanish : ℕ → Type 0
   BothVanish i = VanishesBelow R (suc (i +ℕ i)) (D (suc i)) × VanishesBelow R (i +ℕ i) (D i)
 
-  remainder-step : (i : ℕ) → D (suc (suc i)) ≡ C R (ρ .a (suc i)) * D (suc i) + C R (ρ .b (suc i)) * (X R * D (suc i)) + C R (ρ .c (suc i)) * (X R * (X R * D i))
+  remainder-step : (i : ℕ) → D (suc (suc i))
+      ≡ C R (ρ .a (suc i)) * D (suc i) + C R (ρ .b (suc i)) * (X R * D (suc i)) + C R (ρ .c (suc i)) * (X R * (X R * D i))
   unfolding remainder
   remainder-step i = rw (remainder, reversed-step R ρ (suc i), reversed-step R (later R ρ) i)
-      (ring (Ser R) (C R (ρ .a (suc i)) ∷ C R (ρ .b (suc i)) ∷ C R (ρ .c (suc i)) ∷ X R ∷ gen R s ∷ reversed R ρ (suc i) ∷ reversed R ρ (suc (suc i)) ∷ reversed R (later R ρ) i ∷ reversed R (later R ρ) (suc i) ∷ [])
+      (ring (Ser R) (C R (ρ .a (suc i)) ∷ C R (ρ .b (suc i)) ∷ C R (ρ .c (suc i)) ∷ X R ∷ gen R s ∷ reversed R ρ (suc i)
+      ∷ reversed R ρ (suc (suc i)) ∷ reversed R (later R ρ) i ∷ reversed R (later R ρ) (suc i) ∷ [])
       (search reify depth 20) tt)
 
   co-remainder-step : (i n : ℕ)
-      → co R (D (suc (suc i))) (suc (suc n)) ≡ ρ .a (suc i) ⊗ co R (D (suc i)) (suc (suc n)) ⊕ ρ .b (suc i) ⊗ co R (D (suc i)) (suc n) ⊕ ρ .c (suc i) ⊗ co R (D i) n
+      → co R (D (suc (suc i))) (suc (suc n))
+      ≡ ρ .a (suc i) ⊗ co R (D (suc i)) (suc (suc n)) ⊕ ρ .b (suc i) ⊗ co R (D (suc i)) (suc n) ⊕ ρ .c (suc i) ⊗ co R (D i) n
   co-remainder-step i n = ap (λ f. co R f (suc (suc n))) (remainder-step i) ∙ simp (co-add R, co-C-mul R, co-X-mul-suc R)
 
   -- what the recurrence says where D_{i+2} vanishes, and D_{i+1} one place before
-  co-remainder-down : (i n : ℕ) → co R (D (suc (suc i))) (suc (suc n)) ≡ 𝟘 → co R (D (suc i)) (suc n) ≡ 𝟘 → ρ .c (suc i) ⊗ co R (D i) n ≡ ⊖ (ρ .a (suc i) ⊗ co R (D (suc i)) (suc (suc n)))
-  co-remainder-down i n p q = linear R (ρ .a (suc i) ∷ ρ .b (suc i) ∷ ρ .c (suc i) ∷ co R (D i) n ∷ co R (D (suc i)) (suc n) ∷ co R (D (suc i)) (suc (suc n)) ∷ co R (D (suc (suc i))) (suc (suc n)) ∷ [])
+  co-remainder-down : (i n : ℕ) → co R (D (suc (suc i))) (suc (suc n)) ≡ 𝟘 → co R (D (suc i)) (suc n) ≡ 𝟘
+      → ρ .c (suc i) ⊗ co R (D i) n ≡ ⊖ (ρ .a (suc i) ⊗ co R (D (suc i)) (suc (suc n)))
+  co-remainder-down i n p q = linear R (ρ .a (suc i) ∷ ρ .b (suc i) ∷ ρ .c (suc i) ∷ co R (D i) n ∷ co R (D (suc i)) (suc n)
+      ∷ co R (D (suc i)) (suc (suc n)) ∷ co R (D (suc (suc i))) (suc (suc n)) ∷ [])
       (both R (both R (scaled R (⊖ 𝟙) (co-remainder-step i n)) (scaled R 𝟙 p)) (scaled R (⊖ ρ .b (suc i)) q)) (search reify depth 20) tt
 
   remainder-determinant : (i : ℕ) → D i * reversed R ρ (suc (suc i)) ≡ D (suc i) * reversed R ρ (suc i) + determinant R ρ i
   unfolding remainder determinant
-  remainder-determinant i = ring (Ser R) (gen R s ∷ reversed R ρ (suc i) ∷ reversed R ρ (suc (suc i)) ∷ reversed R (later R ρ) i ∷ reversed R (later R ρ) (suc i) ∷ []) (search reify depth 20) tt
+  remainder-determinant i = ring (Ser R) (gen R s ∷ reversed R ρ (suc i) ∷ reversed R ρ (suc (suc i)) ∷ reversed R (later R ρ) i
+      ∷ reversed R (later R ρ) (suc i) ∷ []) (search reify depth 20) tt
 
 -- ---- what holds for the moments
 module _ {R : CommRing} {r : ℕ} {ρ : Rows R} {s : ℕ → R .Car} (w : Moments R r ρ s) where
@@ -96,7 +102,9 @@ module _ {R : CommRing} {r : ℕ} {ρ : Rows R} {s : ℕ → R .Car} (w : Moment
   start-vanishes = vanishes-of-mul R (r +ℕ r) (D ρ s r) (reversed R ρ (suc (suc r))) (first-unit (suc r) (omega arith))
       (subst (VanishesBelow R (r +ℕ r)) (sym (remainder-determinant ρ s r))
       (vanishes-add R (r +ℕ r) (D ρ s (suc r) * reversed R ρ (suc r)) (determinant R ρ r)
-      (vanishes-mul-left R (r +ℕ r) (D ρ s (suc r)) (reversed R ρ (suc r)) (vanishes-less R (D ρ s (suc r)) (omega arith) last-vanishes)) (determinant-vanishes R ρ r)))
+      (vanishes-mul-left R (r +ℕ r) (D ρ s (suc r)) (reversed R ρ (suc r))
+      (vanishes-less R (D ρ s (suc r)) (omega arith) last-vanishes))
+      (determinant-vanishes R ρ r)))
 
   -- D_{i+1} and D_i, going down: k is how far i is from r
   down : (k i : ℕ) → i +ℕ k ≡ r → BothVanish ρ s i
@@ -107,7 +115,8 @@ module _ {R : CommRing} {r : ℕ} {ρ : Rows R} {s : ℕ → R .Car} (w : Moment
       next (v₂, v₁) = (
         vanishes-less R (D ρ s (suc i)) (omega arith) v₁,
         λ n p. unit-cancel-zero R (co R (D ρ s i) n) (w .regular .cUnit i (omega arith))
-            (co-remainder-down ρ s i n (v₂ (suc (suc n)) (omega arith)) (v₁ (suc n) (omega arith)) ∙ simp (v₁ (suc (suc n)) (omega arith), Ring.mul-zero R, Ring.neg-zero R)),
+            (co-remainder-down ρ s i n (v₂ (suc (suc n)) (omega arith)) (v₁ (suc n) (omega arith))
+            ∙ simp (v₁ (suc (suc n)) (omega arith), Ring.mul-zero R, Ring.neg-zero R)),
       )
 
   pub remainder-vanishes : (i : ℕ) → i ≤ r → VanishesBelow R (i +ℕ i) (remainder R ρ s i)
@@ -119,13 +128,16 @@ module _ {R : CommRing} {r : ℕ} {ρ : Rows R} {s : ℕ → R .Car} (w : Moment
   pub pivot-ratio : (i : ℕ) → i < r → ρ .c (suc i) ⊗ pivot R ρ s i ≡ ⊖ (ρ .a (suc i) ⊗ pivot R ρ s (suc i))
   unfolding pivot
   pivot-ratio i h = let z : suc i +ℕ suc i ≡ suc (suc (i +ℕ i)) = omega arith in rw z
-      (co-remainder-down ρ s i (i +ℕ i) (remainder-suc-vanishes (suc i) h (suc (suc (i +ℕ i))) (omega arith)) (remainder-vanishes (suc i) h (suc (i +ℕ i)) (omega arith)))
+      (co-remainder-down ρ s i (i +ℕ i) (remainder-suc-vanishes (suc i) h (suc (suc (i +ℕ i))) (omega arith))
+      (remainder-vanishes (suc i) h (suc (i +ℕ i)) (omega arith)))
 
   pivot-first : product R 1 (ρ .a) ⊗ pivot R ρ s 0 ≡ 𝟙
   unfolding pivot
-  pivot-first = R .mul-comm (product R 1 (ρ .a)) (co R (D ρ s 0) 0) ∙ sym (co-mul-zero R (D ρ s 0) (reversed R ρ 2) ∙ ap (λ t. co R (D ρ s 0) 0 ⊗ t) (co-reversed-first R ρ 1))
+  pivot-first = R .mul-comm (product R 1 (ρ .a)) (co R (D ρ s 0) 0)
+      ∙ sym (co-mul-zero R (D ρ s 0) (reversed R ρ 2) ∙ ap (λ t. co R (D ρ s 0) 0 ⊗ t) (co-reversed-first R ρ 1))
       ∙ ap (λ f. co R f 0) (remainder-determinant ρ s 0) ∙ co-add R (D ρ s 1 * reversed R ρ 1) (determinant R ρ 0) 0
-      ∙ ap₂ _⊕_ (vanishes-mul-left R 1 (D ρ s 1) (reversed R ρ 1) (remainder-suc-vanishes 0 (omega arith)) 0 (omega arith)) (ap (λ f. co R f 0) (determinant-zero R ρ) ∙ co-one-zero R)
+      ∙ ap₂ _⊕_ (vanishes-mul-left R 1 (D ρ s 1) (reversed R ρ 1) (remainder-suc-vanishes 0 (omega arith)) 0 (omega arith))
+      (ap (λ f. co R f 0) (determinant-zero R ρ) ∙ co-one-zero R)
       ∙ Ring.zero-add R 𝟙
 
   -- a_1 .. a_{i+1} e_i is the signed product
@@ -134,4 +146,5 @@ module _ {R : CommRing} {r : ℕ} {ρ : Rows R} {s : ℕ → R .Car} (w : Moment
   pivot-is zero h = pivot-first
   pivot-is (suc i) h = ap (λ t. t ⊗ pivot R ρ s (suc i)) (product-last R (suc i) (ρ .a))
       ∙ linear R (ρ .a (suc i) ∷ ρ .c (suc i) ∷ pivot R ρ s i ∷ pivot R ρ s (suc i) ∷ product R (suc i) (ρ .a) ∷ signedProduct R ρ i ∷ [])
-      (both R (scaled R (⊖ ρ .c (suc i)) (pivot-is i (omega arith))) (scaled R (product R (suc i) (ρ .a)) (pivot-ratio i h))) (search reify depth 20) tt
+      (both R (scaled R (⊖ ρ .c (suc i)) (pivot-is i (omega arith))) (scaled R (product R (suc i) (ρ .a)) (pivot-ratio i h)))
+      (search reify depth 20) tt

@@ -16,14 +16,14 @@ use Rattle.definitions.specs.Conversion.{expand, adjoint, decompose}
 use Rattle.definitions.specs.Family.{Family, Convertible, Curve, size}
 use Rattle.definitions.specs.Number.{sum, table, inverse}
 use Rattle.definitions.specs.Orthogonality.{moments, norm, norms}
+use Rattle.numbers.specs.Lists.{table-entry}
+use Rattle.numbers.specs.Residue.{residue-sum, residue-inverse}
 use Rattle.theory.specs.Bridge.{entries, rowsOf, entries-expand, entries-adjoint}
 use Rattle.theory.specs.Curves.{table-curve, curves-equal-residues}
-use Rattle.theory.specs.Form.{form, form-rows, form-cong}
-use Rattle.numbers.specs.Lists.{table-entry}
+use Rattle.theory.specs.BilinearForm.{form, form-rows, form-cong}
 use Rattle.theory.specs.Moments.{norms-entry, convertible-moments, convertible-norms, norms-have-inverses}
 use Rattle.theory.specs.Orthogonal.{form-row}
 use Rattle.theory.specs.Recurrence.{Rows, term}
-use Rattle.numbers.specs.Residue.{residue-sum, residue-inverse}
 use Rattle.theory.specs.RoundTrip.{convertible-decomposable, decompose-curve, expand-decompose}
 
 unfoldable pub hankelProduct : Family → List ℕ → List ℕ
@@ -53,36 +53,48 @@ module _ (f : Family) (pos : 0 < f .m) where
   abbrev ρ : Rows Q
   ρ = rowsOf f pos
 
-  entries-hankelProduct : (p : List ℕ) (i : ℕ) → i < size f → entries m pos (hankelProduct f p) i ≡ Sum.sum Q (size f) (λ k. entries m pos (moments f) (i + k) ⊗ entries m pos p k)
+  abbrev ι : ℕ → Q .Car
+  ι = res m pos
+
+  abbrev E : List ℕ → ℕ → Q .Car
+  E = entries m pos
+
+  entries-hankelProduct : (p : List ℕ) (i : ℕ) → i < size f
+      → E (hankelProduct f p) i ≡ Sum.sum Q (size f) (λ k. E (moments f) (i + k) ⊗ E p k)
   unfolding hankelProduct
-  entries-hankelProduct p i h = ap (res m pos) (table-entry (size f) (λ i. sum (size f) (λ k. getD (moments f) (i + k) 0 * getD p k 0) % m) i 0 h)
+  entries-hankelProduct p i h = ap ι (table-entry (size f) (λ i. sum (size f) (λ k. getD (moments f) (i + k) 0 * getD p k 0) % m) i 0 h)
       ∙ simp (res-mod m pos, residue-sum m pos, res-mul m pos)
 
   -- entry j is F_j against p
-  entries-gram : (p : List ℕ) (j : ℕ) → j < size f → entries m pos (adjoint f (hankelProduct f p)) j ≡ form Q (size f) (entries m pos (moments f)) (term Q ρ (suc j)) (entries m pos p)
+  entries-gram : (p : List ℕ) (j : ℕ) → j < size f → E (adjoint f (hankelProduct f p)) j
+      ≡ form Q (size f) (E (moments f)) (term Q ρ (suc j)) (E p)
   entries-gram p j h = entries-adjoint f pos (hankelProduct f p) j h
-      ∙ Sum.sum-cong Q (size f) (λ i g. Q .mul-comm (entries m pos (hankelProduct f p) i) (term Q ρ (suc j) i)
-      ∙ ap (λ t. term Q ρ (suc j) i ⊗ t) (entries-hankelProduct p i g ∙ Sum.sum-cong Q (size f) (λ k l. Q .mul-comm (entries m pos (moments f) (i + k)) (entries m pos p k))))
-      ∙ sym (form-rows Q (size f) (entries m pos (moments f)) (term Q ρ (suc j)) (entries m pos p))
+      ∙ Sum.sum-cong Q (size f) (λ i g. Q .mul-comm (E (hankelProduct f p) i) (term Q ρ (suc j) i)
+      ∙ ap (λ t. term Q ρ (suc j) i ⊗ t)
+      (entries-hankelProduct p i g ∙ Sum.sum-cong Q (size f) (λ k l. Q .mul-comm (E (moments f) (i + k)) (E p k))))
+      ∙ sym (form-rows Q (size f) (E (moments f)) (term Q ρ (suc j)) (E p))
 
   module _ (c : Convertible f) where
     -- so it is entry j of the curve that expands to p, times norm j
-    entries-gram-expand : (u : List ℕ) (j : ℕ) → j < size f → entries m pos (adjoint f (hankelProduct f (expand f u))) j ≡ entries m pos u j ⊗ entries m pos (norms f) j
-    entries-gram-expand u j h = entries-gram (expand f u) j h ∙ form-cong Q (size f) (entries m pos (moments f)) (λ i l. refl) (entries-expand f pos u)
-        ∙ form-row (convertible-moments f pos c) (convertible-norms f pos c) j (entries m pos u) (le-of-suc-le-suc h)
+    entries-gram-expand : (u : List ℕ) (j : ℕ) → j < size f → E (adjoint f (hankelProduct f (expand f u))) j ≡ E u j ⊗ E (norms f) j
+    entries-gram-expand u j h = entries-gram (expand f u) j h ∙ form-cong Q (size f) (E (moments f)) (λ i l. refl) (entries-expand f pos u)
+        ∙ form-row (convertible-moments f pos c) (convertible-norms f pos c) j (E u) (le-of-suc-le-suc h)
 
-    entries-gramDecompose : (u : List ℕ) (j : ℕ) → j < size f → entries m pos (gramDecompose f (expand f u)) j ≡ entries m pos u j
+    entries-gramDecompose : (u : List ℕ) (j : ℕ) → j < size f → E (gramDecompose f (expand f u)) j ≡ E u j
     unfolding gramDecompose
-    entries-gramDecompose u j h = ap (res m pos) (table-entry (size f) (λ j. getD (adjoint f (hankelProduct f (expand f u))) j 0 * inverse m (norm f j) % m) j 0 h)
-        ∙ simp (res-mod m pos, res-mul m pos) (ap (λ t. t ⊗ res m pos (inverse m (norm f j))) (entries-gram-expand u j h)
-        ∙ Q .mul-assoc (entries m pos u j) (entries m pos (norms f) j) (res m pos (inverse m (norm f j))) ∙ ap (λ t. entries m pos u j ⊗ t) norm-inverse ∙ Q .mul-one (entries m pos u j))
+    entries-gramDecompose u j h =
+        ap ι (table-entry (size f) (λ j. getD (adjoint f (hankelProduct f (expand f u))) j 0 * inverse m (norm f j) % m) j 0 h)
+        ∙ simp (res-mod m pos, res-mul m pos) (ap (λ t. t ⊗ ι (inverse m (norm f j))) (entries-gram-expand u j h)
+        ∙ Q .mul-assoc (E u j) (E (norms f) j) (ι (inverse m (norm f j))) ∙ ap (λ t. E u j ⊗ t) norm-inverse ∙ Q .mul-one (E u j))
       where
-        norm-inverse : entries m pos (norms f) j ⊗ res m pos (inverse m (norm f j)) ≡ Q .one
+        norm-inverse : E (norms f) j ⊗ ι (inverse m (norm f j)) ≡ Q .one
         norm-inverse = rw (norms-entry f j h) (residue-inverse m pos (norm f j) (rw (norms-entry f j h) at (norms-have-inverses f c j h)))
 
     pub gram-expand : (u : List ℕ) → Curve f u → gramDecompose f (expand f u) ≡ u
-    gram-expand u cu = curves-equal-residues f (gramDecompose f (expand f u)) u (gramDecompose-curve f pos (expand f u)) cu pos (entries-gramDecompose u)
+    gram-expand u cu = curves-equal-residues f (gramDecompose f (expand f u)) u (gramDecompose-curve f pos (expand f u)) cu pos
+        (entries-gramDecompose u)
 
 pub gram-decompose : (f : Family) → Convertible f → (p : List ℕ) → Curve f p → gramDecompose f p ≡ decompose f p
 gram-decompose f c p cp = let two : 2 ≤ f .m = c .modulus in let pos : 0 < f .m = omega arith in
-    ap (gramDecompose f) (sym (expand-decompose f (convertible-decomposable f c) p cp)) ∙ gram-expand f pos c (decompose f p) (decompose-curve f pos p)
+    ap (gramDecompose f) (sym (expand-decompose f (convertible-decomposable f c) p cp))
+    ∙ gram-expand f pos c (decompose f p) (decompose-curve f pos p)

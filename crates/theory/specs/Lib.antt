@@ -3,7 +3,8 @@
 --   the definitions read in the ring of residues: Curves, Bridge
 --   families closed by another row, and the family of no rows: Closing, Alone
 --   round trips, linearity, the transposed identity: RoundTrip, Linear, TransposedIdentity
---   moments, norms and the product law (demand 3): Reversal, Determinant, Favard, Form, Orthogonal, Quotient, Moments, ProductLaw, Gram, NormInverse
+--   moments, norms and the product law (demand 3): Reversal, Determinant, Favard, BilinearForm, Orthogonal, Quotient, Moments,
+--   ProductLaw, Gram, NormInverse
 -- docs/THEOREMS.md leads from the demands to the statements. Assumes nothing.
 pub mod Recurrence
 pub mod Operator
@@ -18,7 +19,7 @@ pub mod TransposedIdentity
 pub mod Reversal
 pub mod Determinant
 pub mod Favard
-pub mod Form
+pub mod BilinearForm
 pub mod Orthogonal
 pub mod Quotient
 pub mod Moments

@@ -15,8 +15,8 @@ use Rattle.algebra.specs.Sum.{sum, sum-cong, sum-add, sum-mul-left}
 use Rattle.definitions.specs.Conversion.{expand, adjoint, decompose}
 use Rattle.definitions.specs.Family.{Family, Curve, size}
 use Rattle.definitions.specs.Number.{table}
-use Rattle.theory.specs.Bridge.{entries, rowsOf, entries-expand, entries-adjoint, expand-curve, adjoint-curve}
 use Rattle.numbers.specs.Lists.{table-entry}
+use Rattle.theory.specs.Bridge.{entries, rowsOf, entries-expand, entries-adjoint, expand-curve, adjoint-curve}
 use Rattle.theory.specs.Recurrence.{term}
 use Rattle.theory.specs.RoundTrip.{Decomposable, expand-decompose, decompose-unique}
 use Rattle.theory.specs.Curves.{table-curve, curves-equal-residues}
@@ -33,7 +33,8 @@ module _ (R : CommRing) where
   pub sum-combine : (n : ℕ) (x y : Car) (u v φ : ℕ → Car)
       → sum R n (λ j. (x ⊗ u j ⊕ y ⊗ v j) ⊗ φ j) ≡ x ⊗ sum R n (λ j. u j ⊗ φ j) ⊕ y ⊗ sum R n (λ j. v j ⊗ φ j)
   sum-combine n x y u v φ = sum-cong R n (λ j h. ring R (x ∷ y ∷ u j ∷ v j ∷ φ j ∷ []) (search reify depth 20) tt)
-      ∙ sum-add R n (λ j. x ⊗ (u j ⊗ φ j)) (λ j. y ⊗ (v j ⊗ φ j)) ∙ ap₂ _⊕_ (sum-mul-left R n x (λ j. u j ⊗ φ j)) (sum-mul-left R n y (λ j. v j ⊗ φ j))
+      ∙ sum-add R n (λ j. x ⊗ (u j ⊗ φ j)) (λ j. y ⊗ (v j ⊗ φ j))
+      ∙ ap₂ _⊕_ (sum-mul-left R n x (λ j. u j ⊗ φ j)) (sum-mul-left R n y (λ j. v j ⊗ φ j))
 
 -- ---- over the definitions
 module _ (f : Family) (pos : 0 < f .m) where
@@ -71,7 +72,8 @@ module _ (f : Family) (pos : 0 < f .m) where
   pub expand-linear : (x : ℕ) (u : List ℕ) (y : ℕ) (v : List ℕ) → expand f (combine m n x u y v) ≡ combine m n x (expand f u) y (expand f v)
   expand-linear = matrix-linear (λ j i. term Q (rowsOf f pos) (suc j) i) (expand f) (expand-curve f pos) (entries-expand f pos)
 
-  pub adjoint-linear : (x : ℕ) (u : List ℕ) (y : ℕ) (v : List ℕ) → adjoint f (combine m n x u y v) ≡ combine m n x (adjoint f u) y (adjoint f v)
+  pub adjoint-linear : (x : ℕ) (u : List ℕ) (y : ℕ) (v : List ℕ)
+      → adjoint f (combine m n x u y v) ≡ combine m n x (adjoint f u) y (adjoint f v)
   adjoint-linear = matrix-linear (λ i j. term Q (rowsOf f pos) (suc j) i) (adjoint f) (adjoint-curve f pos) (entries-adjoint f pos)
 
 pub decompose-linear : (f : Family) → Decomposable f → (x : ℕ) (p : List ℕ) (y : ℕ) (q : List ℕ) → Curve f p → Curve f q

@@ -17,15 +17,15 @@ use Rattle.definitions.specs.Family.{Family, Convertible, Curve, rows, size, ro
 use Rattle.definitions.specs.Number.{HasInverse, inverse}
 use Rattle.definitions.specs.Orthogonality as Orthogonality
 use Rattle.definitions.specs.Orthogonality.{momentCount, moments, norm, norms}
+use Rattle.numbers.specs.Lists.{table-entry}
+use Rattle.numbers.specs.Residue.{residue-negative, residue-inverse, residue-unit}
 use Rattle.theory.specs.Bridge.{entries, rowsOf, res-F, res-G}
 use Rattle.theory.specs.Curves.{table-curve}
 use Rattle.theory.specs.Determinant.{signedProduct}
 use Rattle.theory.specs.Favard.{Regular, Moments}
-use Rattle.numbers.specs.Lists.{table-entry}
 use Rattle.theory.specs.Orthogonal.{Norms, norm-unit}
 use Rattle.theory.specs.Quotient.{quotient-length, quotient-below, quotient-mul}
 use Rattle.theory.specs.Recurrence.{Rows, later, term}
-use Rattle.numbers.specs.Residue.{residue-negative, residue-inverse, residue-unit}
 use Rattle.theory.specs.Reversal.{reversal, reversed}
 use Rattle.theory.specs.RoundTrip.{leading-product}
 
@@ -61,23 +61,30 @@ module _ (f : Family) (pos : 0 < f .m) where
   abbrev ρ : Rows Q
   ρ = rowsOf f pos
 
-  entries-reversal : (k : ℕ) (p : ℕ → ℕ) (i : ℕ) → entries m pos (Orthogonality.reversal k p) i ≡ reversal Q k (λ j. res m pos (p j)) i
+  abbrev ι : ℕ → Q .Car
+  ι = res m pos
+
+  abbrev E : List ℕ → ℕ → Q .Car
+  E = entries m pos
+
+  entries-reversal : (k : ℕ) (p : ℕ → ℕ) (i : ℕ) → E (Orthogonality.reversal k p) i ≡ reversal Q k (λ j. ι (p j)) i
   unfolding Orthogonality.reversal reversal
   entries-reversal zero p i = res-zero m pos
   entries-reversal (suc k) p zero = refl
   entries-reversal (suc k) p (suc i) = entries-reversal k p i
 
   -- the series of the reversal of a list of coefficients whose residues are the terms of a recurrence
-  reversal-series : (σ : Rows Q) (k : ℕ) (p : ℕ → ℕ) → ((i : ℕ) → res m pos (p i) ≡ term Q σ k i) → gen Q (entries m pos (Orthogonality.reversal k p)) ≡ reversed Q σ k
+  reversal-series : (σ : Rows Q) (k : ℕ) (p : ℕ → ℕ) → ((i : ℕ) → ι (p i) ≡ term Q σ k i)
+      → gen Q (E (Orthogonality.reversal k p)) ≡ reversed Q σ k
   unfolding reversed
   reversal-series σ k p e = ap (gen Q) (fun-ext (λ i. entries-reversal k p i ∙ ap (λ q. reversal Q k q i) (fun-ext e)))
 
-  pub res-signedProduct : (i : ℕ) → res m pos (Orthogonality.signedProduct f i) ≡ signedProduct Q ρ i
+  pub res-signedProduct : (i : ℕ) → ι (Orthogonality.signedProduct f i) ≡ signedProduct Q ρ i
   unfolding Orthogonality.signedProduct signedProduct
   res-signedProduct zero = res-one m pos
   res-signedProduct (suc i) = simp (res-mod m pos, res-mul m pos, residue-negative m pos, res-signedProduct i)
 
-  pub res-norm : (i : ℕ) → res m pos (norm f i) ≡ signedProduct Q ρ i ⊗ res m pos (inverse m (rowAt f i .a))
+  pub res-norm : (i : ℕ) → ι (norm f i) ≡ signedProduct Q ρ i ⊗ ι (inverse m (rowAt f i .a))
   unfolding norm
   res-norm i = simp (res-mod m pos, res-mul m pos, res-signedProduct)
 
@@ -95,12 +102,14 @@ module _ (f : Family) (pos : 0 < f .m) where
     divisor-has-inverse = (residue-unit m pos (F f (size f) (size f)) (c .modulus)) .1
         (rw (leading-product f pos (size f)) (product-unit Q (size f) (ρ .a) (λ i h. convertible-regular .aUnit i (omega arith))))
 
-    pub convertible-moments : Moments Q (rows f) ρ (entries m pos (moments f))
+    pub convertible-moments : Moments Q (rows f) ρ (E (moments f))
     unfolding moments
     convertible-moments = record {
       regular = convertible-regular;
-      quotient = λ k h. ap (λ t. co Q t k) (ap (λ t. t * series (moments f)) (sym divisor) ∙ (Ser Q) .mul-comm (series d) (series (moments f)))
-          ∙ quotient-mul m g d pos divisor-has-inverse (momentCount f) k (omega arith) ∙ ap (λ t. co Q t k) (reversal-series (later Q ρ) (size f) (G f (rows f)) (res-G f pos (rows f)));
+      quotient = λ k h. ap (λ t. co Q t k)
+          (ap (λ t. t * series (moments f)) (sym divisor) ∙ (Ser Q) .mul-comm (series d) (series (moments f)))
+          ∙ quotient-mul m g d pos divisor-has-inverse (momentCount f) k (omega arith)
+          ∙ ap (λ t. co Q t k) (reversal-series (later Q ρ) (size f) (G f (rows f)) (res-G f pos (rows f)));
     }
       where
         g : List ℕ
@@ -110,18 +119,19 @@ module _ (f : Family) (pos : 0 < f .m) where
         d = Orthogonality.reversal (suc (size f)) (F f (size f))
 
         series : List ℕ → Series
-        series u = gen Q (entries m pos u)
+        series u = gen Q (E u)
 
         divisor : series d ≡ reversed Q ρ (suc (size f))
         divisor = reversal-series ρ (suc (size f)) (F f (size f)) (res-F f pos (size f))
 
-    pub convertible-norms : Norms Q (rows f) ρ (entries m pos (norms f))
+    pub convertible-norms : Norms Q (rows f) ρ (E (norms f))
     convertible-norms = record {
-      norm = λ i h. ap (λ t. res m pos t ⊗ ρ .a i) (norms-entry f i (omega arith)) ∙ ap (λ t. t ⊗ ρ .a i) (res-norm i)
-          ∙ linear Q (signedProduct Q ρ i ∷ ρ .a i ∷ res m pos (inverse m (rowAt f i .a)) ∷ [])
+      norm = λ i h. ap (λ t. ι t ⊗ ρ .a i) (norms-entry f i (omega arith)) ∙ ap (λ t. t ⊗ ρ .a i) (res-norm i)
+          ∙ linear Q (signedProduct Q ρ i ∷ ρ .a i ∷ ι (inverse m (rowAt f i .a)) ∷ [])
           (scaled Q (signedProduct Q ρ i) (residue-inverse m pos (rowAt f i .a) (c .aInverse i (omega arith)))) (search reify depth 20) tt;
     }
 
 pub norms-have-inverses : (f : Family) → Convertible f → (i : ℕ) → i < size f → HasInverse (f .m) (getD (norms f) i 0)
 norms-have-inverses f c i h = let two : 2 ≤ f .m = c .modulus in let pos : 0 < f .m = omega arith in
-    (residue-unit (f .m) pos (getD (norms f) i 0) two) .1 (norm-unit (convertible-regular f pos c) (convertible-norms f pos c) i (omega arith))
+    (residue-unit (f .m) pos (getD (norms f) i 0) two) .1
+    (norm-unit (convertible-regular f pos c) (convertible-norms f pos c) i (omega arith))

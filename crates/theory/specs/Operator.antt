@@ -11,7 +11,7 @@
 -- Assumes nothing.
 use mathlib.Core.Path.{_≡_, refl, sym, _∙_, ap, ap₂, fun-ext}
 use mathlib.Core.List.{[], _∷_}
-use Prim.Native.Nat.{ℕ, zero, suc, _+_, _≤_}
+use Prim.Native.Nat.{ℕ, zero, suc, _+_, _<_, _≤_}
 use native.Mathlib.Nat.{add-zero, zero-add}
 use native.Mathlib.Omega.{arith}
 use Rattle.algebra.specs.Product.{product, product-empty, product-last}
@@ -48,7 +48,8 @@ module _ (R : CommRing) where
   operator-combine X x y v w t = X .to-add (λ s. x ⊗ v s) (λ s. y ⊗ w s) t ∙ ap₂ _⊕_ (X .to-mul x v t) (X .to-mul y w t)
 
   -- the image of one step, where φ exchanges the operators at the term that X is applied to
-  pub follows-image : (X Y φ : Operator) (ρ : Rows R) (y : ℕ → ℕ → Car) → Follows X ρ y → (k t : ℕ) → φ .to (X .to (y (suc k))) t ≡ Y .to (φ .to (y (suc k))) t
+  pub follows-image : (X Y φ : Operator) (ρ : Rows R) (y : ℕ → ℕ → Car) → Follows X ρ y → (k t : ℕ)
+      → φ .to (X .to (y (suc k))) t ≡ Y .to (φ .to (y (suc k))) t
       → φ .to (y (suc (suc k))) t ≡ ρ .a k ⊗ Y .to (φ .to (y (suc k))) t ⊕ ρ .b k ⊗ φ .to (y (suc k)) t ⊕ ρ .c k ⊗ φ .to (y k) t
   follows-image X Y φ ρ y fy k t exchange = ap (λ w. φ .to w t) (fun-ext (fy k))
       ∙ φ .to-add (λ s. ρ .a k ⊗ X .to (y (suc k)) s ⊕ ρ .b k ⊗ y (suc k) s) (λ s. ρ .c k ⊗ y k s) t
@@ -71,7 +72,11 @@ module _ (R : CommRing) where
       scales x w (suc t) = refl
 
   abbrev pub readings : (ℕ → Car) → Operator
-  readings z = record { to = λ w t. z t ⊗ w t; to-add = λ v w t. R .mul-add (z t) (v t) (w t); to-mul = λ x w t. Ring.mul-left-comm R (z t) x (w t) }
+  readings z = record {
+    to = λ w t. z t ⊗ w t;
+    to-add = λ v w t. R .mul-add (z t) (v t) (w t);
+    to-mul = λ x w t. Ring.mul-left-comm R (z t) x (w t);
+  }
 
   abbrev pub backward : Operator
   backward = record { to = λ w t. w (suc t); to-add = λ v w t. refl; to-mul = λ x w t. refl }
@@ -109,16 +114,21 @@ module _ (R : CommRing) where
 
   value-shift : (p : ℕ → Car) (n : ℕ) (x : Car) → sum R (suc n) (λ i. power x i ⊗ shift R p i) ≡ x ⊗ sum R n (λ i. power x i ⊗ p i)
   value-shift p n x = sum-first R n (λ i. power x i ⊗ shift R p i)
-      ∙ ap₂ _⊕_ (Ring.mul-zero R (power x 0)) (sum-cong R n (λ i h. ap (λ t. t ⊗ p i) (product-last R i (λ j. x)) ∙ ring R (p i ∷ x ∷ power x i ∷ []) (search reify depth 20) tt))
+      ∙ ap₂ _⊕_ (Ring.mul-zero R (power x 0)) (sum-cong R n next)
       ∙ Ring.zero-add R (sum R n (λ i. x ⊗ (power x i ⊗ p i))) ∙ sum-mul-left R n x (λ i. power x i ⊗ p i)
+    where
+      next : (i : ℕ) → i < n → power x (suc i) ⊗ p i ≡ x ⊗ (power x i ⊗ p i)
+      next i h = ap (λ t. t ⊗ p i) (product-last R i (λ j. x)) ∙ ring R (p i ∷ x ∷ power x i ∷ []) (search reify depth 20) tt
 
   pub value-follows : (ρ : Rows R) (z : ℕ → Car) → Follows (readings z) ρ (λ k t. value ρ k (z t))
   value-follows ρ z k t =
       let n : ℕ = suc (suc k) in
       let here = value-cut ρ (suc k) n (z t) (omega arith) in
       let before = value-cut ρ k n (z t) (omega arith) in
-      let exchange = value-shift (term R ρ (suc k)) (suc k) (z t) ∙ ap (λ s. z t ⊗ s) (value-cut ρ (suc k) (suc k) (z t) (omega arith) ∙ sym here) in
-      sym (value-cut ρ n n (z t) (omega arith)) ∙ follows-image forward (readings z) (against n (λ t. power (z t))) ρ (term R ρ) (term-follows ρ) k t exchange
+      let exchange = value-shift (term R ρ (suc k)) (suc k) (z t)
+      ∙ ap (λ s. z t ⊗ s) (value-cut ρ (suc k) (suc k) (z t) (omega arith) ∙ sym here) in
+      sym (value-cut ρ n n (z t) (omega arith))
+      ∙ follows-image forward (readings z) (against n (λ t. power (z t))) ρ (term R ρ) (term-follows ρ) k t exchange
       ∙ rw (here, before)
 
   -- ---- pairings with a sequence that is zero from n on
@@ -136,18 +146,22 @@ module _ (R : CommRing) where
     module _ (ends : (i : ℕ) → n ≤ i → u i ≡ 𝟘) where
       -- one term more, which is zero, and the first one apart
       pairing-first : (p : ℕ → Car) (t : ℕ) → pairing .to p t ≡ u t ⊗ p 0 ⊕ sum R n (λ i. u (suc t + i) ⊗ p (suc i))
-      pairing-first p t = sym (sum-cut R n (suc n) (λ i. u (t + i) ⊗ p i) (omega arith) (λ i h. ap (λ x. x ⊗ p i) (ends (t + i) (omega arith)) ∙ Ring.zero-mul R (p i)))
-          ∙ sum-first R n (λ i. u (t + i) ⊗ p i) ∙ ap₂ _⊕_ (ap (λ j. u j ⊗ p 0) (add-zero t)) (sum-cong R n (λ i h. ap (λ j. u j ⊗ p (suc i)) (omega arith)))
+      pairing-first p t = sym (sum-cut R n (suc n) (λ i. u (t + i) ⊗ p i) (omega arith)
+          (λ i h. ap (λ x. x ⊗ p i) (ends (t + i) (omega arith)) ∙ Ring.zero-mul R (p i)))
+          ∙ sum-first R n (λ i. u (t + i) ⊗ p i)
+          ∙ ap₂ _⊕_ (ap (λ j. u j ⊗ p 0) (add-zero t)) (sum-cong R n (λ i h. ap (λ j. u j ⊗ p (suc i)) (omega arith)))
 
       pub pairing-past : (p : ℕ → Car) (t : ℕ) → n ≤ t → pairing .to p t ≡ 𝟘
       pairing-past p t h = sum-vanish R n (λ i l. ap (λ x. x ⊗ p i) (ends (t + i) (omega arith)) ∙ Ring.zero-mul R (p i))
 
       pub pairing-forward : (p : ℕ → Car) (t : ℕ) → pairing .to (shift R p) t ≡ pairing .to p (suc t)
-      pairing-forward p t = pairing-first (shift R p) t ∙ ap (λ x. x ⊕ pairing .to p (suc t)) (Ring.mul-zero R (u t)) ∙ Ring.zero-add R (pairing .to p (suc t))
+      pairing-forward p t = pairing-first (shift R p) t ∙ ap (λ x. x ⊕ pairing .to p (suc t)) (Ring.mul-zero R (u t))
+          ∙ Ring.zero-add R (pairing .to p (suc t))
 
       pub pairing-follows : (ρ : Rows R) → Follows backward ρ (λ k. pairing .to (term R ρ k))
       pairing-follows ρ = follows-map forward backward pairing ρ (term R ρ) pairing-forward (term-follows ρ)
 
       pub pairing-one : (ρ : Rows R) (t : ℕ) → pairing .to (term R ρ 1) t ≡ u t
       unfolding term
-      pairing-one ρ t = pairing-first (term R ρ 1) t ∙ ap₂ _⊕_ (R .mul-one (u t)) (sum-vanish R n (λ i h. Ring.mul-zero R (u (suc t + i)))) ∙ R .add-zero (u t)
+      pairing-one ρ t = pairing-first (term R ρ 1) t
+          ∙ ap₂ _⊕_ (R .mul-one (u t)) (sum-vanish R n (λ i h. Ring.mul-zero R (u (suc t + i)))) ∙ R .add-zero (u t)

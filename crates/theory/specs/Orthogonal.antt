@@ -19,7 +19,7 @@ use Rattle.algebra.specs.Unit.{IsUnit, unit-cancel, unit-one, unit-neg, unit-mu
 use Rattle.theory.specs.Combination.{combination}
 use Rattle.theory.specs.Determinant.{signedProduct}
 use Rattle.theory.specs.Favard.{Regular, Moments, remainder, pivot, remainder-vanishes, pivot-is}
-use Rattle.theory.specs.Form.{form, form-rows, form-sym, form-left, form-right}
+use Rattle.theory.specs.BilinearForm.{form, form-rows, form-sym, form-left, form-right}
 use Rattle.theory.specs.Recurrence.{Rows, later, term, degree, leading}
 use Rattle.theory.specs.Reversal.{reversed, co-reversed-mul, co-reversed-past}
 
@@ -52,15 +52,24 @@ module _ {R : CommRing} {r : ℕ} {ρ : Rows R} {s : ℕ → R .Car} (w : Moment
   infixl 65 _⊕_
   infixl 70 _⊗_ _*_
   infix 75 ⊖_ -_
+  -- the coefficients of F_i, and the form of the moments
+  abbrev F : ℕ → ℕ → Car
+  F i = term R ρ (suc i)
+
+  abbrev L : (ℕ → Car) → (ℕ → Car) → Car
+  L = form R (suc r) s
+
   -- F_i against x^k
   against : ℕ → ℕ → Car
-  against i k = sum R (suc r) (λ j. term R ρ (suc i) j ⊗ s (k +ℕ j))
+  against i k = sum R (suc r) (λ j. F i j ⊗ s (k +ℕ j))
 
   against-is : (i k : ℕ) → i ≤ r → against i k ≡ co R (remainder R ρ s i) (i +ℕ k)
   unfolding against remainder
-  against-is i k h = sum-cut R (suc i) (suc r) (λ j. term R ρ (suc i) j ⊗ s (k +ℕ j)) (omega arith) (λ j g. ap (λ t. t ⊗ s (k +ℕ j)) (degree R ρ (suc i) j g) ∙ Ring.zero-mul R (s (k +ℕ j)))
+  against-is i k h = sum-cut R (suc i) (suc r) (λ j. F i j ⊗ s (k +ℕ j)) (omega arith)
+      (λ j g. ap (λ t. t ⊗ s (k +ℕ j)) (degree R ρ (suc i) j g) ∙ Ring.zero-mul R (s (k +ℕ j)))
       ∙ sym (co-add R (reversed R ρ (suc i) * gen R s) (- reversed R (later R ρ) i) (i +ℕ k)
-      ∙ ap₂ _⊕_ (co-reversed-mul R ρ s i k) (co-neg R (reversed R (later R ρ) i) (i +ℕ k) ∙ ap ⊖_ (co-reversed-past R (later R ρ) i (i +ℕ k) (omega arith)) ∙ Ring.neg-zero R) ∙ R .add-zero _)
+      ∙ ap₂ _⊕_ (co-reversed-mul R ρ s i k) (co-neg R (reversed R (later R ρ) i) (i +ℕ k)
+      ∙ ap ⊖_ (co-reversed-past R (later R ρ) i (i +ℕ k) (omega arith)) ∙ Ring.neg-zero R) ∙ R .add-zero _)
 
   against-below : (i k : ℕ) → i ≤ r → k < i → against i k ≡ 𝟘
   against-below i k h l = against-is i k h ∙ remainder-vanishes w i h (i +ℕ k) (omega arith)
@@ -70,35 +79,46 @@ module _ {R : CommRing} {r : ℕ} {ρ : Rows R} {s : ℕ → R .Car} (w : Moment
   against-same i h = against-is i i h
 
   -- the terms of F_j against F_i for j ≤ i vanish but for the one at x^i: below it F_i gives zero, and above it F_j ends
-  term-against : (i j k : ℕ) → i ≤ r → j ≤ i → ¬ (k ≡ i) → term R ρ (suc j) k ⊗ against i k ≡ 𝟘
-  term-against i j k h l z = elim (decLt k i) [ yes p ↦ ap (λ t. term R ρ (suc j) k ⊗ t) (against-below i k h p) ∙ Ring.mul-zero R (term R ρ (suc j) k) | no p ↦ ap (λ t. t ⊗ against i k) (degree R ρ (suc j) k (omega arith)) ∙ Ring.zero-mul R (against i k) ]
+  term-against : (i j k : ℕ) → i ≤ r → j ≤ i → ¬ (k ≡ i) → F j k ⊗ against i k ≡ 𝟘
+  term-against i j k h l z = elim (decLt k i) [
+    | yes p ↦ ap (λ t. F j k ⊗ t) (against-below i k h p) ∙ Ring.mul-zero R (F j k)
+    | no p ↦ ap (λ t. t ⊗ against i k) (degree R ρ (suc j) k (omega arith)) ∙ Ring.zero-mul R (against i k)
+  ]
 
-  form-against : (i j : ℕ) → i ≤ r → j ≤ i → form R (suc r) s (term R ρ (suc j)) (term R ρ (suc i)) ≡ term R ρ (suc j) i ⊗ pivot R ρ s i
+  form-against : (i j : ℕ) → i ≤ r → j ≤ i → L (F j) (F i) ≡ F j i ⊗ pivot R ρ s i
   unfolding against
-  form-against i j h l = form-rows R (suc r) s (term R ρ (suc j)) (term R ρ (suc i))
-      ∙ sum-single R (suc r) i (λ k. term R ρ (suc j) k ⊗ against i k) (omega arith) (λ k p z. term-against i j k h l z) ∙ ap (λ t. term R ρ (suc j) i ⊗ t) (against-same i h)
+  form-against i j h l = form-rows R (suc r) s (F j) (F i)
+      ∙ sum-single R (suc r) i (λ k. F j k ⊗ against i k) (omega arith) (λ k p z. term-against i j k h l z)
+      ∙ ap (λ t. F j i ⊗ t) (against-same i h)
 
-  form-lower : (i j : ℕ) → i ≤ r → j < i → form R (suc r) s (term R ρ (suc j)) (term R ρ (suc i)) ≡ 𝟘
-  form-lower i j h l = form-against i j h (omega arith) ∙ ap (λ t. t ⊗ pivot R ρ s i) (degree R ρ (suc j) i l) ∙ Ring.zero-mul R (pivot R ρ s i)
+  form-lower : (i j : ℕ) → i ≤ r → j < i → L (F j) (F i) ≡ 𝟘
+  form-lower i j h l = form-against i j h (omega arith) ∙ ap (λ t. t ⊗ pivot R ρ s i) (degree R ρ (suc j) i l)
+      ∙ Ring.zero-mul R (pivot R ρ s i)
 
-  pub form-apart : (i j : ℕ) → i ≤ r → j ≤ r → ¬ (i ≡ j) → form R (suc r) s (term R ρ (suc i)) (term R ρ (suc j)) ≡ 𝟘
-  form-apart i j h g z = elim (decLt i j) [ yes p ↦ form-lower j i g p | no p ↦ form-sym R (suc r) s (term R ρ (suc i)) (term R ρ (suc j)) ∙ form-lower i j h (omega arith) ]
+  pub form-apart : (i j : ℕ) → i ≤ r → j ≤ r → ¬ (i ≡ j) → L (F i) (F j) ≡ 𝟘
+  form-apart i j h g z = elim (decLt i j) [
+    | yes p ↦ form-lower j i g p
+    | no p ↦ form-sym R (suc r) s (F i) (F j) ∙ form-lower i j h (omega arith)
+  ]
 
   -- ---- with the norms
   module _ {d : ℕ → Car} (o : Norms R r ρ d) where
-    pub form-same : (i : ℕ) → i ≤ r → form R (suc r) s (term R ρ (suc i)) (term R ρ (suc i)) ≡ d i
+    pub form-same : (i : ℕ) → i ≤ r → L (F i) (F i) ≡ d i
     form-same i h = form-against i i h (omega arith) ∙ ap (λ t. t ⊗ pivot R ρ s i) (leading R ρ i)
         ∙ unit-cancel R (product R i (ρ .a) ⊗ pivot R ρ s i) (d i) (w .regular .aUnit i h)
-        (linear R (ρ .a i ∷ product R i (ρ .a) ∷ pivot R ρ s i ∷ d i ∷ signedProduct R ρ i ∷ []) (both R (scaled R 𝟙 signed) (scaled R (⊖ 𝟙) (o .norm i h))) (search reify depth 20) tt)
+        (linear R (ρ .a i ∷ product R i (ρ .a) ∷ pivot R ρ s i ∷ d i ∷ signedProduct R ρ i ∷ [])
+        (both R (scaled R 𝟙 signed) (scaled R (⊖ 𝟙) (o .norm i h))) (search reify depth 20) tt)
       where
         signed : product R i (ρ .a) ⊗ ρ .a i ⊗ pivot R ρ s i ≡ signedProduct R ρ i
         signed = ap (λ t. t ⊗ pivot R ρ s i) (sym (product-last R i (ρ .a))) ∙ pivot-is w i h
 
-    pub form-row : (i : ℕ) (v : ℕ → Car) → i ≤ r → form R (suc r) s (term R ρ (suc i)) (combination R ρ (suc r) v) ≡ v i ⊗ d i
-    form-row i v h = form-right R (suc r) s (suc r) (term R ρ (suc i)) v (λ j. term R ρ (suc j))
-        ∙ sum-single R (suc r) i (λ j. v j ⊗ form R (suc r) s (term R ρ (suc i)) (term R ρ (suc j))) (omega arith) (λ j g z. ap (λ t. v j ⊗ t) (form-apart i j h (Nat.le-of-suc-le-suc g) (λ e. z (sym e))) ∙ Ring.mul-zero R (v j))
+    pub form-row : (i : ℕ) (v : ℕ → Car) → i ≤ r → L (F i) (combination R ρ (suc r) v) ≡ v i ⊗ d i
+    form-row i v h = form-right R (suc r) s (suc r) (F i) v F
+        ∙ sum-single R (suc r) i (λ j. v j ⊗ L (F i) (F j)) (omega arith)
+        (λ j g z. ap (λ t. v j ⊗ t) (form-apart i j h (Nat.le-of-suc-le-suc g) (λ e. z (sym e))) ∙ Ring.mul-zero R (v j))
         ∙ ap (λ t. v i ⊗ t) (form-same i h)
 
-    pub form-combination : (u v : ℕ → Car) → form R (suc r) s (combination R ρ (suc r) u) (combination R ρ (suc r) v) ≡ sum R (suc r) (λ i. u i ⊗ v i ⊗ d i)
-    form-combination u v = form-left R (suc r) s (suc r) u (λ j. term R ρ (suc j)) (combination R ρ (suc r) v)
+    pub form-combination : (u v : ℕ → Car) → L (combination R ρ (suc r) u) (combination R ρ (suc r) v)
+        ≡ sum R (suc r) (λ i. u i ⊗ v i ⊗ d i)
+    form-combination u v = form-left R (suc r) s (suc r) u F (combination R ρ (suc r) v)
         ∙ sum-cong R (suc r) (λ i h. ap (λ t. u i ⊗ t) (form-row i v (Nat.le-of-suc-le-suc h)) ∙ sym (R .mul-assoc (u i) (v i) (d i)))

@@ -18,9 +18,9 @@ use Rattle.algebra.specs.Sum as Sum
 use Rattle.algebra.specs.Unit.{IsUnit}
 use Rattle.definitions.specs.Number.{HasInverse, inverse}
 use Rattle.definitions.specs.Orthogonality.{nextQuotient, quotient}
-use Rattle.theory.specs.Bridge.{entries}
 use Rattle.numbers.specs.Lists.{snoc-length, snoc-entry, snoc-last}
 use Rattle.numbers.specs.Residue.{residue-sum, residue-negative, residue-inverse}
+use Rattle.theory.specs.Bridge.{entries}
 
 module _ (m : ℕ) (g d : List ℕ) where
   pub quotient-length : (k : ℕ) → length (quotient m g d k) ≡ k
@@ -34,13 +34,15 @@ module _ (m : ℕ) (g d : List ℕ) where
 
   -- one coefficient more changes none before it
   quotient-kept : (k i : ℕ) → i < k → getD (quotient m g d (suc k)) i 0 ≡ getD (quotient m g d k) i 0
-  quotient-kept k i h = rw (quotient-suc k) (snoc-entry (quotient m g d k) (nextQuotient m g d k (quotient m g d k)) i 0 (rw (quotient-length k) h))
+  quotient-kept k i h = rw (quotient-suc k)
+      (snoc-entry (quotient m g d k) (nextQuotient m g d k (quotient m g d k)) i 0 (rw (quotient-length k) h))
 
   pub quotient-entry : (j k i : ℕ) → i < j → j ≤ k → getD (quotient m g d k) i 0 ≡ getD (quotient m g d j) i 0
   quotient-entry j zero i h l = absurd (omega arith)
   quotient-entry j (suc k) i h l = at (eq-or-lt-of-le l) (quotient-entry j k i h)
     where
-      at : (j ≡ suc k) ⊎ (j < suc k) → (j ≤ k → getD (quotient m g d k) i 0 ≡ getD (quotient m g d j) i 0) → getD (quotient m g d (suc k)) i 0 ≡ getD (quotient m g d j) i 0
+      at : (j ≡ suc k) ⊎ (j < suc k) → (j ≤ k → getD (quotient m g d k) i 0 ≡ getD (quotient m g d j) i 0)
+          → getD (quotient m g d (suc k)) i 0 ≡ getD (quotient m g d j) i 0
       at (inl same) ih = rw same
       at (inr less) ih = quotient-kept k i (omega arith) ∙ ih (omega arith)
 
@@ -63,11 +65,21 @@ module _ (m : ℕ) (g d : List ℕ) where
     infixl 65 _⊕_
     infixl 70 _⊗_ _*_
     infix 75 ⊖_
-    abbrev series : List ℕ → Series
-    series u = gen Q (entries m pos u)
+    abbrev ι : ℕ → Q .Car
+    ι = res m pos
 
-    res-nextQuotient : (k : ℕ) (q : List ℕ) → res m pos (nextQuotient m g d k q)
-        ≡ (entries m pos g k ⊕ ⊖ Sum.sum Q k (λ j. entries m pos q j ⊗ entries m pos d (k - j))) ⊗ res m pos (inverse m (getD d 0 0))
+    abbrev E : List ℕ → ℕ → Q .Car
+    E = entries m pos
+
+    abbrev series : List ℕ → Series
+    series u = gen Q (E u)
+
+    -- the inverse of d_0
+    abbrev d₀⁻¹ : Q .Car
+    d₀⁻¹ = ι (inverse m (getD d 0 0))
+
+    res-nextQuotient : (k : ℕ) (q : List ℕ) → ι (nextQuotient m g d k q)
+        ≡ (E g k ⊕ ⊖ Sum.sum Q k (λ j. E q j ⊗ E d (k - j))) ⊗ d₀⁻¹
     unfolding nextQuotient
     res-nextQuotient k q = simp (res-mod m pos, res-mul m pos, res-add m pos, residue-negative m pos, residue-sum m pos)
 
@@ -75,9 +87,10 @@ module _ (m : ℕ) (g d : List ℕ) where
     quotient-mul h n = mul-of-steps Q (series d) unit (series g) (series (quotient m g d n)) n (λ k l. simp (co-gen Q) (step k l))
       where
         unit : IsUnit Q (co Q (series d) 0)
-        unit = (res m pos (inverse m (getD d 0 0)), ap (λ t. t ⊗ res m pos (inverse m (getD d 0 0))) (co-gen Q (entries m pos d) 0) ∙ residue-inverse m pos (getD d 0 0) h)
+        unit = (d₀⁻¹, ap (λ t. t ⊗ d₀⁻¹) (co-gen Q (E d) 0) ∙ residue-inverse m pos (getD d 0 0) h)
 
-        step : (k : ℕ) → k < n → entries m pos (quotient m g d n) k
-            ≡ (entries m pos g k ⊕ ⊖ Sum.sum Q k (λ j. entries m pos (quotient m g d n) j ⊗ entries m pos d (k - j))) ⊗ res m pos (inverse m (getD d 0 0))
-        step k l = ap (res m pos) (quotient-next n k l) ∙ res-nextQuotient k (quotient m g d k)
-            ∙ ap (λ t. (entries m pos g k ⊕ ⊖ t) ⊗ res m pos (inverse m (getD d 0 0))) (Sum.sum-cong Q k (λ j p. ap (λ t. res m pos t ⊗ entries m pos d (k - j)) (sym (quotient-entry k n j p (omega arith)))))
+        step : (k : ℕ) → k < n → E (quotient m g d n) k
+            ≡ (E g k ⊕ ⊖ Sum.sum Q k (λ j. E (quotient m g d n) j ⊗ E d (k - j))) ⊗ d₀⁻¹
+        step k l = ap ι (quotient-next n k l) ∙ res-nextQuotient k (quotient m g d k)
+            ∙ ap (λ t. (E g k ⊕ ⊖ t) ⊗ d₀⁻¹)
+            (Sum.sum-cong Q k (λ j p. ap (λ t. ι t ⊗ E d (k - j)) (sym (quotient-entry k n j p (omega arith)))))

@@ -39,7 +39,8 @@ module _ (R : CommRing) where
   poly ρ k = gen R (term ρ k)
 
   -- ---- the clauses, as equations
-  pub term-step : (ρ : Rows) (k i : ℕ) → term ρ (suc (suc k)) i ≡ ρ .a k ⊗ shift R (term ρ (suc k)) i ⊕ ρ .b k ⊗ term ρ (suc k) i ⊕ ρ .c k ⊗ term ρ k i
+  pub term-step : (ρ : Rows) (k i : ℕ) → term ρ (suc (suc k)) i
+      ≡ ρ .a k ⊗ shift R (term ρ (suc k)) i ⊕ ρ .b k ⊗ term ρ (suc k) i ⊕ ρ .c k ⊗ term ρ k i
   unfolding term
   term-step ρ k i = refl
 
@@ -63,7 +64,8 @@ module _ (R : CommRing) where
       at zero = co-poly ρ 1 0 ∙ sym (co-one-zero R)
       at (suc i) = co-poly ρ 1 (suc i) ∙ sym (co-one-suc R i)
 
-  pub poly-step : (ρ : Rows) (k : ℕ) → poly ρ (suc (suc k)) ≡ C R (ρ .a k) * (X R * poly ρ (suc k)) + C R (ρ .b k) * poly ρ (suc k) + C R (ρ .c k) * poly ρ k
+  pub poly-step : (ρ : Rows) (k : ℕ) → poly ρ (suc (suc k))
+      ≡ C R (ρ .a k) * (X R * poly ρ (suc k)) + C R (ρ .b k) * poly ρ (suc k) + C R (ρ .c k) * poly ρ k
   poly-step ρ k = ser-ext R (λ i. co-poly ρ (suc (suc k)) i ∙ term-step ρ k i ∙ sym (at i))
     where
       at : (i : ℕ) → co R (C R (ρ .a k) * (X R * poly ρ (suc k)) + C R (ρ .b k) * poly ρ (suc k) + C R (ρ .c k) * poly ρ k) i
@@ -78,11 +80,24 @@ module _ (R : CommRing) where
   degree ρ (suc zero) (suc i) h = refl
   degree ρ (suc (suc k)) zero h = absurd (omega arith)
   degree ρ (suc (suc k)) (suc i) h =
-      simp (degree ρ (suc k) i (le-of-suc-le-suc h), degree ρ (suc k) (suc i) (omega arith), degree ρ k (suc i) (omega arith), Ring.mul-zero R, R .add-zero)
+      simp (
+        degree ρ (suc k) i (le-of-suc-le-suc h),
+        degree ρ (suc k) (suc i) (omega arith),
+        degree ρ k (suc i) (omega arith),
+        Ring.mul-zero R,
+        R .add-zero,
+      )
 
   -- the coefficient of x^k in P_k is a_1 .. a_k
   pub leading : (ρ : Rows) (k : ℕ) → term ρ (suc k) k ≡ product R k (ρ .a)
   unfolding term
   leading ρ zero = sym (product-empty R (ρ .a))
   leading ρ (suc k) =
-      simp (leading ρ k, degree ρ (suc k) (suc k) (omega arith), degree ρ k (suc k) (omega arith), Ring.mul-zero R, R .add-zero, product-last R) (R .mul-comm (ρ .a k) (product R k (ρ .a)))
+      simp (
+        leading ρ k,
+        degree ρ (suc k) (suc k) (omega arith),
+        degree ρ k (suc k) (omega arith),
+        Ring.mul-zero R,
+        R .add-zero,
+        product-last R,
+      ) (R .mul-comm (ρ .a k) (product R k (ρ .a)))

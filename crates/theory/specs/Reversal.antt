@@ -79,7 +79,8 @@ module _ (R : CommRing) where
   gen-longer k p z = ap (gen R) (fun-ext (reversal-longer k p z)) ∙ sym (X-mul-gen R (reversal k p))
 
   pub reversed-step : (ρ : Rows R) (k : ℕ)
-      → reversed ρ (suc (suc k)) ≡ C R (ρ .a k) * reversed ρ (suc k) + C R (ρ .b k) * (X R * reversed ρ (suc k)) + C R (ρ .c k) * (X R * (X R * reversed ρ k))
+      → reversed ρ (suc (suc k))
+      ≡ C R (ρ .a k) * reversed ρ (suc k) + C R (ρ .b k) * (X R * reversed ρ (suc k)) + C R (ρ .c k) * (X R * (X R * reversed ρ k))
   unfolding reversed
   reversed-step ρ k = ser-ext R parts ∙ cc (up, once, twice)
     where
@@ -93,11 +94,14 @@ module _ (R : CommRing) where
       once = gen-longer (suc k) (term R ρ (suc k)) (degree R ρ (suc k) (suc k) (omega arith))
 
       twice : back (term R ρ k) ≡ X R * (X R * reversed ρ k)
-      twice = gen-longer (suc k) (term R ρ k) (degree R ρ k (suc k) (omega arith)) ∙ ap (λ f. X R * f) (gen-longer k (term R ρ k) (degree R ρ k k (omega arith)))
+      twice = gen-longer (suc k) (term R ρ k) (degree R ρ k (suc k) (omega arith))
+          ∙ ap (λ f. X R * f) (gen-longer k (term R ρ k) (degree R ρ k k (omega arith)))
 
       parts : (i : ℕ) → co R (back (term R ρ (suc (suc k)))) i
-          ≡ co R (C R (ρ .a k) * back (shift R (term R ρ (suc k))) + C R (ρ .b k) * back (term R ρ (suc k)) + C R (ρ .c k) * back (term R ρ k)) i
-      parts i = co-gen R (reversal (suc (suc k)) (term R ρ (suc (suc k)))) i ∙ ap (λ p. reversal (suc (suc k)) p i) (fun-ext (term-step R ρ k))
+          ≡ co R (C R (ρ .a k) * back (shift R (term R ρ (suc k))) + C R (ρ .b k) * back (term R ρ (suc k))
+          + C R (ρ .c k) * back (term R ρ k)) i
+      parts i = co-gen R (reversal (suc (suc k)) (term R ρ (suc (suc k)))) i
+          ∙ ap (λ p. reversal (suc (suc k)) p i) (fun-ext (term-step R ρ k))
           ∙ reversal-row (suc (suc k)) (ρ .a k) (ρ .b k) (ρ .c k) (shift R (term R ρ (suc k))) (term R ρ (suc k)) (term R ρ k) i
           ∙ sym (simp (co-add R, co-C-mul R, co-gen R))
 
@@ -110,14 +114,17 @@ module _ (R : CommRing) where
   co-reversed-past ρ k i h = co-reversed ρ k i ∙ reversal-past k (term R ρ k) i h
 
   -- ---- sums against a sequence
-  pub diag-reversal : (p s : ℕ → Car) (n k : ℕ) → diag R (n +ℕ k) (λ i j. reversal (suc n) p i ⊗ s j) ≡ sum R (suc n) (λ j. p j ⊗ s (k +ℕ j))
+  pub diag-reversal : (p s : ℕ → Car) (n k : ℕ) → diag R (n +ℕ k) (λ i j. reversal (suc n) p i ⊗ s j)
+      ≡ sum R (suc n) (λ j. p j ⊗ s (k +ℕ j))
   unfolding reversal
   diag-reversal p s zero k = ap (λ t. diag R t (λ i j. reversal 1 p i ⊗ s j)) (Nat.zero-add k) ∙ alone k
-      ∙ sym (sum-last R 0 (λ j. p j ⊗ s (k +ℕ j)) ∙ ap₂ _⊕_ (sum-empty R (λ j. p j ⊗ s (k +ℕ j))) (ap (λ t. p 0 ⊗ s t) (Nat.add-zero k)) ∙ Ring.zero-add R (p 0 ⊗ s k))
+      ∙ sym (sum-last R 0 (λ j. p j ⊗ s (k +ℕ j))
+      ∙ ap₂ _⊕_ (sum-empty R (λ j. p j ⊗ s (k +ℕ j))) (ap (λ t. p 0 ⊗ s t) (Nat.add-zero k)) ∙ Ring.zero-add R (p 0 ⊗ s k))
     where
       alone : (k : ℕ) → diag R k (λ i j. reversal 1 p i ⊗ s j) ≡ p 0 ⊗ s k
       alone zero = diag-zero R (λ i j. reversal 1 p i ⊗ s j)
-      alone (suc k) = diag-first R k (λ i j. reversal 1 p i ⊗ s j) ∙ ap (λ t. p 0 ⊗ s (suc k) ⊕ t) (diag-vanish R k (λ i j e. Ring.zero-mul R (s j))) ∙ R .add-zero (p 0 ⊗ s (suc k))
+      alone (suc k) = diag-first R k (λ i j. reversal 1 p i ⊗ s j)
+          ∙ ap (λ t. p 0 ⊗ s (suc k) ⊕ t) (diag-vanish R k (λ i j e. Ring.zero-mul R (s j))) ∙ R .add-zero (p 0 ⊗ s (suc k))
   diag-reversal p s (suc n) k = ap (λ t. diag R t (λ i j. reversal (suc (suc n)) p i ⊗ s j)) (Nat.suc-add n k)
       ∙ diag-first R (n +ℕ k) (λ i j. reversal (suc (suc n)) p i ⊗ s j) ∙ ap₂ _⊕_ (ap (λ t. p (suc n) ⊗ s t) same) (diag-reversal p s n k)
       ∙ R .add-comm (p (suc n) ⊗ s (k +ℕ suc n)) (sum R (suc n) (λ j. p j ⊗ s (k +ℕ j))) ∙ sym (sum-last R (suc n) (λ j. p j ⊗ s (k +ℕ j)))
@@ -125,6 +132,8 @@ module _ (R : CommRing) where
       same : suc (n +ℕ k) ≡ k +ℕ suc n
       same = omega arith
 
-  pub co-reversed-mul : (ρ : Rows R) (s : ℕ → Car) (n k : ℕ) → co R (reversed ρ (suc n) * gen R s) (n +ℕ k) ≡ sum R (suc n) (λ j. term R ρ (suc n) j ⊗ s (k +ℕ j))
-  co-reversed-mul ρ s n k = co-mul R (reversed ρ (suc n)) (gen R s) (n +ℕ k) ∙ diag-cong R (n +ℕ k) (λ i j e. ap₂ _⊗_ (co-reversed ρ (suc n) i) (co-gen R s j))
+  pub co-reversed-mul : (ρ : Rows R) (s : ℕ → Car) (n k : ℕ)
+      → co R (reversed ρ (suc n) * gen R s) (n +ℕ k) ≡ sum R (suc n) (λ j. term R ρ (suc n) j ⊗ s (k +ℕ j))
+  co-reversed-mul ρ s n k = co-mul R (reversed ρ (suc n)) (gen R s) (n +ℕ k)
+      ∙ diag-cong R (n +ℕ k) (λ i j e. ap₂ _⊗_ (co-reversed ρ (suc n) i) (co-gen R s j))
       ∙ diag-reversal (term R ρ (suc n)) s n k

@@ -14,9 +14,9 @@ use Rattle.algebra.specs.Sum.{sum-cong, sum-exchange, sum-mul-left, sum-mul-rig
 use Rattle.definitions.specs.Conversion.{expand, adjoint}
 use Rattle.definitions.specs.Family.{Family, size}
 use Rattle.definitions.specs.Number.{sum}
+use Rattle.numbers.specs.Residue.{residue-sum}
 use Rattle.theory.specs.Bridge.{entries, rowsOf, entries-expand, entries-adjoint}
 use Rattle.theory.specs.Recurrence.{term}
-use Rattle.numbers.specs.Residue.{residue-sum}
 
 -- φ j i is the coefficient of x^i in the j-th polynomial of a basis
 module _ (R : CommRing) (φ : ℕ → ℕ → R .Car) where
@@ -25,8 +25,10 @@ module _ (R : CommRing) (φ : ℕ → ℕ → R .Car) where
   infixl 70 _⊗_
   pub transposed-sums : (n k : ℕ) (u v : ℕ → Car)
       → Sum.sum R n (λ i. u i ⊗ Sum.sum R k (λ j. v j ⊗ φ j i)) ≡ Sum.sum R k (λ j. Sum.sum R n (λ i. u i ⊗ φ j i) ⊗ v j)
-  transposed-sums n k u v = sum-cong R n (λ i h. sym (sum-mul-left R k (u i) (λ j. v j ⊗ φ j i))) ∙ sum-exchange R n k (λ i j. u i ⊗ (v j ⊗ φ j i))
-      ∙ sum-cong R k (λ j h. sum-cong R n (λ i g. ring R (u i ∷ v j ∷ φ j i ∷ []) (search reify depth 20) tt) ∙ sum-mul-right R n (λ i. u i ⊗ φ j i) (v j))
+  transposed-sums n k u v = sum-cong R n (λ i h. sym (sum-mul-left R k (u i) (λ j. v j ⊗ φ j i)))
+      ∙ sum-exchange R n k (λ i j. u i ⊗ (v j ⊗ φ j i))
+      ∙ sum-cong R k (λ j h. sum-cong R n (λ i g. ring R (u i ∷ v j ∷ φ j i ∷ []) (search reify depth 20) tt)
+      ∙ sum-mul-right R n (λ i. u i ⊗ φ j i) (v j))
 
 pub transposed-identity : (f : Family) → 0 < f .m → (u v : List ℕ)
     → sum (size f) (λ i. getD u i 0 * getD (expand f v) i 0) % f .m ≡ sum (size f) (λ j. getD (adjoint f u) j 0 * getD v j 0) % f .m

@@ -17,10 +17,10 @@ use lib.ListN.{length, getD}
 use Rattle.algebra.specs.Residues.{Zmod, res, res-mod, res-mul, res-injective, mod-mul-mod}
 use Rattle.definitions.specs.Number.{sum}
 use Rattle.definitions.specs.Orthogonality.{momentTotal}
-use Rattle.theory.specs.Bridge.{entries}
-use Rattle.theory.specs.Form.{form, form-rows}
-use Rattle.theory.specs.ProductLaw.{res-momentTotal}
 use Rattle.numbers.specs.Residue.{residue-sum}
+use Rattle.theory.specs.Bridge.{entries}
+use Rattle.theory.specs.BilinearForm.{form, form-rows}
+use Rattle.theory.specs.ProductLaw.{res-momentTotal}
 
 unfoldable pub rowTotal : ℕ → ℕ → List ℕ → List ℕ → ℕ → ℕ
 rowTotal m n t moment i = sum n (λ j. getD t j 0 * getD moment (i + j) 0) % m

@@ -21,7 +21,7 @@ use Rattle.tree_model.specs.Tree.{Pair, F₀}
 use Rattle.reduction.specs.Reciprocal.{Reciprocal}
 use Rattle.reduction.specs.Wrapping.{Reducible}
 use Rattle.convolution.specs.Coefficients.{ProductsInput, product-one}
-use Rattle.products.specs.Places.{Source, ListInput, lent, lent-part, lent-below, lent-length}
+use Rattle.products.specs.Places.{Source, ListInput, slice, slice-part, slice-below, slice-length}
 use Rattle.subproduct.specs.Layout.{Level, pairList}
 
 -- ---- the level
@@ -93,17 +93,17 @@ module _ {m reciprocal : ℕ} {w : List ℕ} {at span : ℕ} {first : List ℕ} 
   second : Source m w (at + span) span
   second = record { inside = omega (arith, h .inside); below = λ i p q. h .below i (omega arith) (omega arith) }
 
-  pub root-input : ProductsInput m reciprocal 0 (lent w at span) (1 ∷ 0 ∷ []) (lent w (at + span) span) first k
+  pub root-input : ProductsInput m reciprocal 0 (slice w at span) (1 ∷ 0 ∷ []) (slice w (at + span) span) first k
   root-input = record {
     reducible = h .reducible;
     startBelow = positive;
-    pBelow = lent-below m w at span zeroth positive;
+    pBelow = slice-below m w at span zeroth positive;
     qBelow = one-below;
-    rBelow = lent-below m w (at + span) span second positive;
+    rBelow = slice-below m w (at + span) span second positive;
     sBelow = h .firstBelow;
-    rLong = lent-length m w (at + span) span second ∙ sym (lent-length m w at span zeroth);
+    rLong = slice-length m w (at + span) span second ∙ sym (slice-length m w at span zeroth);
     sLong = h .firstLong;
-    reached = omega (arith, h .reached, lent-length m w at span zeroth);
+    reached = omega (arith, h .reached, slice-length m w at span zeroth);
   }
     where
       one-below : Below m (1 ∷ 0 ∷ [])
@@ -112,12 +112,12 @@ module _ {m reciprocal : ℕ} {w : List ℕ} {at span : ℕ} {first : List ℕ} 
       one-below (suc (suc i)) = positive
 
   pub root-is : {v : ℕ}
-      → v ≡ (0 + productAt (lent w at span) (1 ∷ 0 ∷ []) k + productAt (lent w (at + span) span) first k) % m
+      → v ≡ (0 + productAt (slice w at span) (1 ∷ 0 ∷ []) k + productAt (slice w (at + span) span) first k) % m
       → v ≡ rootEntry m w at span first k
   unfolding rootEntry
   root-is e = e ∙ ap₂ (λ x y. (x + productAt y first k) % m)
-      (zero-add _ ∙ product-one (lent w at span) k ∙ ap (λ p. getD p k 0) (lent-part m w at span zeroth))
-      (lent-part m w (at + span) span second)
+      (zero-add _ ∙ product-one (slice w at span) k ∙ ap (λ p. getD p k 0) (slice-part m w at span zeroth))
+      (slice-part m w (at + span) span second)
 
 module _ {m : ℕ} {w : List ℕ} {at span : ℕ} {first : List ℕ} {n : ℕ} {output : List ℕ} (h : RootInput m w at span first n output) where
   pub root-coefficient : {reciprocal k : ℕ} → Reciprocal m reciprocal → k < n → CoefficientInput m reciprocal w at span first k

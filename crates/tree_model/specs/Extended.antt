@@ -15,9 +15,9 @@ use lib.Seq.{getD-at}
 use Rattle.definitions.specs.Conversion.{expand}
 use Rattle.definitions.specs.Family.{Family, Row, rows, size, rowAt, term, F, G}
 use Rattle.definitions.specs.Number.{sum, table}
-use Rattle.theory.specs.Closing.{EqualLengths}
 use Rattle.numbers.specs.Lists.{snoc-length, table-equal}
 use Rattle.numbers.specs.Sums.{sum-zero}
+use Rattle.theory.specs.Closing.{EqualLengths}
 use Rattle.tree_model.specs.Tree.{treeExpand}
 use Rattle.tree_model.specs.TreeExpand.{tree-expand}
 
@@ -120,7 +120,8 @@ G-below f h j i = term-below (f .m) (λ i. rowAt f (suc i)) h (suc j) i
 sum-lastUnit : (r : ℕ) (g : ℕ → ℕ) → sum (suc r) (λ j. getD (lastUnit r) j 0 * g j) ≡ g r
 unfolding sum
 sum-lastUnit r g =
-    let before : sum r (λ j. getD (lastUnit r) j 0 * g j) ≡ 0 = sum-zero r _ (λ j h. ap (λ x. x * g j) (lastUnit-zero r j h) ∙ zero-mul (g j)) in
+    let before : sum r (λ j. getD (lastUnit r) j 0 * g j) ≡ 0 =
+    sum-zero r _ (λ j h. ap (λ x. x * g j) (lastUnit-zero r j h) ∙ zero-mul (g j)) in
     let last : getD (lastUnit r) r 0 * g r ≡ g r = ap (λ x. x * g r) (lastUnit-one r) ∙ one-mul (g r) in
     omega arith
 
@@ -131,7 +132,8 @@ expand-last f r h e = subst (λ r. expand f (lastUnit r) ≡ table (suc r) (F f 
 
 pub expand-F : (f : Family) → 2 ≤ f .m → expand (extended f) (lastUnit (size f)) ≡ table (suc (size f)) (F f (size f))
 unfolding extended
-expand-F f h = expand-last (extended f) (size f) h (snoc-length (f .a) (f .close .a)) ∙ ap (table (suc (size f))) (fun-ext (F-extended f (size f)))
+expand-F f h = expand-last (extended f) (size f) h (snoc-length (f .a) (f .close .a))
+    ∙ ap (table (suc (size f))) (fun-ext (F-extended f (size f)))
 
 pub expand-G : (f : Family) → 2 ≤ f .m → expand (fromSecond (extended f)) (lastUnit (rows f)) ≡ table (size f) (G f (rows f))
 unfolding extended fromSecond
@@ -141,8 +143,11 @@ expand-G f h = expand-last (fromSecond (extended f)) (rows f) h (rest-snoc-lengt
 -- ---- by the tree
 pub tree-F : (f : Family) → 2 ≤ f .m → EqualLengths f → treeExpand (extended f) (lastUnit (size f)) ≡ table (suc (size f)) (F f (size f))
 unfolding extended
-tree-F f h equal = tree-expand (extended f) (omega arith) (extended-lengths f equal) (lastUnit (size f)) (lastUnit-length (size f) ∙ sym (extended-size f)) ∙ expand-F f h
+tree-F f h equal = tree-expand (extended f) (omega arith) (extended-lengths f equal) (lastUnit (size f))
+    (lastUnit-length (size f) ∙ sym (extended-size f)) ∙ expand-F f h
 
-pub tree-G : (f : Family) → 2 ≤ f .m → EqualLengths f → treeExpand (fromSecond (extended f)) (lastUnit (rows f)) ≡ table (size f) (G f (rows f))
+pub tree-G : (f : Family) → 2 ≤ f .m → EqualLengths f
+    → treeExpand (fromSecond (extended f)) (lastUnit (rows f)) ≡ table (size f) (G f (rows f))
 unfolding extended fromSecond
-tree-G f h equal = tree-expand (fromSecond (extended f)) (omega arith) (fromSecond-lengths f equal) (lastUnit (rows f)) (lastUnit-length (rows f) ∙ sym (fromSecond-size f)) ∙ expand-G f h
+tree-G f h equal = tree-expand (fromSecond (extended f)) (omega arith) (fromSecond-lengths f equal) (lastUnit (rows f))
+    (lastUnit-length (rows f) ∙ sym (fromSecond-size f)) ∙ expand-G f h

@@ -55,10 +55,12 @@ module _ (R : CommRing) (n : ℕ) (u : ℕ → CommRing.Car R) where
     pub pairing-X : (q : Series) (t : ℕ) → pairing (X R * q) t ≡ pairing q (suc t)
     unfolding pairing
     pairing-X q t = pairing-first (X R * q) t
-        ∙ ap₂ _⊕_ (ap (λ c. c ⊗ u (t +ℕ 0)) (co-X-mul-zero R q) ∙ Ring.zero-mul R (u (t +ℕ 0))) (sum-cong R n (λ k _. ap₂ _⊗_ (co-X-mul-suc R q k) (ap u (Nat.add-suc t k ∙ sym (Nat.suc-add t k)))))
+        ∙ ap₂ _⊕_ (ap (λ c. c ⊗ u (t +ℕ 0)) (co-X-mul-zero R q) ∙ Ring.zero-mul R (u (t +ℕ 0)))
+        (sum-cong R n (λ k _. ap₂ _⊗_ (co-X-mul-suc R q k) (ap u (Nat.add-suc t k ∙ sym (Nat.suc-add t k)))))
         ∙ Ring.zero-add R (pairing q (suc t))
 
     pub pairing-one : (t : ℕ) → pairing 1# t ≡ u t
     pairing-one t = pairing-first 1# t
-        ∙ ap₂ _⊕_ (ap₂ _⊗_ (co-one-zero R) (ap u (Nat.add-zero t)) ∙ Ring.one-mul R (u t)) (sum-vanish R n (λ k _. ap (λ c. c ⊗ u (t +ℕ suc k)) (co-one-suc R k) ∙ Ring.zero-mul R (u (t +ℕ suc k))))
+        ∙ ap₂ _⊕_ (ap₂ _⊗_ (co-one-zero R) (ap u (Nat.add-zero t)) ∙ Ring.one-mul R (u t))
+        (sum-vanish R n (λ k _. ap (λ c. c ⊗ u (t +ℕ suc k)) (co-one-suc R k) ∙ Ring.zero-mul R (u (t +ℕ suc k))))
         ∙ R .add-zero (u t)

@@ -11,9 +11,9 @@ use mathlib.Core.List.{List, [], _∷_, _++_}
 use Prim.Native.Nat.{ℕ, zero, suc, _+_, _*_, _%_}
 use lib.ListN.{getD, take}
 use Rattle.definitions.specs.Family.{Family, Row, rows, size, rowAt}
+use Rattle.numbers.specs.Products.{plusProduct, plusProducts, transposed, transposedSum}
 use Rattle.theory.specs.Closing.{closedBy}
 use Rattle.tree_model.specs.Level.{span, levelFor}
-use Rattle.numbers.specs.Products.{plusProduct, plusProducts, transposed, transposedSum}
 
 abbrev pub padded : Family → Family
 padded f = closedBy (record { a = 0; b = 0; c = 0 }) f
@@ -94,9 +94,16 @@ adjointPair m n matrix v = record {
   v1 = transposedSum m n (matrix .e10) (v .v0) (matrix .e11) (v .v1);
 }
 
+-- the pairs of the two halves of the node of level l + 1
+abbrev pub leftPair : ℕ → Pair → Pair
+leftPair l v = firstTerms (span l) v
+
+abbrev pub rightPair : Family → ℕ → ℕ → Pair → Pair
+rightPair f l t v = adjointPair (f .m) (span l) (node f l t) v
+
 unfoldable pub down : Family → ℕ → ℕ → Pair → List ℕ
 down f zero t v = getD (v .v0) 0 0 ∷ getD (v .v1) 0 0 ∷ []
-down f (suc l) t v = down f l t (firstTerms (span l) v) ++ down f l (t + span l) (adjointPair (f .m) (span l) (node f l t) v)
+down f (suc l) t v = down f l t (leftPair l v) ++ down f l (t + span l) (rightPair f l t v)
 
 -- the root's pair: the transposed products of u with F_0 and F_1
 unfoldable pub rootPair : Family → ℕ → List ℕ → Pair

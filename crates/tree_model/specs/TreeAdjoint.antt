@@ -11,29 +11,30 @@ use native.Mathlib.Decide.{decLt}
 use native.Mathlib.Nat
 use native.Mathlib.Numerals.{add-one}
 use native.Mathlib.Omega.{arith}
-use lib.ListN.{length, getD, List·getD-eq-default, List·getD-append}
+use lib.ListN.{length, getD, List·getD-append}
 use lib.Seq.{getD-append-add, getD-take}
-use Rattle.algebra.specs.Residues.{Zmod, res, res-zero}
+use Rattle.algebra.specs.Residues.{Zmod, res}
 use Rattle.algebra.specs.Ring.{CommRing}
 use Rattle.algebra.specs.Series.{Ser}
 use Rattle.algebra.specs.Sum.{sum-cong}
 use Rattle.definitions.specs.Conversion.{adjoint}
 use Rattle.definitions.specs.Family.{Family, Accepted, Curve, size}
+use Rattle.numbers.specs.Products.{transposed, transposedSum}
 use Rattle.theory.specs.Alone.{adjoint-alone}
-use Rattle.theory.specs.Bridge.{entries, rowsOf, entries-adjoint, adjoint-curve}
+use Rattle.theory.specs.Bridge.{entries, entries-past, rowsOf, entries-adjoint, adjoint-curve}
 use Rattle.theory.specs.Closing.{EqualLengths, accepted-lengths, adjoint-close}
 use Rattle.theory.specs.Curves.{curves-equal-residues}
+use Rattle.theory.specs.Recurrence.{co-poly}
 use Rattle.tree_model.specs.Level.{span, levelFor, level-covers}
 use Rattle.tree_model.specs.ListPairing.{transposed-pairing, transposedSum-pairing}
 use Rattle.tree_model.specs.ListSeries.{series}
 use Rattle.tree_model.specs.Pairing.{pairing, pairing-here, pairing-one}
-use Rattle.numbers.specs.Products.{transposed, transposedSum}
-use Rattle.theory.specs.Recurrence.{co-poly}
-use Rattle.tree_model.specs.Tree.{padded, F₀, F₁, Matrix, Pair, node, firstTerms, adjointPair, down, rootPair, adjointAt, treeAdjoint}
+use Rattle.tree_model.specs.Tree.{padded, F₀, F₁, Matrix, Pair, node, firstTerms, adjointPair}
+use Rattle.tree_model.specs.Tree.{leftPair, rightPair, down, rootPair, adjointAt, treeAdjoint}
 use Rattle.tree_model.specs.TreeBelow.{adjointAt-below}
 use Rattle.tree_model.specs.TreeClauses.{withTree-cases}
 use Rattle.tree_model.specs.TreeLengths.{MatrixLength, node-length, down-length, adjointAt-length}
-use Rattle.tree_model.specs.TreeNodes.{P, Transition, node-transition, first-series, second-series}
+use Rattle.tree_model.specs.TreeNodes.{F as series-F, Transition, node-transition, first-series, second-series}
 
 module _ (f : Family) (pos : 0 < f .m) (u : List ℕ) (long : length u ≡ size f) where
   abbrev Q : CommRing
@@ -50,19 +51,22 @@ module _ (f : Family) (pos : 0 < f .m) (u : List ℕ) (long : length u ≡ size 
   abbrev S : List ℕ → Series
   S = series (f .m) pos
 
+  abbrev E : List ℕ → ℕ → Car
+  E = entries (f .m) pos
+
   abbrev F : ℕ → Series
-  F j = P f pos (suc j)
+  F = series-F f pos
 
   -- u against x^t q
   abbrev form : Series → ℕ → Car
-  form = pairing Q (size f) (entries (f .m) pos u)
+  form = pairing Q (size f) (E u)
 
-  past : (i : ℕ) → size f ≤ i → entries (f .m) pos u i ≡ 𝟘
-  past i h = ap (res (f .m) pos) (List·getD-eq-default u 0 {n = i} (omega arith)) ∙ res-zero (f .m) pos
+  past : (i : ℕ) → size f ≤ i → E u i ≡ 𝟘
+  past i h = entries-past (f .m) pos u i (omega arith)
 
   -- ---- going down
   abbrev Terms : ℕ → ℕ → List ℕ → Type 0
-  Terms n k xs = (i : ℕ) → i < n → entries (f .m) pos xs i ≡ form (F k) i
+  Terms n k xs = (i : ℕ) → i < n → E xs i ≡ form (F k) i
 
   record Values (n t : ℕ) (v : Pair) : Type 0 where
     first : Terms n t (v .v0)
@@ -76,13 +80,16 @@ module _ (f : Family) (pos : 0 < f .m) (u : List ℕ) (long : length u ≡ size 
   }
 
   -- a row x, y of a matrix of n + 1 terms reaches term n - 1 + n of the pair, which has 2 n
-  adjointPair-terms : (n t k : ℕ) (x y : List ℕ) (v : Pair) → length x ≡ suc n → length y ≡ suc n → F k ≡ S x * F t + S y * F (suc t) → Values (n +ℕ n) t v
+  adjointPair-terms : (n t k : ℕ) (x y : List ℕ) (v : Pair) → length x ≡ suc n → length y ≡ suc n → F k ≡ S x * F t + S y * F (suc t)
+      → Values (n +ℕ n) t v
       → Terms n k (transposedSum (f .m) n x (v .v0) y (v .v1))
   adjointPair-terms n t k x y v hx hy e h i g =
-      transposedSum-pairing (f .m) pos (size f) (entries (f .m) pos u) past n x (v .v0) y (v .v1) (F t) (F (suc t)) i g (λ j l. h .first (i +ℕ j) (omega arith)) (λ j l. h .second (i +ℕ j) (omega arith))
+      transposedSum-pairing (f .m) pos (size f) (E u) past n x (v .v0) y (v .v1) (F t) (F (suc t)) i g
+      (λ j l. h .first (i +ℕ j) (omega arith)) (λ j l. h .second (i +ℕ j) (omega arith))
       ∙ ap (λ s. form s i) (sym e)
 
-  adjointPair-values : (n t : ℕ) (x : Matrix) (v : Pair) → MatrixLength (suc n) x → Transition f pos n t x → Values (n +ℕ n) t v → Values n (t +ℕ n) (adjointPair (f .m) n x v)
+  adjointPair-values : (n t : ℕ) (x : Matrix) (v : Pair) → MatrixLength (suc n) x → Transition f pos n t x → Values (n +ℕ n) t v
+      → Values n (t +ℕ n) (adjointPair (f .m) n x v)
   unfolding adjointPair
   adjointPair-values n t x v l m h = record {
     first = adjointPair-terms n t (t +ℕ n) (x .e00) (x .e01) v (l .l00) (l .l01) (m .first) h;
@@ -91,7 +98,7 @@ module _ (f : Family) (pos : 0 < f .m) (u : List ℕ) (long : length u ≡ size 
 
   -- ---- the answers: u against F_t, F_{t+1}, ..
   abbrev Answers : ℕ → ℕ → List ℕ → Type 0
-  Answers n t xs = (i : ℕ) → i < n → entries (f .m) pos xs i ≡ form (F (t +ℕ i)) 0
+  Answers n t xs = (i : ℕ) → i < n → E xs i ≡ form (F (t +ℕ i)) 0
 
   leaf-answers : (t : ℕ) (v : Pair) → Values 2 t v → Answers 2 t (getD (v .v0) 0 0 ∷ getD (v .v1) 0 0 ∷ [])
   leaf-answers t v h zero g = h .first 0 (omega arith) ∙ ap (λ k. form (F k) 0) (sym (Nat.add-zero t))
@@ -101,39 +108,46 @@ module _ (f : Family) (pos : 0 < f .m) (u : List ℕ) (long : length u ≡ size 
   append-answers : (n t : ℕ) (xs ys : List ℕ) → length xs ≡ n → Answers n t xs → Answers n (t +ℕ n) ys → Answers (n +ℕ n) t (xs ++ ys)
   append-answers n t xs ys l p q i g = at (decLt i n)
     where
-      at : Dec (i < n) → entries (f .m) pos (xs ++ ys) i ≡ form (F (t +ℕ i)) 0
+      at : Dec (i < n) → E (xs ++ ys) i ≡ form (F (t +ℕ i)) 0
       at (yes h) = ap (res (f .m) pos) (List·getD-append xs ys 0 i (omega arith)) ∙ p i h
       at (no h) = let place : i ≡ length xs +ℕ (i -ℕ n) = omega arith in let whole : t +ℕ n +ℕ (i -ℕ n) ≡ t +ℕ i = omega arith in
-          ap (entries (f .m) pos (xs ++ ys)) place ∙ ap (res (f .m) pos) (getD-append-add xs ys (i -ℕ n) 0) ∙ q (i -ℕ n) (omega arith) ∙ ap (λ k. form (F k) 0) whole
+          ap (E (xs ++ ys)) place ∙ ap (res (f .m) pos) (getD-append-add xs ys (i -ℕ n) 0) ∙ q (i -ℕ n) (omega arith)
+          ∙ ap (λ k. form (F k) 0) whole
 
   down-answers : (l t : ℕ) (v : Pair) → Values (span l) t v → Answers (span l) t (down f l t v)
   unfolding down span
   down-answers zero t v h = leaf-answers t v h
-  down-answers (suc l) t v h = append-answers (span l) t (down f l t (firstTerms (span l) v)) (down f l (t +ℕ span l) (adjointPair (f .m) (span l) (node f l t) v)) (down-length f l t (firstTerms (span l) v))
-      (down-answers l t (firstTerms (span l) v) (firstTerms-values (span l) t v h))
-      (down-answers l (t +ℕ span l) (adjointPair (f .m) (span l) (node f l t) v) (adjointPair-values (span l) t (node f l t) v (node-length f l t) (node-transition f pos l t) h))
+  down-answers (suc l) t v h = append-answers (span l) t (down f l t (leftPair l v)) (down f l (t +ℕ span l) (rightPair f l t v))
+      (down-length f l t (leftPair l v))
+      (down-answers l t (leftPair l v) (firstTerms-values (span l) t v h))
+      (down-answers l (t +ℕ span l) (rightPair f l t v)
+      (adjointPair-values (span l) t (node f l t) v (node-length f l t) (node-transition f pos l t) h))
 
   -- ---- at the root
   root-terms : (n k : ℕ) (p : List ℕ) → F k ≡ S p → Terms n k (transposed (f .m) n p u)
   root-terms n k p e i g =
-      transposed-pairing (f .m) pos (size f) (entries (f .m) pos u) past n p u 1# i g (λ j _. sym (pairing-one Q (size f) (entries (f .m) pos u) past (i +ℕ j)))
+      transposed-pairing (f .m) pos (size f) (E u) past n p u 1# i g (λ j _. sym (pairing-one Q (size f) (E u) past (i +ℕ j)))
       ∙ ap (λ s. form s i) (B .mul-one (S p) ∙ sym e)
 
   root-values : (l : ℕ) → Values (span l) 0 (rootPair f l u)
   unfolding rootPair
-  root-values l = record { first = root-terms (span l) 0 F₀ (first-series f pos); second = root-terms (span l) 1 (F₁ f) (second-series f pos) }
+  root-values l =
+      record { first = root-terms (span l) 0 F₀ (first-series f pos); second = root-terms (span l) 1 (F₁ f) (second-series f pos) }
 
-  form-adjoint : (j : ℕ) → j < size f → form (F j) 0 ≡ entries (f .m) pos (adjoint f u) j
-  form-adjoint j h = pairing-here Q (size f) (entries (f .m) pos u) (F j) ∙ sum-cong Q (size f) (λ i _. ap (λ x. entries (f .m) pos u i ⊗ x) (co-poly Q (rowsOf f pos) (suc j) i))
+  form-adjoint : (j : ℕ) → j < size f → form (F j) 0 ≡ E (adjoint f u) j
+  form-adjoint j h = pairing-here Q (size f) (E u) (F j)
+      ∙ sum-cong Q (size f) (λ i _. ap (λ x. E u i ⊗ x) (co-poly Q (rowsOf f pos) (suc j) i))
       ∙ sym (entries-adjoint f pos u j h)
 
-  adjointAt-entry : (l i : ℕ) → i < size f → size f ≤ span l → entries (f .m) pos (adjointAt f l u) i ≡ entries (f .m) pos (adjoint f u) i
+  adjointAt-entry : (l i : ℕ) → i < size f → size f ≤ span l → E (adjointAt f l u) i ≡ E (adjoint f u) i
   unfolding adjointAt
-  adjointAt-entry l i h hl = ap (res (f .m) pos) (getD-take (size f) (down f l 0 (rootPair f l u)) i 0 h) ∙ down-answers l 0 (rootPair f l u) (root-values l) i (omega arith)
+  adjointAt-entry l i h hl = ap (res (f .m) pos) (getD-take (size f) (down f l 0 (rootPair f l u)) i 0 h)
+      ∙ down-answers l 0 (rootPair f l u) (root-values l) i (omega arith)
       ∙ ap (λ k. form (F k) 0) (Nat.zero-add i) ∙ form-adjoint i h
 
   pub adjointAt-adjoint : (l : ℕ) → size f ≤ span l → adjointAt f l u ≡ adjoint f u
-  adjointAt-adjoint l hl = curves-equal-residues f (adjointAt f l u) (adjoint f u) (record { long = adjointAt-length f l u hl; below = λ i _. adjointAt-below f pos l u i }) (adjoint-curve f pos u) pos
+  adjointAt-adjoint l hl = curves-equal-residues f (adjointAt f l u) (adjoint f u)
+      (record { long = adjointAt-length f l u hl; below = λ i _. adjointAt-below f pos l u i }) (adjoint-curve f pos u) pos
       (λ i h. adjointAt-entry l i h hl)
 
 pub tree-adjoint : (f : Family) → 0 < f .m → EqualLengths f → (u : List ℕ) → length u ≡ size f → treeAdjoint f u ≡ adjoint f u

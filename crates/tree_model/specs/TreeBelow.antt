@@ -9,9 +9,10 @@ use native.Mathlib.Nat.{mod-lt}
 use native.Mathlib.Omega.{arith}
 use lib.ListN.{take}
 use Rattle.definitions.specs.Family.{Family, Row, size, rowAt, RowBelow}
-use Rattle.tree_model.specs.Level.{span}
 use Rattle.numbers.specs.Products.{Below, plusProduct-below, plusProducts-below, transposed-below, transposedSum-below}
-use Rattle.tree_model.specs.Tree.{Matrix, Pair, F₀, F₁, leaf, join, node, expandPair, up, expandAt, firstTerms, adjointPair, down, rootPair, adjointAt}
+use Rattle.tree_model.specs.Level.{span}
+use Rattle.tree_model.specs.Tree.{Matrix, Pair, F₀, F₁, leaf, join, node, expandPair, up, expandAt}
+use Rattle.tree_model.specs.Tree.{firstTerms, adjointPair, leftPair, rightPair, down, rootPair, adjointAt}
 
 pub record MatrixBelow (m : ℕ) (x : Matrix) : Type 0 where
   pub b00 : Below m (x .e00)
@@ -83,7 +84,8 @@ expandPair-below m n pos left right x = record { b0 = plusProducts-below m n pos
 
 pub up-below : (f : Family) (u : List ℕ) → Below (f .m) u → (l t : ℕ) → PairBelow (f .m) (up f u l t)
 unfolding up
-up-below f u h zero t = record { b0 = two-below (f .m) _ _ (h t) (omega (arith, h 0)); b1 = two-below (f .m) _ _ (h (suc t)) (omega (arith, h 0)) }
+up-below f u h zero t =
+    record { b0 = two-below (f .m) _ _ (h t) (omega (arith, h 0)); b1 = two-below (f .m) _ _ (h (suc t)) (omega (arith, h 0)) }
 up-below f u h (suc l) t = expandPair-below (f .m) (span (suc l)) (omega (arith, h 0)) _ _ _
 
 pub expandAt-below : (f : Family) → 0 < f .m → (l : ℕ) (u : List ℕ) → Below (f .m) (expandAt f l u)
@@ -106,10 +108,11 @@ rootPair-below f pos l u = record { b0 = transposed-below (f .m) (span l) pos F�
 pub down-below : (f : Family) (l t : ℕ) (v : Pair) → PairBelow (f .m) v → Below (f .m) (down f l t v)
 unfolding down
 down-below f zero t v h = two-below (f .m) _ _ (h .b0 0) (h .b1 0)
-down-below f (suc l) t v h = append-below (f .m) (down f l t (firstTerms (span l) v)) (down f l (t + span l) (adjointPair (f .m) (span l) (node f l t) v))
-    (down-below f l t (firstTerms (span l) v) (firstTerms-below (f .m) (span l) v h))
-    (down-below f l (t + span l) (adjointPair (f .m) (span l) (node f l t) v) (adjointPair-below (f .m) (span l) (omega (arith, h .b0 0)) (node f l t) v))
+down-below f (suc l) t v h = append-below (f .m) (down f l t (leftPair l v)) (down f l (t + span l) (rightPair f l t v))
+    (down-below f l t (leftPair l v) (firstTerms-below (f .m) (span l) v h))
+    (down-below f l (t + span l) (rightPair f l t v) (adjointPair-below (f .m) (span l) (omega (arith, h .b0 0)) (node f l t) v))
 
 pub adjointAt-below : (f : Family) → 0 < f .m → (l : ℕ) (u : List ℕ) → Below (f .m) (adjointAt f l u)
 unfolding adjointAt
-adjointAt-below f pos l u = take-below (f .m) (size f) (down f l 0 (rootPair f l u)) (down-below f l 0 (rootPair f l u) (rootPair-below f pos l u))
+adjointAt-below f pos l u = take-below (f .m) (size f) (down f l 0 (rootPair f l u))
+    (down-below f l 0 (rootPair f l u) (rootPair-below f pos l u))

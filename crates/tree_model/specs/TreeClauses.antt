@@ -9,7 +9,8 @@ use Rattle.definitions.specs.Family.{Family, rows, size}
 use Rattle.tree_model.specs.Level.{levelFor}
 use Rattle.tree_model.specs.Tree.{padded, withTree, expandAt, treeExpand, adjointAt, treeAdjoint}
 
-pub withTree-cases : (P : List ℕ → Type 0) (f : Family) (u answer : List ℕ) → (rows f ≡ 0 → P (getD u 0 0 % f .m ∷ [])) → (0 < rows f → P answer) → P (withTree f u answer)
+pub withTree-cases : (P : List ℕ → Type 0) (f : Family) (u answer : List ℕ) → (rows f ≡ 0 → P (getD u 0 0 % f .m ∷ []))
+    → (0 < rows f → P answer) → P (withTree f u answer)
 unfolding withTree
 withTree-cases P f u answer none some = at (rows f) refl
   where

@@ -14,10 +14,11 @@ use Rattle.definitions.specs.Number.{sum, table}
 use Rattle.definitions.specs.Family.{Family, family, rowAt, timesX, term, F}
 use Rattle.definitions.specs.Conversion.{expand, adjoint}
 use Rattle.definitions.specs.Figures.{four}
+use Rattle.numbers.specs.Products.{productAt, plusProduct, plusProducts, transposedAt, transposed, transposedSum}
 use Rattle.tree_model.specs.Extended.{extended, fromSecond, lastUnit}
 use Rattle.tree_model.specs.Level.{span, levelFrom, levelFor}
-use Rattle.numbers.specs.Products.{productAt, plusProduct, plusProducts, transposedAt, transposed, transposedSum}
-use Rattle.tree_model.specs.Tree.{withTree, leaf, join, node, expandPair, up, expandAt, treeExpand, firstTerms, adjointPair, down, rootPair, adjointAt, treeAdjoint}
+use Rattle.tree_model.specs.Tree.{withTree, leaf, join, node, expandPair, up, expandAt, treeExpand}
+use Rattle.tree_model.specs.Tree.{firstTerms, adjointPair, down, rootPair, adjointAt, treeAdjoint}
 
 pub record Example : Type 0 where
   pub family : Family
@@ -42,8 +43,18 @@ examples =
     record { family = none; input = 5 ∷ []; expanded = 5 ∷ []; adjoined = 5 ∷ [] }
     ∷ record { family = one; input = 1 ∷ 1 ∷ []; expanded = 0 ∷ 1 ∷ []; adjoined = 1 ∷ 0 ∷ [] }
     ∷ record { family = four; input = 1 ∷ 2 ∷ 3 ∷ 4 ∷ 5 ∷ []; expanded = 6 ∷ 31 ∷ 7 ∷ 1 ∷ 20 ∷ []; adjoined = 1 ∷ 5 ∷ 32 ∷ 34 ∷ 4 ∷ [] }
-    ∷ record { family = seven; input = 1 ∷ 2 ∷ 3 ∷ 4 ∷ 5 ∷ 6 ∷ 7 ∷ 8 ∷ []; expanded = 9 ∷ 13 ∷ 2 ∷ 23 ∷ 73 ∷ 42 ∷ 89 ∷ 89 ∷ []; adjoined = 1 ∷ 5 ∷ 67 ∷ 21 ∷ 3 ∷ 3 ∷ 89 ∷ 81 ∷ [] }
-    ∷ record { family = eight; input = 1 ∷ 2 ∷ 3 ∷ 4 ∷ 5 ∷ 6 ∷ 7 ∷ 8 ∷ 9 ∷ []; expanded = 7 ∷ 8 ∷ 7 ∷ 4 ∷ 8 ∷ 0 ∷ 8 ∷ 2 ∷ 9 ∷ []; adjoined = 1 ∷ 2 ∷ 8 ∷ 5 ∷ 6 ∷ 0 ∷ 1 ∷ 6 ∷ 1 ∷ [] }
+    ∷ record {
+      family = seven;
+      input = 1 ∷ 2 ∷ 3 ∷ 4 ∷ 5 ∷ 6 ∷ 7 ∷ 8 ∷ [];
+      expanded = 9 ∷ 13 ∷ 2 ∷ 23 ∷ 73 ∷ 42 ∷ 89 ∷ 89 ∷ [];
+      adjoined = 1 ∷ 5 ∷ 67 ∷ 21 ∷ 3 ∷ 3 ∷ 89 ∷ 81 ∷ [];
+    }
+    ∷ record {
+      family = eight;
+      input = 1 ∷ 2 ∷ 3 ∷ 4 ∷ 5 ∷ 6 ∷ 7 ∷ 8 ∷ 9 ∷ [];
+      expanded = 7 ∷ 8 ∷ 7 ∷ 4 ∷ 8 ∷ 0 ∷ 8 ∷ 2 ∷ 9 ∷ [];
+      adjoined = 1 ∷ 2 ∷ 8 ∷ 5 ∷ 6 ∷ 0 ∷ 1 ∷ 6 ∷ 1 ∷ [];
+    }
     ∷ []
 
 pub expand-examples : map (λ x. expand (x .family) (x .input)) examples ≡ map (λ x. x .expanded) examples
@@ -54,24 +65,32 @@ pub adjoint-examples : map (λ x. adjoint (x .family) (x .input)) examples ≡ m
 unfolding sum table rowAt timesX term F adjoint
 adjoint-examples = refl
 
+-- whoever unfolds it unfolds the definitions that it leads to
+unfoldable expandedByTree : Family → List ℕ → List ℕ
+unfolding sum table rowAt span levelFrom levelFor productAt plusProduct plusProducts withTree leaf join node expandPair up
+    expandAt treeExpand
+expandedByTree f u = treeExpand f u
+
 pub tree-expand-examples : map (λ x. treeExpand (x .family) (x .input)) examples ≡ map (λ x. x .expanded) examples
-unfolding sum table rowAt span levelFrom levelFor productAt plusProduct plusProducts withTree leaf join node expandPair up expandAt treeExpand
+unfolding expandedByTree
 tree-expand-examples = refl
 
 pub tree-adjoint-examples : map (λ x. treeAdjoint (x .family) (x .input)) examples ≡ map (λ x. x .adjoined) examples
-unfolding sum table rowAt span levelFrom levelFor productAt plusProducts transposedAt transposed transposedSum withTree leaf join node firstTerms adjointPair down rootPair adjointAt treeAdjoint
+unfolding sum table rowAt span levelFrom levelFor productAt plusProducts transposedAt transposed transposedSum withTree leaf join
+    node firstTerms adjointPair down rootPair adjointAt treeAdjoint
 tree-adjoint-examples = refl
 
 -- F_5 of `four` from its rows and the closing row 1 1 1, and G_4 from row 2 on
 pub tree-F-example : treeExpand (extended four) (lastUnit 5) ≡ 24 ∷ 29 ∷ 28 ∷ 33 ∷ 20 ∷ 4 ∷ []
-unfolding sum table rowAt span levelFrom levelFor productAt plusProduct plusProducts withTree leaf join node expandPair up expandAt treeExpand extended lastUnit
+unfolding expandedByTree extended lastUnit
 tree-F-example = refl
 
 pub tree-G-example : treeExpand (fromSecond (extended four)) (lastUnit 4) ≡ 19 ∷ 9 ∷ 21 ∷ 9 ∷ 2 ∷ []
-unfolding sum table rowAt span levelFrom levelFor productAt plusProduct plusProducts withTree leaf join node expandPair up expandAt treeExpand extended fromSecond lastUnit
+unfolding expandedByTree extended fromSecond lastUnit
 tree-G-example = refl
 
 -- the spans of the least trees: 129 coefficients of F_n at 127 rows need 256
-pub span-examples : map (λ n. span (levelFor n)) (2 ∷ 3 ∷ 4 ∷ 5 ∷ 8 ∷ 9 ∷ 64 ∷ 65 ∷ 128 ∷ 129 ∷ 256 ∷ []) ≡ 2 ∷ 4 ∷ 4 ∷ 8 ∷ 8 ∷ 16 ∷ 64 ∷ 128 ∷ 128 ∷ 256 ∷ 256 ∷ []
+pub span-examples : map (λ n. span (levelFor n)) (2 ∷ 3 ∷ 4 ∷ 5 ∷ 8 ∷ 9 ∷ 64 ∷ 65 ∷ 128 ∷ 129 ∷ 256 ∷ [])
+    ≡ 2 ∷ 4 ∷ 4 ∷ 8 ∷ 8 ∷ 16 ∷ 64 ∷ 128 ∷ 128 ∷ 256 ∷ 256 ∷ []
 unfolding span levelFrom levelFor
 span-examples = refl

@@ -9,8 +9,8 @@ use Prim.Native.Nat.{ℕ, zero, suc, _<_, _≤_, _+_ as _+ℕ_}
 use native.Mathlib.Nat.{add-assoc, add-zero, zero-add}
 use native.Mathlib.Numerals.{add-one}
 use native.Mathlib.Omega.{arith}
-use lib.ListN.{length, getD, List·getD-eq-default}
-use Rattle.algebra.specs.Residues.{Zmod, res, res-zero}
+use lib.ListN.{length, getD}
+use Rattle.algebra.specs.Residues.{Zmod}
 use Rattle.algebra.specs.Ring
 use Rattle.algebra.specs.Ring.{CommRing}
 use Rattle.algebra.specs.Series.{Ser, co, co-sum}
@@ -20,17 +20,17 @@ use Rattle.algebra.specs.Variable.{C, co-C-mul}
 use Rattle.definitions.specs.Conversion.{expand}
 use Rattle.definitions.specs.Family.{Family, Accepted, Curve, size}
 use Rattle.theory.specs.Alone.{expand-alone}
-use Rattle.theory.specs.Bridge.{entries, rowsOf, entries-expand, expand-curve}
+use Rattle.theory.specs.Bridge.{entries, entries-past, rowsOf, entries-expand, expand-curve}
 use Rattle.theory.specs.Closing.{EqualLengths, accepted-lengths, expand-close}
 use Rattle.theory.specs.Curves.{curves-equal-residues}
+use Rattle.theory.specs.Recurrence.{term, co-poly, poly-one}
 use Rattle.tree_model.specs.Level.{span, levelFor, level-covers}
 use Rattle.tree_model.specs.ListSeries.{series, series-one-zero, series-plusProducts, co-plusProduct}
-use Rattle.theory.specs.Recurrence.{term, co-poly, poly-one}
 use Rattle.tree_model.specs.Tree.{padded, F₁, Matrix, Pair, node, expandPair, up, expandAt, treeExpand}
 use Rattle.tree_model.specs.TreeBelow.{expandAt-below}
 use Rattle.tree_model.specs.TreeClauses.{withTree-cases}
 use Rattle.tree_model.specs.TreeLengths.{MatrixLength, PairLength, node-length, up-length, expandAt-length}
-use Rattle.tree_model.specs.TreeNodes.{P, Transition, node-transition, second-series}
+use Rattle.tree_model.specs.TreeNodes.{F as series-F, Transition, node-transition, second-series}
 
 module _ (f : Family) (pos : 0 < f .m) (u : List ℕ) where
   abbrev Q : CommRing
@@ -47,43 +47,55 @@ module _ (f : Family) (pos : 0 < f .m) (u : List ℕ) where
   abbrev S : List ℕ → Series
   S = series (f .m) pos
 
+  abbrev E : List ℕ → ℕ → Car
+  E = entries (f .m) pos
+
   abbrev F : ℕ → Series
-  F j = P f pos (suc j)
+  F = series-F f pos
 
   -- u_j F_j
   abbrev part : ℕ → Series
-  part j = C Q (entries (f .m) pos u j) * F j
+  part j = C Q (E u j) * F j
 
   abbrev Combination : ℕ → ℕ → Pair → Type 0
   Combination n t v = S (v .v0) * F t + S (v .v1) * F (suc t) ≡ sum B n (λ j. part (t +ℕ j))
 
   leaf-combination : (t : ℕ) → Combination 2 t (record { v0 = getD u t 0 ∷ 0 ∷ []; v1 = getD u (suc t) 0 ∷ 0 ∷ [] })
-  leaf-combination t = ap₂ (λ x y. x * F t + y * F (suc t)) (series-one-zero (f .m) pos (getD u t 0)) (series-one-zero (f .m) pos (getD u (suc t) 0))
+  leaf-combination t = ap₂ (λ x y. x * F t + y * F (suc t)) (series-one-zero (f .m) pos (getD u t 0))
+      (series-one-zero (f .m) pos (getD u (suc t) 0))
       ∙ ap₂ _+_ (ap part (sym (add-zero t))) (ap part (sym (add-one t))) ∙ sym (two-parts (λ j. part (t +ℕ j)))
     where
       two-parts : (g : ℕ → Series) → sum B 2 g ≡ g 0 + g 1
       two-parts g = sum-last B 1 g ∙ ap (λ s. s + g 1) (sum-last B 0 g ∙ ap (λ s. s + g 0) (sum-empty B g) ∙ Ring.zero-add B (g 0))
 
-  expandPair-combination : (n t : ℕ) (left right : Pair) (x : Matrix) → PairLength n left → PairLength n right → MatrixLength (suc n) x → Transition f pos n t x
+  expandPair-combination : (n t : ℕ) (left right : Pair) (x : Matrix) → PairLength n left → PairLength n right → MatrixLength (suc n) x
+      → Transition f pos n t x
       → Combination n t left → Combination n (t +ℕ n) right → Combination (n +ℕ n) t (expandPair (f .m) (n +ℕ n) left right x)
   unfolding expandPair
   expandPair-combination n t left right x hl hr hx m l r =
       ap₂ (λ x y. x * F t + y * F (suc t))
-      (series-plusProducts (f .m) pos (n +ℕ n) (left .v0) (right .v0) (x .e00) (right .v1) (x .e10) (omega arith) (omega arith) (omega arith))
-      (series-plusProducts (f .m) pos (n +ℕ n) (left .v1) (right .v0) (x .e01) (right .v1) (x .e11) (omega arith) (omega arith) (omega arith))
-      ∙ ring B (S (left .v0) ∷ S (left .v1) ∷ S (right .v0) ∷ S (right .v1) ∷ S (x .e00) ∷ S (x .e01) ∷ S (x .e10) ∷ S (x .e11) ∷ F t ∷ F (suc t) ∷ []) (search reify depth 20) tt
-      ∙ ap₂ _+_ l (ap₂ (λ x y. S (right .v0) * x + S (right .v1) * y) (sym (m .first)) (sym (m .second)) ∙ r ∙ sum-cong B n (λ j _. ap part (add-assoc t n j)))
+      (series-plusProducts (f .m) pos (n +ℕ n) (left .v0) (right .v0) (x .e00) (right .v1) (x .e10)
+      (omega arith) (omega arith) (omega arith))
+      (series-plusProducts (f .m) pos (n +ℕ n) (left .v1) (right .v0) (x .e01) (right .v1) (x .e11)
+      (omega arith) (omega arith) (omega arith))
+      ∙ ring B (S (left .v0) ∷ S (left .v1) ∷ S (right .v0) ∷ S (right .v1)
+      ∷ S (x .e00) ∷ S (x .e01) ∷ S (x .e10) ∷ S (x .e11) ∷ F t ∷ F (suc t) ∷ []) (search reify depth 20) tt
+      ∙ ap₂ _+_ l
+      (ap₂ (λ x y. S (right .v0) * x + S (right .v1) * y) (sym (m .first)) (sym (m .second))
+      ∙ r ∙ sum-cong B n (λ j _. ap part (add-assoc t n j)))
       ∙ sym (sum-split B n n (λ j. part (t +ℕ j)))
 
   up-combination : (l t : ℕ) → Combination (span l) t (up f u l t)
   unfolding up span
   up-combination zero t = leaf-combination t
-  up-combination (suc l) t = expandPair-combination (span l) t (up f u l t) (up f u l (t +ℕ span l)) (node f l t) (up-length f u l t) (up-length f u l (t +ℕ span l)) (node-length f l t)
+  up-combination (suc l) t = expandPair-combination (span l) t (up f u l t) (up f u l (t +ℕ span l)) (node f l t)
+      (up-length f u l t) (up-length f u l (t +ℕ span l)) (node-length f l t)
       (node-transition f pos l t) (up-combination l t) (up-combination l (t +ℕ span l))
 
   -- ---- at the root
   root-sum : (l : ℕ) → S (up f u l 0 .v0) + S (up f u l 0 .v1) * S (F₁ f) ≡ sum B (span l) part
-  root-sum l = ap (λ x. x + S v₁ * S (F₁ f)) (sym (B .mul-one (S v₀))) ∙ sym (ap₂ (λ x y. S v₀ * x + S v₁ * y) (poly-one Q (rowsOf f pos)) (second-series f pos))
+  root-sum l = ap (λ x. x + S v₁ * S (F₁ f)) (sym (B .mul-one (S v₀)))
+      ∙ sym (ap₂ (λ x y. S v₀ * x + S v₁ * y) (poly-one Q (rowsOf f pos)) (second-series f pos))
       ∙ up-combination l 0 ∙ sum-cong B (span l) (λ j _. ap part (zero-add j))
     where
       v₀ : List ℕ
@@ -92,23 +104,25 @@ module _ (f : Family) (pos : 0 < f .m) (u : List ℕ) where
       v₁ : List ℕ
       v₁ = up f u l 0 .v1
 
-  co-part : (j i : ℕ) → co Q (part j) i ≡ entries (f .m) pos u j ⊗ term Q (rowsOf f pos) (suc j) i
-  co-part j i = co-C-mul Q (entries (f .m) pos u j) (F j) i ∙ ap (λ t. entries (f .m) pos u j ⊗ t) (co-poly Q (rowsOf f pos) (suc j) i)
+  co-part : (j i : ℕ) → co Q (part j) i ≡ E u j ⊗ term Q (rowsOf f pos) (suc j) i
+  co-part j i = co-C-mul Q (E u j) (F j) i ∙ ap (λ t. E u j ⊗ t) (co-poly Q (rowsOf f pos) (suc j) i)
 
   -- what lies past the curve adds nothing
-  sum-parts : (n i : ℕ) → length u ≡ size f → size f ≤ n → i < size f → co Q (sum B n part) i ≡ entries (f .m) pos (expand f u) i
-  sum-parts n i hu hn hi = co-sum Q n part i ∙ sum-cong Q n (λ j _. co-part j i) ∙ sum-cut Q (size f) n _ hn past ∙ sym (entries-expand f pos u i hi)
+  sum-parts : (n i : ℕ) → length u ≡ size f → size f ≤ n → i < size f → co Q (sum B n part) i ≡ E (expand f u) i
+  sum-parts n i hu hn hi = co-sum Q n part i ∙ sum-cong Q n (λ j _. co-part j i) ∙ sum-cut Q (size f) n _ hn past
+      ∙ sym (entries-expand f pos u i hi)
     where
-      past : (j : ℕ) → size f ≤ j → entries (f .m) pos u j ⊗ term Q (rowsOf f pos) (suc j) i ≡ Q .zero
-      past j h = ap (λ t. t ⊗ term Q (rowsOf f pos) (suc j) i) (ap (res (f .m) pos) (List·getD-eq-default u 0 {n = j} (omega arith)) ∙ res-zero (f .m) pos)
+      past : (j : ℕ) → size f ≤ j → E u j ⊗ term Q (rowsOf f pos) (suc j) i ≡ Q .zero
+      past j h = ap (λ t. t ⊗ term Q (rowsOf f pos) (suc j) i) (entries-past (f .m) pos u j (omega arith))
           ∙ Ring.zero-mul Q (term Q (rowsOf f pos) (suc j) i)
 
-  co-root : (l i : ℕ) → i < size f → entries (f .m) pos (expandAt f l u) i ≡ co Q (S (up f u l 0 .v0) + S (up f u l 0 .v1) * S (F₁ f)) i
+  co-root : (l i : ℕ) → i < size f → E (expandAt f l u) i ≡ co Q (S (up f u l 0 .v0) + S (up f u l 0 .v1) * S (F₁ f)) i
   unfolding expandAt
   co-root l i h = co-plusProduct (f .m) pos (size f) (up f u l 0 .v0) (up f u l 0 .v1) (F₁ f) i h
 
   pub expandAt-expand : (l : ℕ) → length u ≡ size f → size f ≤ span l → expandAt f l u ≡ expand f u
-  expandAt-expand l hu hl = curves-equal-residues f (expandAt f l u) (expand f u) (record { long = expandAt-length f l u; below = λ i _. expandAt-below f pos l u i }) (expand-curve f pos u) pos
+  expandAt-expand l hu hl = curves-equal-residues f (expandAt f l u) (expand f u)
+      (record { long = expandAt-length f l u; below = λ i _. expandAt-below f pos l u i }) (expand-curve f pos u) pos
       (λ i h. co-root l i h ∙ ap (λ s. co Q s i) (root-sum l) ∙ sum-parts (span l) i hu hl h)
 
 pub tree-expand : (f : Family) → 0 < f .m → EqualLengths f → (u : List ℕ) → length u ≡ size f → treeExpand f u ≡ expand f u

@@ -9,9 +9,10 @@ use native.Mathlib.Omega.{arith}
 use lib.ListN.{length, length-append}
 use lib.Seq.{length-take-le}
 use Rattle.definitions.specs.Family.{Family, Row, size, rowAt}
-use Rattle.tree_model.specs.Level.{span}
 use Rattle.numbers.specs.Products.{plusProduct-length, plusProducts-length, transposed-length, transposedSum-length}
-use Rattle.tree_model.specs.Tree.{Matrix, Pair, F₀, F₁, leaf, join, node, expandPair, up, expandAt, firstTerms, adjointPair, down, rootPair, adjointAt}
+use Rattle.tree_model.specs.Level.{span}
+use Rattle.tree_model.specs.Tree.{Matrix, Pair, F₀, F₁, leaf, join, node, expandPair, up, expandAt}
+use Rattle.tree_model.specs.Tree.{adjointPair, leftPair, rightPair, down, rootPair, adjointAt}
 
 pub record MatrixLength (n : ℕ) (x : Matrix) : Type 0 where
   pub l00 : length (x .e00) ≡ n
@@ -31,7 +32,12 @@ leaf-length m p q = record { l00 = refl; l01 = refl; l10 = refl; l11 = refl }
 pub join-length : (m n : ℕ) (right left : Matrix) → MatrixLength n (join m n right left)
 unfolding join
 join-length m n right left =
-    record { l00 = plusProducts-length m n _ _ _ _ _; l01 = plusProducts-length m n _ _ _ _ _; l10 = plusProducts-length m n _ _ _ _ _; l11 = plusProducts-length m n _ _ _ _ _ }
+    record {
+      l00 = plusProducts-length m n _ _ _ _ _;
+      l01 = plusProducts-length m n _ _ _ _ _;
+      l10 = plusProducts-length m n _ _ _ _ _;
+      l11 = plusProducts-length m n _ _ _ _ _;
+    }
 
 pub node-length : (f : Family) (l t : ℕ) → MatrixLength (suc (span l)) (node f l t)
 unfolding node span
@@ -64,7 +70,8 @@ rootPair-length f l u = record { l0 = transposed-length (f .m) (span l) F₀ u; 
 pub down-length : (f : Family) (l t : ℕ) (v : Pair) → length (down f l t v) ≡ span l
 unfolding down span
 down-length f zero t v = refl
-down-length f (suc l) t v = length-append (down f l t (firstTerms (span l) v)) _ ∙ ap₂ _+_ (down-length f l t (firstTerms (span l) v)) (down-length f l (t + span l) (adjointPair (f .m) (span l) (node f l t) v))
+down-length f (suc l) t v = length-append (down f l t (leftPair l v)) _
+    ∙ ap₂ _+_ (down-length f l t (leftPair l v)) (down-length f l (t + span l) (rightPair f l t v))
 
 pub adjointAt-length : (f : Family) (l : ℕ) (u : List ℕ) → size f ≤ span l → length (adjointAt f l u) ≡ size f
 unfolding adjointAt

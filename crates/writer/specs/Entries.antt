@@ -17,7 +17,9 @@ use Rattle.writer.specs.Putting.{Put, put-one, put-length, put-then, put
 -- ---- a number
 module _ (old : List ℕ) (at x : ℕ) (room : at + 10 ≤ length old) where
   pub put-small : x < 10 → Put old at (decimal x) 10 (set old at (nought + x)) (at + 1)
-  put-small h = put-as old at ((nought + x) ∷ []) 1 _ _ (put-one old at (nought + x) (omega arith)) (decimal x) 10 (sym (decimal-small x h)) (omega arith)
+  put-small h =
+      put-as old at ((nought + x) ∷ []) 1 _ _ (put-one old at (nought + x) (omega arith))
+      (decimal x) 10 (sym (decimal-small x h)) (omega arith)
 
   module _ (h : 10 ≤ x) (l : x ≤ greatestNumber) (new : List ℕ) (next : ℕ) (p : Put old at (decimal (x / 10)) 10 new next) where
     pub large-inside : next + 1 ≤ at + 10
@@ -26,8 +28,10 @@ module _ (old : List ℕ) (at x : ℕ) (room : at + 10 ≤ length old) where
     pub put-large : Put old at (decimal x) 10 (set new next (nought + x % 10)) (next + 1)
     put-large =
         let size = put-length old at (decimal (x / 10)) 10 new next p room in
-        let q = put-then old at (decimal (x / 10)) 10 new next p ((nought + x % 10) ∷ []) 1 _ _ room (put-one new next (nought + x % 10) (omega (arith, large-inside))) in
-        let r = put-as old at (decimal (x / 10) ++ (nought + x % 10) ∷ []) 11 _ _ q (decimal x) 11 (sym (decimal-large x h)) (omega arith) in
+        let digit = nought + x % 10 in
+        let last = put-one new next digit (omega (arith, large-inside)) in
+        let q = put-then old at (decimal (x / 10)) 10 new next p (digit ∷ []) 1 _ _ room last in
+        let r = put-as old at (decimal (x / 10) ++ digit ∷ []) 11 _ _ q (decimal x) 11 (sym (decimal-large x h)) (omega arith) in
         record { place = r .place; short = length-decimal x l; stored = r .stored }
 
 -- ---- an entry of a list
@@ -49,9 +53,11 @@ module _ (old : List ℕ) (at k x : ℕ) (new : List ℕ) (next : ℕ) where
   pub put-first : k ≡ 0 → Put old at (decimal x) 10 new next → Put old at (entry k x) 11 new next
   put-first e p = put-as old at (decimal x) 10 new next p (entry k x) 11 (entry-first k x e) (omega arith)
 
-  pub put-later : (k ≡ 0 → ⊥) → at + 11 ≤ length old → Put (set old at space) (at + 1) (decimal x) 10 new next → Put old at (entry k x) 11 new next
+  pub put-later : (k ≡ 0 → ⊥) → at + 11 ≤ length old → Put (set old at space) (at + 1) (decimal x) 10 new next
+      → Put old at (entry k x) 11 new next
   put-later n room p =
-      let q = put-then old at (space ∷ []) 1 (set old at space) (at + 1) (put-one old at space (omega arith)) (decimal x) 10 new next (omega arith) p in
+      let first = put-one old at space (omega arith) in
+      let q = put-then old at (space ∷ []) 1 (set old at space) (at + 1) first (decimal x) 10 new next (omega arith) p in
       put-as old at (space ∷ decimal x) 11 new next q (entry k x) 11 (entry-later k x n) (omega arith)
 
 -- ---- a list, number by number
@@ -86,7 +92,8 @@ module _ (old : List ℕ) (at : ℕ) (xs : List ℕ) where
     pub listing-ends : length xs ≤ k → Put old at (numbers xs) (11 * length xs) out next
     listing-ends l =
         let within = s .within in
-        put-as old at (numbers (take k xs)) (11 * k) out next (s .put) (numbers xs) (11 * length xs) (ap numbers (take-all k xs l)) (omega arith)
+        put-as old at (numbers (take k xs)) (11 * k) out next (s .put) (numbers xs) (11 * length xs)
+        (ap numbers (take-all k xs l)) (omega arith)
 
     module _ (room : at + 11 * length xs ≤ length old) (l : k < length xs) where
       numbers-next : numbers (take k xs) ++ entry k (getD xs k 0) ≡ numbers (take (k + 1) xs)
@@ -94,13 +101,15 @@ module _ (old : List ℕ) (at : ℕ) (xs : List ℕ) where
           sym (ap (λ j. numbers (take j xs)) (add-one k) ∙ ap numbers (take-suc xs k 0 l) ∙ numbers-more (take k xs) (getD xs k 0)
           ∙ ap (λ j. numbers (take k xs) ++ entry j (getD xs k 0)) (length-take-le k xs (omega arith)))
 
-      pub listing-next : (new : List ℕ) (next′ : ℕ) → Put out next (entry k (getD xs k 0)) 11 new next′ → Listing old at xs new next′ (k + 1)
+      pub listing-next : (new : List ℕ) (next′ : ℕ) → Put out next (entry k (getD xs k 0)) 11 new next′
+          → Listing old at xs new next′ (k + 1)
       listing-next new next′ p =
-          let before = s .put in
-          let q = put-then old at (numbers (take k xs)) (11 * k) out next before (entry k (getD xs k 0)) 11 new next′ (omega arith) p in
+          let x = entry k (getD xs k 0) in
+          let q = put-then old at (numbers (take k xs)) (11 * k) out next (s .put) x 11 new next′ (omega arith) p in
           record {
             within = omega arith;
-            size = put-length out next (entry k (getD xs k 0)) 11 new next′ p (omega (arith, s .size, s .inside)) ∙ s .size;
+            size = put-length out next x 11 new next′ p (omega (arith, s .size, s .inside)) ∙ s .size;
             inside = omega (arith, s .inside, p .place, p .short);
-            put = put-as old at (numbers (take k xs) ++ entry k (getD xs k 0)) (11 * k + 11) new next′ q (numbers (take (k + 1) xs)) (11 * (k + 1)) numbers-next (omega arith);
+            put = put-as old at (numbers (take k xs) ++ x) (11 * k + 11) new next′ q
+                (numbers (take (k + 1) xs)) (11 * (k + 1)) numbers-next (omega arith);
           }

@@ -1,16 +1,17 @@
 -- Bytes put over a part of a list.
 --   Put old at xs most new next   new is old with xs from place at on, at most `most` of them, and next is the place after them
 --   Copying old at xs out k       a copy in progress: the first k entries of xs are put
--- Proved: the length stays; one entry; a second part right after the first; how a copy begins, goes on and ends.
+-- Proved: the length stays; one entry; a second part right after the first; what is put at the front; how a copy begins, goes on and
+-- ends.
 -- Assumes nothing.
 use mathlib.Core.Path.{_≡_, refl, sym, _∙_, ap}
 use mathlib.Core.List.{List, [], _∷_, _++_}
 use Prim.Native.Nat.{ℕ, _+_, _<_, _≤_}
 use native.Mathlib.Numerals.{add-one}
 use native.Mathlib.Omega.{arith}
-use lib.ListN.{length, getD, set, take, length-append, length-set}
+use lib.ListN.{length, drop, getD, set, take, length-append, length-set}
 use lib.Seq.{length-take-le, take-all, take-suc}
-use Rattle.texts.specs.Overwriting.{over, over-none, over-one, length-over, over-on}
+use Rattle.texts.specs.Overwriting.{over, over-front, over-none, over-one, length-over, over-on}
 
 pub record Put (old : List ℕ) (at : ℕ) (xs : List ℕ) (most : ℕ) (new : List ℕ) (next : ℕ) : Type 0 where
   pub place : next ≡ at + length xs
@@ -24,7 +25,8 @@ module _ (old : List ℕ) (at : ℕ) (xs : List ℕ) (most : ℕ) (new : List �
   pub put-length : at + most ≤ length old → length new ≡ length old
   put-length h = ap length (p .stored) ∙ length-over old at xs (omega (arith, p .short))
 
-  pub put-then : (ys : List ℕ) (more : ℕ) (new′ : List ℕ) (next′ : ℕ) → at + most ≤ length old → Put new next ys more new′ next′ → Put old at (xs ++ ys) (most + more) new′ next′
+  pub put-then : (ys : List ℕ) (more : ℕ) (new′ : List ℕ) (next′ : ℕ) → at + most ≤ length old → Put new next ys more new′ next′
+      → Put old at (xs ++ ys) (most + more) new′ next′
   put-then ys more new′ next′ h q = record {
     place = omega (arith, p .place, q .place, length-append xs ys);
     short = omega (arith, p .short, q .short, length-append xs ys);
@@ -39,6 +41,11 @@ module _ (old : List ℕ) (at : ℕ) (xs : List ℕ) (most : ℕ) (new : List �
     stored = p .stored ∙ ap (over old at) e;
   }
 
+pub put-front : (old xs : List ℕ) (most : ℕ) (new : List ℕ) (next : ℕ) → Put old 0 xs most new next → new ≡ xs ++ drop next old
+put-front old xs most new next p =
+    let place : next ≡ length xs = omega (arith, p .place) in
+    p .stored ∙ over-front old xs ∙ ap (λ n. xs ++ drop n old) (sym place)
+
 -- ---- a copy, entry by entry
 pub record Copying (old : List ℕ) (at : ℕ) (xs out : List ℕ) (k : ℕ) : Type 0 where
   pub within : k ≤ length xs
@@ -51,16 +58,21 @@ module _ (old : List ℕ) (at : ℕ) (xs : List ℕ) where
 
   module _ (out : List ℕ) (k : ℕ) (c : Copying old at xs out k) where
     pub copying-ends : length xs ≤ k → Put old at xs (length xs) out (at + k)
-    copying-ends l = record { place = omega (arith, c .within); short = omega arith; stored = c .stored ∙ ap (over old at) (take-all k xs l) }
+    copying-ends l = record {
+      place = omega (arith, c .within);
+      short = omega arith;
+      stored = c .stored ∙ ap (over old at) (take-all k xs l);
+    }
 
     pub copying-next : at + length xs ≤ length old → k < length xs → Copying old at xs (set out (at + k) (getD xs k 0)) (k + 1)
     copying-next room l =
+        let x = getD xs k 0 in
         let taken : length (take k xs) ≡ k = length-take-le k xs (omega arith) in
+        let one = over-one out (at + k) x (omega (arith, c .size)) in
         record {
           within = omega arith;
-          size = length-set out (at + k) (getD xs k 0) ∙ c .size;
+          size = length-set out (at + k) x ∙ c .size;
           stored =
-              over-on old at (take k xs) (omega arith) out (set out (at + k) (getD xs k 0)) (getD xs k 0 ∷ []) (at + k) (c .stored) (omega arith)
-              (over-one out (at + k) (getD xs k 0) (omega (arith, c .size)))
+              over-on old at (take k xs) (omega arith) out (set out (at + k) x) (x ∷ []) (at + k) (c .stored) (omega arith) one
               ∙ ap (over old at) (sym (ap (λ j. take j xs) (add-one k) ∙ take-suc xs k 0 l));
         }

@@ -1,18 +1,23 @@
-// Writes an answer text or a refusal text (the scope paper, 'The job text') into a lent output: bytes, decimal numbers, lists of
-// numbers, lines. Each function writes from a place on, answers the place after what it wrote, and leaves every other byte as it was.
+// Writes lines, of numbers, of one number and of an operation, and of them an answer text or a refusal text (the scope paper, 'The job
+// text'), into a lent output. Each function writes from a place on, answers the place after what it wrote, and leaves every other byte
+// as it was.
 ghost use mathlib.Core.List.{[]};
 ghost use Prim.Native.Nat.{_+_, _*_, _≤_};
 ghost use lib.ListN.{length};
 ghost use Rattle.definitions.specs.Text.{decimal, numbers, line, operationKey, name};
 ghost use Rattle.writer.specs.Putting.{Put};
 ghost use Rattle.writer.specs.Entries.{entry};
+ghost use Rattle.writer.specs.Lines.{lineRoom};
 ghost use Rattle.writer.specs.Answer.{Room, AnswerWritten};
 ghost use Rattle.writer.specs.Refusal.{longestRefusal, RefusalWritten};
 use definitions::Operation;
 
 fn put_bytes(out: &mut [u8], at: usize, bytes: &[u8]) -> usize
     requires { ⌜ at + length (now bytes) ≤ length (now out) ⌝ }
-    ensures { λ next. ⌜ Put (now (out .entry)) at (now (bytes .entry)) (length (now (bytes .entry))) (now (out .exit)) next ⌝ }
+    ensures { λ next. ⌜ Put
+        (now (out .entry)) at
+        (now (bytes .entry)) (length (now (bytes .entry)))
+        (now (out .exit)) next ⌝ }
 {
     let mut k: usize = 0;
     while k < bytes.len() {
@@ -51,7 +56,10 @@ fn put_entry(out: &mut [u8], at: usize, k: usize, x: u32) -> usize
 // Numbers with one space between two.
 fn put_numbers(out: &mut [u8], at: usize, list: &[u32]) -> usize
     requires { ⌜ at + 11 * length (now list) ≤ length (now out) ⌝ }
-    ensures { λ next. ⌜ Put (now (out .entry)) at (numbers (now (list .entry))) (11 * length (now (list .entry))) (now (out .exit)) next ⌝ }
+    ensures { λ next. ⌜ Put
+        (now (out .entry)) at
+        (numbers (now (list .entry))) (11 * length (now (list .entry)))
+        (now (out .exit)) next ⌝ }
 {
     let mut next = at;
     let mut k: usize = 0;
@@ -62,17 +70,48 @@ fn put_numbers(out: &mut [u8], at: usize, list: &[u32]) -> usize
     next
 }
 
-// The line of an operation, at the front.
-fn put_operation(out: &mut [u8], operation: Operation) -> usize
-    requires { ⌜ 13 ≤ length (now out) ⌝ }
-    ensures { λ next. ⌜ Put (now (out .entry)) 0 (line operationKey (name operation) []) 13 (now (out .exit)) next ⌝ }
+// The line with a key and a list of numbers.
+pub fn put_line(out: &mut [u8], at: usize, key: &[u8], list: &[u32]) -> usize
+    requires { ⌜ at + lineRoom (now key) (11 * length (now list)) ≤ length (now out) ⌝ }
+    ensures { λ next. ⌜ Put
+        (now (out .entry)) at
+        (line (now (key .entry)) (numbers (now (list .entry))) []) (lineRoom (now (key .entry)) (11 * length (now (list .entry))))
+        (now (out .exit)) next ⌝ }
+{
+    let first = put_bytes(out, at, key);
+    let end = put_numbers(out, first, list);
+    out[end] = b'\n';
+    end + 1
+}
+
+// The line with a key and one number.
+pub fn put_number_line(out: &mut [u8], at: usize, key: &[u8], x: u32) -> usize
+    requires { ⌜ at + lineRoom (now key) 10 ≤ length (now out) ⌝ }
+    ensures { λ next. ⌜ Put
+        (now (out .entry)) at
+        (line (now (key .entry)) (decimal x) []) (lineRoom (now (key .entry)) 10)
+        (now (out .exit)) next ⌝ }
+{
+    let first = put_bytes(out, at, key);
+    let last = put_number(out, first, x);
+    out[last] = b'\n';
+    last + 1
+}
+
+// The line of an operation.
+pub fn put_operation_line(out: &mut [u8], at: usize, operation: Operation) -> usize
+    requires { ⌜ at + lineRoom operationKey 9 ≤ length (now out) ⌝ }
+    ensures { λ next. ⌜ Put
+        (now (out .entry)) at
+        (line operationKey (name operation) []) (lineRoom operationKey 9)
+        (now (out .exit)) next ⌝ }
 {
     match operation {
-        Operation::Expand => put_bytes(out, 0, b"op=expand\n"),
-        Operation::Adjoint => put_bytes(out, 0, b"op=adjoint\n"),
-        Operation::Decompose => put_bytes(out, 0, b"op=decompose\n"),
-        Operation::Moments => put_bytes(out, 0, b"op=moments\n"),
-        Operation::Norms => put_bytes(out, 0, b"op=norms\n"),
+        Operation::Expand => put_bytes(out, at, b"op=expand\n"),
+        Operation::Adjoint => put_bytes(out, at, b"op=adjoint\n"),
+        Operation::Decompose => put_bytes(out, at, b"op=decompose\n"),
+        Operation::Moments => put_bytes(out, at, b"op=moments\n"),
+        Operation::Norms => put_bytes(out, at, b"op=norms\n"),
     }
 }
 
@@ -82,11 +121,8 @@ pub fn write_answer(out: &mut [u8], operation: Operation, list: &[u32]) -> usize
     requires { ⌜ Room (now out) (now list) ⌝ }
     ensures { λ r. ⌜ AnswerWritten operation (now (list .entry)) r (now (out .entry)) (now (out .exit)) ⌝ }
 {
-    let line = put_operation(out, operation);
-    let key = put_bytes(out, line, b"out=");
-    let end = put_numbers(out, key, list);
-    out[end] = b'\n';
-    end + 1
+    let result = put_operation_line(out, 0, operation);
+    put_line(out, result, b"out=", list)
 }
 
 // The refusal text at the front of the output, with its length as the answer. The output has room for that of any 32-bit number.
@@ -94,8 +130,5 @@ pub fn write_refusal(out: &mut [u8], number: u32) -> usize
     requires { ⌜ longestRefusal ≤ length (now out) ⌝ }
     ensures { λ r. ⌜ RefusalWritten number r (now (out .entry)) (now (out .exit)) ⌝ }
 {
-    let key = put_bytes(out, 0, b"refused=");
-    let last = put_number(out, key, number);
-    out[last] = b'\n';
-    last + 1
+    put_number_line(out, 0, b"refused=", number)
 }

@@ -3,12 +3,17 @@
 --   Returned    the promise of an exported function without a working list: the number of the verdict of its tests, and the result
 --               in the lent list if finished or what the list held if refused
 --   ReturnedIn  of one with a working list: the same, and that list cleared if finished or as it was if refused
+--   PlainReturned, TreeReturned, NormsReturned, MomentsReturned   of the exported functions on a family;  TextReturned  on a job text
 -- A lent number is a list of one. The scope paper, 'Who causes which refusal'. Assumes nothing.
 use mathlib.Core.Path.{_≡_}
-use mathlib.Core.List.{List, []}
+use mathlib.Core.List.{List, [], _∷_, _++_}
 use Prim.Native.Nat.{ℕ}
+use lib.ListN.{length, drop}
 use Rattle.definitions.specs.Answers.{after, cleared}
-use Rattle.definitions.specs.Refusals.{Test, Verdict, finished, refused, verdict}
+use Rattle.definitions.specs.Family.{Family}
+use Rattle.definitions.specs.Orthogonality.{moments, norms}
+use Rattle.definitions.specs.Refusals.{Test, Verdict, finished, refused, verdict, plainTests, treeTests, momentsTests, normsTests}
+use Rattle.definitions.specs.TextCall.{textTests, reply}
 
 abbrev pub number : Verdict → ℕ
 number (finished values) = 0
@@ -24,3 +29,23 @@ pub record ReturnedIn (tests : List Test) (result : List ℕ) (r : ℕ) (output 
   pub answer : r ≡ number (verdict tests [])
   pub written : output′ ≡ after (verdict tests []) result output
   pub wiped : work′ ≡ after (verdict tests []) (cleared work) work
+
+-- the functions on a family f; convert is the definition of the conversion
+abbrev pub PlainReturned : (Family → List ℕ → List ℕ) → Family → List ℕ → ℕ → List ℕ → List ℕ → Type 0
+PlainReturned convert f u r output output′ = Returned (plainTests f u (length output)) (convert f u) r output output′
+
+abbrev pub TreeReturned : (Family → List ℕ → List ℕ) → Family → List ℕ → ℕ → List ℕ → List ℕ → List ℕ → List ℕ → Type 0
+TreeReturned convert f u r output output′ work work′ =
+    ReturnedIn (treeTests f u (length output) (length work)) (convert f u) r output output′ work work′
+
+abbrev pub NormsReturned : Family → ℕ → List ℕ → List ℕ → Type 0
+NormsReturned f r output output′ = Returned (normsTests f (length output)) (norms f) r output output′
+
+abbrev pub MomentsReturned : Family → ℕ → List ℕ → List ℕ → List ℕ → List ℕ → Type 0
+MomentsReturned f r output output′ work work′ =
+    ReturnedIn (momentsTests f (length output) (length work)) (moments f) r output output′ work work′
+
+-- the function on a job text t; count and count′: the lent number before and after, the length of the answer text
+pub record TextReturned (t : List ℕ) (r : ℕ) (output output′ work work′ : List ℕ) (count count′ : ℕ) : Type 0 where
+  pub text : ReturnedIn (textTests t (length output) (length work)) (reply t ++ drop (length (reply t)) output) r output output′ work work′
+  pub counted : Returned (textTests t (length output) (length work)) (length (reply t) ∷ []) r (count ∷ []) (count′ ∷ [])

@@ -2,72 +2,77 @@
 -- Proved: where the number of the verdict is 0 the verdict is the finished one, for the tests of each exported function.
 -- Assumes nothing.
 use mathlib.Core.Path.{_≡_, refl, sym, _∙_, ap}
-use mathlib.Core.Bool.{Bool, true, false}
-use mathlib.Core.List.{List, [], _∷_}
+use mathlib.Core.List.{List, [], _∷_, _++_}
 use Prim.Native.Nat.{ℕ, _<_}
 use native.Mathlib.Omega.{arith}
 use borrow.Author.Needs.{needs}
 use Rattle.definitions.specs.Family.{Family}
-use Rattle.definitions.specs.Refusals.{Test, finished, verdict, modulusTest, lengthsTest, rowCountTest, curveLengthTest, outputTest, workTest, entriesTest, aInverseTest, cInverseTest, curveEntriesTest, numberTest, numberInverseTest, plainTests, treeTests, momentsTests, normsTests, inverseTests}
-use Rattle.definitions.specs.Text.{Job, meant}
+use Rattle.definitions.specs.Refusals.{Test, Verdict, finished, refused, verdict, modulusTest, curveLengthTest, outputTest, workTest, curveEntriesTest, numberTest, numberInverseTest, familyShape, familyRows, plainTests, treeTests, momentsTests, normsTests, inverseTests}
+use Rattle.definitions.specs.Text.{meant}
 use Rattle.definitions.specs.Reading.{Read, found, malformed, readJob}
-use Rattle.definitions.specs.TextCall.{textLengthTest, emptyCurveTest, curveTest, textOutputTest, jobTests, formTests, textTests}
-use Rattle.definitions.specs.declared.Operation.{Operation}
-use Rattle.acceptance.specs.Verdicts.{verdict-here, verdict-next}
+use Rattle.definitions.specs.TextCall.{textLengthTest, textOutputTest, jobTests, formTests, textTests}
+use Rattle.acceptance.specs.Verdicts.{withValues}
+use Rattle.acceptance.specs.Given.{Given, revalued, refused-given, given-append, shape-given, rows-given}
 use Rattle.zahupnik.specs.Returned.{number}
 
 abbrev Positive : List Test → Type 0
-Positive [] = Unit {0}
-Positive (t ∷ ts) = (0 < t .number) × Positive ts
+Positive ts = Given (λ k. 0 < k) ts
 
 zero-finished : (ts : List Test) → Positive ts → number (verdict ts []) ≡ 0 → verdict ts [] ≡ finished []
-unfolding verdict
-zero-finished [] positive e = refl
-zero-finished (t ∷ ts) (here, later) e = split (t .holds) refl (zero-finished ts later)
+zero-finished ts positive e = split (verdict ts []) refl
   where
-    split : (h : Bool) → t .holds ≡ h → (number (verdict ts []) ≡ 0 → verdict ts [] ≡ finished []) → verdict (t ∷ ts) [] ≡ finished []
-    split true q rest = let z : t .number ≡ 0 = sym (ap number (verdict-here t ts [] q)) ∙ e in absurd (omega arith)
-    split false q rest = verdict-next t ts [] q ∙ rest (sym (ap number (verdict-next t ts [] q)) ∙ e)
+    split : (v : Verdict) → verdict ts [] ≡ v → verdict ts [] ≡ finished []
+    split (finished values) q = revalued ts [] [] ∙ ap (λ v. withValues [] v) q
+    split (refused k) q =
+        let some : 0 < k = refused-given (λ k. 0 < k) [] k ts positive q in
+        let none : k ≡ 0 = sym (ap number q) ∙ e in
+        absurd (omega arith)
 
-module _ (f : Family) (u : List ℕ) (output : ℕ) where
-  pub plain-zero : number (verdict (plainTests f u output) []) ≡ 0 → verdict (plainTests f u output) [] ≡ finished []
-  unfolding plainTests modulusTest lengthsTest rowCountTest curveLengthTest outputTest entriesTest aInverseTest cInverseTest curveEntriesTest
-  plain-zero = zero-finished (plainTests f u output) (search needs)
+-- the stages of a family
+family-positive : (f : Family) (rest : List Test) → Positive rest → Positive (familyShape f ++ rest)
+family-positive f rest later = given-append _ (familyShape f) rest (shape-given _ _ _ _ _ (omega arith) (omega arith) (omega arith)) later
 
-module _ (f : Family) (u : List ℕ) (output work : ℕ) where
-  pub tree-zero : number (verdict (treeTests f u output work) []) ≡ 0 → verdict (treeTests f u output work) [] ≡ finished []
-  unfolding treeTests modulusTest lengthsTest rowCountTest curveLengthTest outputTest workTest entriesTest aInverseTest cInverseTest curveEntriesTest
-  tree-zero = zero-finished (treeTests f u output work) (search needs)
+rows-positive : (f : Family) → Positive (familyRows f)
+rows-positive f = rows-given _ f (omega arith) (omega arith) (omega arith)
 
-module _ (f : Family) (output work : ℕ) where
-  pub moments-zero : number (verdict (momentsTests f output work) []) ≡ 0 → verdict (momentsTests f output work) [] ≡ finished []
-  unfolding momentsTests modulusTest lengthsTest rowCountTest outputTest workTest entriesTest aInverseTest cInverseTest
-  moments-zero = zero-finished (momentsTests f output work) (search needs)
+curve-positive : (f : Family) (u : List ℕ) → Positive (familyRows f ++ curveEntriesTest f u ∷ [])
+unfolding curveEntriesTest
+curve-positive f u = given-append _ (familyRows f) (curveEntriesTest f u ∷ []) (rows-positive f) (λ e. omega arith, tt)
 
-pub norms-zero : (f : Family) (output : ℕ) → number (verdict (normsTests f output) []) ≡ 0 → verdict (normsTests f output) [] ≡ finished []
-unfolding normsTests modulusTest lengthsTest rowCountTest outputTest entriesTest aInverseTest cInverseTest
-norms-zero f output = zero-finished (normsTests f output) (search needs)
+module _ (f : Family) where
+  pub plain-zero : (u : List ℕ) (output : ℕ) → number (verdict (plainTests f u output) []) ≡ 0
+      → verdict (plainTests f u output) [] ≡ finished []
+  unfolding plainTests curveLengthTest outputTest
+  plain-zero u output = zero-finished (plainTests f u output) (family-positive f _ (search needs, (search needs, curve-positive f u)))
+
+  pub tree-zero : (u : List ℕ) (output work : ℕ) → number (verdict (treeTests f u output work) []) ≡ 0
+      → verdict (treeTests f u output work) [] ≡ finished []
+  unfolding treeTests curveLengthTest outputTest workTest
+  tree-zero u output work =
+      zero-finished (treeTests f u output work) (family-positive f _ (search needs, (search needs, (search needs, curve-positive f u))))
+
+  pub moments-zero : (output work : ℕ) → number (verdict (momentsTests f output work) []) ≡ 0
+      → verdict (momentsTests f output work) [] ≡ finished []
+  unfolding momentsTests outputTest workTest
+  moments-zero output work = zero-finished (momentsTests f output work) (family-positive f _ (search needs, (search needs, rows-positive f)))
+
+  pub norms-zero : (output : ℕ) → number (verdict (normsTests f output) []) ≡ 0 → verdict (normsTests f output) [] ≡ finished []
+  unfolding normsTests outputTest
+  norms-zero output = zero-finished (normsTests f output) (family-positive f _ (search needs, rows-positive f))
 
 pub inverse-zero : (m x : ℕ) → number (verdict (inverseTests m x) []) ≡ 0 → verdict (inverseTests m x) [] ≡ finished []
 unfolding inverseTests modulusTest numberTest numberInverseTest
 inverse-zero m x = zero-finished (inverseTests m x) (search needs)
 
-job-positive : (j : Job) (output work : ℕ) → Positive (jobTests j output work)
-unfolding jobTests modulusTest lengthsTest rowCountTest curveLengthTest emptyCurveTest curveTest textOutputTest workTest entriesTest aInverseTest cInverseTest curveEntriesTest
-job-positive j output work = by (j .operation)
-  where
-    by : (o : Operation) → Positive (jobTests (record { family = j .family; operation = o; curve = j .curve }) output work)
-    by Operation.Expand = search needs
-    by Operation.Adjoint = search needs
-    by Operation.Decompose = search needs
-    by Operation.Moments = search needs
-    by Operation.Norms = search needs
-
 form-positive : (r : Read) (output work : ℕ) → Positive (formTests r output work)
-unfolding formTests
+unfolding formTests jobTests curveLengthTest textOutputTest workTest
 form-positive malformed output work = search needs
-form-positive (found w) output work = (omega arith, job-positive (meant w) output work)
+form-positive (found w) output work = (
+  λ e. omega arith,
+  family-positive (meant w .family) _ (λ e. omega arith, (λ e. omega arith, (λ e. omega arith, curve-positive (meant w .family) (w .curve)))),
+)
 
-pub text-zero : (t : List ℕ) (output work : ℕ) → number (verdict (textTests t output work) []) ≡ 0 → verdict (textTests t output work) [] ≡ finished []
+pub text-zero : (t : List ℕ) (output work : ℕ) → number (verdict (textTests t output work) []) ≡ 0
+    → verdict (textTests t output work) [] ≡ finished []
 unfolding textTests textLengthTest
-text-zero t output work = zero-finished (textTests t output work) (omega arith, form-positive (readJob t) output work)
+text-zero t output work = zero-finished (textTests t output work) (λ e. omega arith, form-positive (readJob t) output work)

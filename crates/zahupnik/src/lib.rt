@@ -1,16 +1,13 @@
 // The public calls for C, as include/zahupnik.h declares them: numbers and lent lists only, and each returns 0 or the refusal
 // number. None has a 'requires', and each has one 'ensures' that settles the number and what is lent on every input.
 ghost use mathlib.Core.Path.{_≡_};
-ghost use mathlib.Core.List.{[], _∷_, _++_};
-ghost use lib.ListN.{length, drop};
+ghost use mathlib.Core.List.{[], _∷_};
 ghost use Rattle.definitions.specs.Answers.{answered};
 ghost use Rattle.definitions.specs.Conversion.{expand, adjoint, decompose};
 ghost use Rattle.definitions.specs.Family.{family};
 ghost use Rattle.definitions.specs.Number as Number;
-ghost use Rattle.definitions.specs.Orthogonality.{norms, moments};
-ghost use Rattle.definitions.specs.Refusals.{plainTests, treeTests, normsTests, momentsTests, inverseTests};
-ghost use Rattle.definitions.specs.TextCall.{textTests, reply};
-ghost use Rattle.zahupnik.specs.Returned.{number, Returned, ReturnedIn};
+ghost use Rattle.definitions.specs.Refusals.{inverseTests};
+ghost use Rattle.zahupnik.specs.Returned.{number, Returned, PlainReturned, TreeReturned, NormsReturned, MomentsReturned, TextReturned};
 use definitions::Answer;
 use definitions::Valued;
 
@@ -48,7 +45,8 @@ pub extern "C" fn zahupnik_plain_expand(
     curve: &[u32],
     output: &mut [u32],
 ) -> u32
-    ensures { λ r. ⌜ Returned (plainTests (family m (now (a .entry)) (now (b .entry)) (now (c .entry))) (now (curve .entry)) (length (now (output .entry)))) (expand (family m (now (a .entry)) (now (b .entry)) (now (c .entry))) (now (curve .entry))) r (now (output .entry)) (now (output .exit)) ⌝ }
+    ensures { λ r. ⌜ PlainReturned expand (family m (now (a .entry)) (now (b .entry)) (now (c .entry))) (now (curve .entry)) r
+        (now (output .entry)) (now (output .exit)) ⌝ }
 {
     number(conversion::plain_expand(m, a, b, c, curve, output))
 }
@@ -63,7 +61,8 @@ pub extern "C" fn zahupnik_plain_adjoint(
     curve: &[u32],
     output: &mut [u32],
 ) -> u32
-    ensures { λ r. ⌜ Returned (plainTests (family m (now (a .entry)) (now (b .entry)) (now (c .entry))) (now (curve .entry)) (length (now (output .entry)))) (adjoint (family m (now (a .entry)) (now (b .entry)) (now (c .entry))) (now (curve .entry))) r (now (output .entry)) (now (output .exit)) ⌝ }
+    ensures { λ r. ⌜ PlainReturned adjoint (family m (now (a .entry)) (now (b .entry)) (now (c .entry))) (now (curve .entry)) r
+        (now (output .entry)) (now (output .exit)) ⌝ }
 {
     number(conversion::plain_adjoint(m, a, b, c, curve, output))
 }
@@ -78,7 +77,8 @@ pub extern "C" fn zahupnik_plain_decompose(
     coefficients: &[u32],
     output: &mut [u32],
 ) -> u32
-    ensures { λ r. ⌜ Returned (plainTests (family m (now (a .entry)) (now (b .entry)) (now (c .entry))) (now (coefficients .entry)) (length (now (output .entry)))) (decompose (family m (now (a .entry)) (now (b .entry)) (now (c .entry))) (now (coefficients .entry))) r (now (output .entry)) (now (output .exit)) ⌝ }
+    ensures { λ r. ⌜ PlainReturned decompose (family m (now (a .entry)) (now (b .entry)) (now (c .entry))) (now (coefficients .entry)) r
+        (now (output .entry)) (now (output .exit)) ⌝ }
 {
     number(conversion::plain_decompose(m, a, b, c, coefficients, output))
 }
@@ -86,7 +86,8 @@ pub extern "C" fn zahupnik_plain_decompose(
 // Norms. Refused as conversion::norms is.
 #[no_mangle]
 pub extern "C" fn zahupnik_norms(m: u32, a: &[u32], b: &[u32], c: &[u32], output: &mut [u32]) -> u32
-    ensures { λ r. ⌜ Returned (normsTests (family m (now (a .entry)) (now (b .entry)) (now (c .entry))) (length (now (output .entry)))) (norms (family m (now (a .entry)) (now (b .entry)) (now (c .entry)))) r (now (output .entry)) (now (output .exit)) ⌝ }
+    ensures { λ r. ⌜ NormsReturned (family m (now (a .entry)) (now (b .entry)) (now (c .entry))) r
+        (now (output .entry)) (now (output .exit)) ⌝ }
 {
     number(conversion::norms(m, a, b, c, output))
 }
@@ -102,7 +103,8 @@ pub extern "C" fn zahupnik_tree_expand(
     output: &mut [u32],
     work: &mut [u32],
 ) -> u32
-    ensures { λ r. ⌜ ReturnedIn (treeTests (family m (now (a .entry)) (now (b .entry)) (now (c .entry))) (now (curve .entry)) (length (now (output .entry))) (length (now (work .entry)))) (expand (family m (now (a .entry)) (now (b .entry)) (now (c .entry))) (now (curve .entry))) r (now (output .entry)) (now (output .exit)) (now (work .entry)) (now (work .exit)) ⌝ }
+    ensures { λ r. ⌜ TreeReturned expand (family m (now (a .entry)) (now (b .entry)) (now (c .entry))) (now (curve .entry)) r
+        (now (output .entry)) (now (output .exit)) (now (work .entry)) (now (work .exit)) ⌝ }
 {
     number(conversion::tree_expand(m, a, b, c, curve, output, work))
 }
@@ -118,7 +120,8 @@ pub extern "C" fn zahupnik_tree_adjoint(
     output: &mut [u32],
     work: &mut [u32],
 ) -> u32
-    ensures { λ r. ⌜ ReturnedIn (treeTests (family m (now (a .entry)) (now (b .entry)) (now (c .entry))) (now (curve .entry)) (length (now (output .entry))) (length (now (work .entry)))) (adjoint (family m (now (a .entry)) (now (b .entry)) (now (c .entry))) (now (curve .entry))) r (now (output .entry)) (now (output .exit)) (now (work .entry)) (now (work .exit)) ⌝ }
+    ensures { λ r. ⌜ TreeReturned adjoint (family m (now (a .entry)) (now (b .entry)) (now (c .entry))) (now (curve .entry)) r
+        (now (output .entry)) (now (output .exit)) (now (work .entry)) (now (work .exit)) ⌝ }
 {
     number(conversion::tree_adjoint(m, a, b, c, curve, output, work))
 }
@@ -134,7 +137,8 @@ pub extern "C" fn zahupnik_tree_decompose(
     output: &mut [u32],
     work: &mut [u32],
 ) -> u32
-    ensures { λ r. ⌜ ReturnedIn (treeTests (family m (now (a .entry)) (now (b .entry)) (now (c .entry))) (now (coefficients .entry)) (length (now (output .entry))) (length (now (work .entry)))) (decompose (family m (now (a .entry)) (now (b .entry)) (now (c .entry))) (now (coefficients .entry))) r (now (output .entry)) (now (output .exit)) (now (work .entry)) (now (work .exit)) ⌝ }
+    ensures { λ r. ⌜ TreeReturned decompose (family m (now (a .entry)) (now (b .entry)) (now (c .entry))) (now (coefficients .entry)) r
+        (now (output .entry)) (now (output .exit)) (now (work .entry)) (now (work .exit)) ⌝ }
 {
     number(conversion::tree_decompose(m, a, b, c, coefficients, output, work))
 }
@@ -149,7 +153,8 @@ pub extern "C" fn zahupnik_moments(
     output: &mut [u32],
     work: &mut [u32],
 ) -> u32
-    ensures { λ r. ⌜ ReturnedIn (momentsTests (family m (now (a .entry)) (now (b .entry)) (now (c .entry))) (length (now (output .entry))) (length (now (work .entry)))) (moments (family m (now (a .entry)) (now (b .entry)) (now (c .entry)))) r (now (output .entry)) (now (output .exit)) (now (work .entry)) (now (work .exit)) ⌝ }
+    ensures { λ r. ⌜ MomentsReturned (family m (now (a .entry)) (now (b .entry)) (now (c .entry))) r
+        (now (output .entry)) (now (output .exit)) (now (work .entry)) (now (work .exit)) ⌝ }
 {
     number(conversion::moments(m, a, b, c, output, work))
 }
@@ -162,7 +167,8 @@ pub extern "C" fn zahupnik_convert_text(
     work: &mut [u32],
     count: &mut u32,
 ) -> u32
-    ensures { λ r. ⌜ ReturnedIn (textTests (now (text .entry)) (length (now (output .entry))) (length (now (work .entry)))) (reply (now (text .entry)) ++ drop (length (reply (now (text .entry)))) (now (output .entry))) r (now (output .entry)) (now (output .exit)) (now (work .entry)) (now (work .exit)) × Returned (textTests (now (text .entry)) (length (now (output .entry))) (length (now (work .entry)))) (length (reply (now (text .entry))) ∷ []) r (now (count .entry) ∷ []) (now (count .exit) ∷ []) ⌝ }
+    ensures { λ r. ⌜ TextReturned (now (text .entry)) r
+        (now (output .entry)) (now (output .exit)) (now (work .entry)) (now (work .exit)) (now (count .entry)) (now (count .exit)) ⌝ }
 {
     match job::convert_text(text, output, work) {
         Valued::Value(bytes) => {

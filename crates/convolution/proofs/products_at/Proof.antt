@@ -58,17 +58,21 @@ shared-slice-read-pair-4 c =
 
 pair-requires : tie.Need-pair-requires Inv-loop μ-loop
 pair-requires c κs =
-    multiplying-small _ _ _ _ _ _ _ _
-    (c .before .before .before .before .before .before .before .before .before .before .before .before .pre) _ _ _ _
-    (c .before .before .before .before .before .loop .inv)
+    let loop = c .before .before .before .before .before in
+    multiplying-small _ _ _ _ _ _ _ _ (loop .before .before .before .before .before .before .before .pre) _ _ _ _ (loop .loop .inv)
 
 wrapping-add-u64-requires : tie.Need-wrapping-add-u64-requires Inv-loop μ-loop
 wrapping-add-u64-requires c κs = search needs
 
 wraps-after-requires : tie.Need-wraps-after-requires Inv-loop μ-loop
 wraps-after-requires c κs =
-    omega
-    (arith, c .before .before .before .before .before .before .before .loop .inv .total .few, c .before .before .before .before .before .before .before .loop .inv .ends .second, c .before .before .before .before .before .before .before .before .before .before .before .before .before .before .good)
+    let loop = c .before .before .before .before .before .before .before in
+    omega (
+      arith,
+      loop .loop .inv .total .few,
+      loop .loop .inv .ends .second,
+      loop .before .before .before .before .before .before .before .good,
+    )
 
 add-i : tie.Need-add-i Inv-loop μ-loop
 add-i c = omega arith
@@ -78,9 +82,8 @@ loop-less c = omega arith
 
 loop-again : tie.Need-loop-again Inv-loop μ-loop
 loop-again c =
-    multiplying-next _ _ _ _ _ _ _ _
-    (c .before .before .before .before .before .before .before .before .before .before .before .before .before .before .before .pre) _ _
-    _ _ (c .before .before .before .before .before .before .before .before .loop .inv)
+    let loop = c .before .before .before .before .before .before .before .before in
+    multiplying-next _ _ _ _ _ _ _ _ (loop .before .before .before .before .before .before .before .pre) _ _ _ _ (loop .loop .inv)
     (c .before .before .before .before .before .before .before .loop-test .taken) _ _ _ (c .before .before .pair .ensures)
     (c .before .wrapping-add-u64 .ensures) (c .wraps-after .ensures)
 

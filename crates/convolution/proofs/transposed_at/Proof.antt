@@ -1,5 +1,5 @@
--- `convolution::transposed_at` meets its contract: the loop's invariant is that the terms before j are in (`Transposing`), and its measure is
--- what is left of them. Assumes nothing.
+-- `convolution::transposed_at` meets its contract: the loop's invariant is that the terms before j are in (`Transposing`), and its
+-- measure is what is left of them. Assumes nothing.
 use Prim.Native.Nat.{_-_}
 use native.Mathlib.Omega.{arith}
 use borrow.Author.Needs.{needs}
@@ -47,8 +47,8 @@ wrapping-add-u64-requires c κs = search needs
 
 wraps-after-requires : tie.Need-wraps-after-requires Inv-loop μ-loop
 wraps-after-requires c κs =
-    omega
-    (arith, c .before .before .before .before .before .loop .inv .total .few, c .before .before .before .before .before .loop .inv .ends .second, c .before .before .before .before .before .before .before .before .before .before .good)
+    let loop = c .before .before .before .before .before in
+    omega (arith, loop .loop .inv .total .few, loop .loop .inv .ends .second, loop .before .before .before .before .before .good)
 
 add-j : tie.Need-add-j Inv-loop μ-loop
 add-j c = omega arith
@@ -58,9 +58,10 @@ loop-less c = omega arith
 
 loop-again : tie.Need-loop-again Inv-loop μ-loop
 loop-again c =
-    transposing-next _ _ _ _ (c .before .before .before .before .before .before .before .before .before .before .before .pre) _ _ _ _ _
-    (c .before .before .before .before .before .before .loop .inv) (c .before .before .before .before .before .loop-test .taken) _ _ _
-    (c .before .before .pair .ensures) (c .before .wrapping-add-u64 .ensures) (c .wraps-after .ensures)
+    let loop = c .before .before .before .before .before .before in
+    transposing-next _ _ _ _ (loop .before .before .before .before .before .pre) _ _ _ _ _ (loop .loop .inv)
+    (c .before .before .before .before .before .loop-test .taken) _ _ _ (c .before .before .pair .ensures)
+    (c .before .wrapping-add-u64 .ensures) (c .wraps-after .ensures)
 
 remainder-of-sum-requires : tie.Need-remainder-of-sum-requires Inv-loop μ-loop
 remainder-of-sum-requires c κs = c .before .before .before .before .before .before .pre .reducible

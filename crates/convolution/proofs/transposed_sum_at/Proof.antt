@@ -3,7 +3,8 @@
 use Prim.Native.Nat.{_-_}
 use native.Mathlib.Omega.{arith}
 use borrow.Author.Needs.{needs}
-use Rattle.convolution.specs.Coefficients.{TransposingBoth, transposing-both-starts, transposing-both-small, transposing-both-next, transposing-both-ends}
+use Rattle.convolution.specs.Coefficients.{TransposingBoth, transposing-both-starts, transposing-both-small}
+use Rattle.convolution.specs.Coefficients.{transposing-both-next, transposing-both-ends}
 use Rattle.convolution.proofs.transposed_sum_at.Statement.{statement}
 use Rattle.convolution.proofs.transposed_sum_at.Tie as tie
 
@@ -55,17 +56,21 @@ shared-slice-read-pair-4 c =
 
 pair-requires : tie.Need-pair-requires Inv-loop μ-loop
 pair-requires c κs =
-    transposing-both-small _ _ _ _ _ _
-    (c .before .before .before .before .before .before .before .before .before .before .before .before .pre) _ _ _ _ _
-    (c .before .before .before .before .before .loop .inv)
+    let loop = c .before .before .before .before .before in
+    transposing-both-small _ _ _ _ _ _ (loop .before .before .before .before .before .before .before .pre) _ _ _ _ _ (loop .loop .inv)
 
 wrapping-add-u64-requires : tie.Need-wrapping-add-u64-requires Inv-loop μ-loop
 wrapping-add-u64-requires c κs = search needs
 
 wraps-after-requires : tie.Need-wraps-after-requires Inv-loop μ-loop
 wraps-after-requires c κs =
-    omega
-    (arith, c .before .before .before .before .before .before .before .loop .inv .total .few, c .before .before .before .before .before .before .before .loop .inv .ends .second, c .before .before .before .before .before .before .before .before .before .before .before .before .before .before .good)
+    let loop = c .before .before .before .before .before .before .before in
+    omega (
+      arith,
+      loop .loop .inv .total .few,
+      loop .loop .inv .ends .second,
+      loop .before .before .before .before .before .before .before .good,
+    )
 
 add-j : tie.Need-add-j Inv-loop μ-loop
 add-j c = omega arith
@@ -75,9 +80,8 @@ loop-less c = omega arith
 
 loop-again : tie.Need-loop-again Inv-loop μ-loop
 loop-again c =
-    transposing-both-next _ _ _ _ _ _
-    (c .before .before .before .before .before .before .before .before .before .before .before .before .before .before .before .pre) _ _
-    _ _ _ (c .before .before .before .before .before .before .before .before .loop .inv)
+    let loop = c .before .before .before .before .before .before .before .before in
+    transposing-both-next _ _ _ _ _ _ (loop .before .before .before .before .before .before .before .pre) _ _ _ _ _ (loop .loop .inv)
     (c .before .before .before .before .before .before .before .loop-test .taken) _ _ _ (c .before .before .pair .ensures)
     (c .before .wrapping-add-u64 .ensures) (c .wraps-after .ensures)
 

@@ -1,6 +1,6 @@
 -- `convert_text` meets its promise: at each test its verdict, and past them that of the job. Assumes nothing.
 use mathlib.Core.Path.{subst}
-use Rattle.form.specs.Form.{Formed}
+use Rattle.form.specs.JobForm.{Formed}
 use Rattle.job.specs.Texts.{too-long, short-text, no-form, sizes-refused, ready, text-answered}
 use borrow.Author.Needs.{needs}
 use Rattle.job.proofs.convert_text.Statement.{statement}

@@ -1,5 +1,5 @@
 -- `decompose_after_expand` meets its law: Decompose undoes Expand on the lists that the calls hand out. Assumes nothing.
-use Rattle.laws.specs.Returned.{first-refused, both-made, decompose-undoes-expand}
+use Rattle.laws.specs.RoundTrips.{first-refused, both-made, decompose-undoes-expand}
 use borrow.Author.Needs.{needs}
 use Rattle.laws.proofs.decompose_after_expand.Statement.{statement}
 use Rattle.laws.proofs.decompose_after_expand.Tie as tie
@@ -21,7 +21,7 @@ same-length-2 c = search needs
 
 returns : tie.Need-returns
 returns c =
-    first-refused decompose-undoes-expand _ _ _ _ _ _ _ _ _ _ _ _ _
+    first-refused decompose-undoes-expand _ _ _ _ _ _ _ _ _ _
     (c .before .before .before .before .before .before .expand-by .ensures) _
     (c .enum-told2 .given .1)
 
@@ -39,7 +39,7 @@ same-length-5 c = search needs
 
 returns-2 : tie.Need-returns-2
 returns-2 c =
-    both-made decompose-undoes-expand _ _ _ _ _ _ _ _ _ _ _ _ _
+    both-made decompose-undoes-expand _ _ _ _ _ _ _ _ _ _
     (c .before .before .before .before .before .before .before .before .before .before .before .before .before .before .expand-by .ensures)
     (c .before .before .before .before .before .before .before .before .enum-told .given .1) _ _ _
     (c .before .before .before .before .decompose-by .ensures)

@@ -1,5 +1,5 @@
 -- `expand_after_decompose` meets its law: Expand undoes Decompose on the lists that the calls hand out. Assumes nothing.
-use Rattle.laws.specs.Returned.{first-refused, both-made, expand-undoes-decompose}
+use Rattle.laws.specs.RoundTrips.{first-refused, both-made, expand-undoes-decompose}
 use borrow.Author.Needs.{needs}
 use Rattle.laws.proofs.expand_after_decompose.Statement.{statement}
 use Rattle.laws.proofs.expand_after_decompose.Tie as tie
@@ -21,7 +21,7 @@ same-length-2 c = search needs
 
 returns : tie.Need-returns
 returns c =
-    first-refused expand-undoes-decompose _ _ _ _ _ _ _ _ _ _ _ _ _
+    first-refused expand-undoes-decompose _ _ _ _ _ _ _ _ _ _
     (c .before .before .before .before .before .before .decompose-by .ensures) _
     (c .enum-told2 .given .1)
 
@@ -39,7 +39,7 @@ same-length-5 c = search needs
 
 returns-2 : tie.Need-returns-2
 returns-2 c =
-    both-made expand-undoes-decompose _ _ _ _ _ _ _ _ _ _ _ _ _
+    both-made expand-undoes-decompose _ _ _ _ _ _ _ _ _ _
     (c .before .before .before .before .before .before .before .before .before .before .before .before .before .before .decompose-by .ensures)
     (c .before .before .before .before .before .before .before .before .enum-told .given .1) _ _ _
     (c .before .before .before .before .expand-by .ensures)

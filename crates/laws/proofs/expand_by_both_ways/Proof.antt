@@ -18,7 +18,7 @@ same-length c = search needs
 
 returns : tie.Need-returns
 returns c =
-    plain-refused _ _ _ _ _ _ _ _ _ _ _
+    plain-refused _ _ _ _ _ _ _ _
     (c .before .before .before .before .plain-expand .ensures) _
     (c .enum-told2 .given .1)
 
@@ -36,7 +36,7 @@ same-length-4 c = search needs
 
 returns-2 : tie.Need-returns-2
 returns-2 c =
-    ways-agree _ _ _ _ _ _ _ _ _ _ _
+    ways-agree _ _ _ _ _ _ _ _
     (c .before .before .before .before .before .before .before .before .before .before .before .plain-expand .ensures)
     (c .before .before .before .before .before .before .before .enum-told .given .1) _ _ _
     (c .before .before .before .before .tree-expand .ensures)

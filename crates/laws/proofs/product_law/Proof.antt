@@ -28,7 +28,7 @@ same-length-5 c = search needs
 
 returns : tie.Need-returns
 returns c =
-    refused-weighed _ _ _ _ _ _ _ _ _ _ _
+    refused-weighed _ _ _ _ _ _ _ _
     (c .before .before .before .before .before .before .before .before .before .before .before .before .before .hand-out .ensures) _
     (c .before .answer .given .1)
 
@@ -38,21 +38,21 @@ enum-told c = search needs
 add-n : tie.Need-add-n
 add-n c = omega (
   arith,
-  rows-few _ _ _ _ _ _ _ _ _ _ _
+  rows-few _ _ _ _ _ _ _ _
       (c .before .before .before .before .before .before .before .before .before .before .before .before .hand-out .ensures)
       (c .enum-told .given .1),
 )
 
 moment-total-requires : tie.Need-moment-total-requires
 moment-total-requires c κs =
-    moment-total-input _ _ _ _ _ _ _ _ _ _ _
+    moment-total-input _ _ _ _ _ _ _ _
     (c .before .before .before .before .before .before .before .before .before .before .before .before .before .before .before .hand-out
     .ensures)
     (c .before .before .before .enum-told .given .1)
 
 norm-total-requires : tie.Need-norm-total-requires
 norm-total-requires c κs =
-    norm-total-input _ _ _ _ _ _ _ _ _ _ _
+    norm-total-input _ _ _ _ _ _ _ _
     (c .before .before .before .before .before .before .before .before .before .before .before .before .before .before .before .before .before
     .hand-out .ensures)
     (c .before .before .before .before .before .enum-told .given .1)
@@ -74,7 +74,7 @@ same-length-10 c = search needs
 
 returns-2 : tie.Need-returns-2
 returns-2 c =
-    totals-weighed _ _ _ _ _ _ _ _ _ _ _
+    totals-weighed _ _ _ _ _ _ _ _
     (c .before .before .before .before .before .before .before .before .before .before .before .before .before .before .before .before .before
     .before .hand-out .ensures)
     (c .before .before .before .before .before .before .enum-told .given .1) _ _

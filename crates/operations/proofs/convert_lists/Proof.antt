@@ -1,5 +1,5 @@
 -- `convert_lists` meets its promise: with the sizes in order, the verdict of each call is that of the tests that are left. Assumes nothing.
-use Rattle.checks.specs.Calls.{list-stays}
+use Rattle.acceptance.specs.Stages.{list-stays}
 use Rattle.operations.specs.Lists.{expand-promised, adjoint-promised, decompose-promised, moments-promised, norms-promised}
 use borrow.Author.Needs.{needs}
 use Rattle.operations.proofs.convert_lists.Statement.{statement}

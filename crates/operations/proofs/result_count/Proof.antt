@@ -1,7 +1,7 @@
 -- `result_count` is the count that the definition has. Assumes that there are at most 127 rows.
 use native.Mathlib.Numerals.{add-one}
 use native.Mathlib.Omega.{arith}
-use Rattle.operations.specs.Tests.{resultCount}
+use Rattle.operations.specs.Results.{resultCount}
 use borrow.Author.Needs.{needs}
 use Rattle.operations.proofs.result_count.Statement.{statement}
 use Rattle.operations.proofs.result_count.Tie as tie

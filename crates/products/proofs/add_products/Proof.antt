@@ -1,5 +1,5 @@
--- `products::add_products` meets its contract: the loop's invariant is that k coefficients stand from place target on (`Writing`) and the rest is as it was;
--- zeros at the end of p and r change none of them. The measure is what is left of them. Assumes nothing.
+-- `products::add_products` meets its contract: the loop's invariant is that k coefficients stand from place target on (`Writing`)
+-- and the rest is as it was; zeros at the end of p and r change none of them. The measure is what is left of them. Assumes nothing.
 use Prim.Native.Nat.{_-_}
 use native.Mathlib.Omega.{arith}
 use Rattle.numbers.specs.Regions.{Writing, writing-starts}

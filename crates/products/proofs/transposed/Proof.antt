@@ -1,5 +1,5 @@
--- `products::transposed` meets its contract: the loop's invariant is that i terms stand from place target on (`Writing`) and the rest is as it was; the
--- measure is what is left of them. Assumes nothing.
+-- `products::transposed` meets its contract: the loop's invariant is that i terms stand from place target on (`Writing`) and the
+-- rest is as it was; the measure is what is left of them. Assumes nothing.
 use Prim.Native.Nat.{_-_}
 use native.Mathlib.Omega.{arith}
 use Rattle.numbers.specs.Regions.{Writing, writing-starts}
@@ -42,7 +42,8 @@ loop-less c = omega arith
 loop-again : tie.Need-loop-again Inv-loop μ-loop
 loop-again c =
     let loop = c .before .before in
-    list-next _ _ _ _ _ _ (loop .before .before .before .before .before .pre) _ _ _ (c .before .loop-test .taken) (loop .loop .inv) (c .transposed-at .ensures)
+    list-next _ _ _ _ _ _ (loop .before .before .before .before .before .pre) _ _ _ (c .before .loop-test .taken) (loop .loop .inv)
+    (c .transposed-at .ensures)
 
 same-length : tie.Need-same-length Inv-loop μ-loop
 same-length c = omega arith

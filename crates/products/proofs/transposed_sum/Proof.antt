@@ -1,5 +1,5 @@
--- `products::transposed_sum` meets its contract: the loop's invariant is that i terms stand from place target on (`Writing`) and the rest is as it was;
--- the measure is what is left of them. Assumes nothing.
+-- `products::transposed_sum` meets its contract: the loop's invariant is that i terms stand from place target on (`Writing`) and
+-- the rest is as it was; the measure is what is left of them. Assumes nothing.
 use Prim.Native.Nat.{_-_}
 use native.Mathlib.Omega.{arith}
 use Rattle.numbers.specs.Regions.{Writing, writing-starts}

@@ -1,4 +1,5 @@
--- `products::used_length` meets its contract: the loop's invariant is that what it has passed over is zero, and its measure is what is left. Assumes nothing.
+-- `products::used_length` meets its contract: the loop's invariant is that what it has passed over is zero, and its measure is
+-- what is left. Assumes nothing.
 use mathlib.Core.Path.{sym, _∙_}
 use native.Mathlib.Omega.{arith}
 use Rattle.products.specs.Places.{Used, used-all, used-less}
@@ -33,7 +34,10 @@ loop-less : tie.Need-loop-less Inv-loop μ-loop
 loop-less c = omega arith
 
 loop-again : tie.Need-loop-again Inv-loop μ-loop
-loop-again c = used-less _ _ _ _ _ (c .before .before .before .before .loop-test .taken) (c .before .before .before .before .before .loop .inv) (sym (c .before .before .before .entry .ensures) ∙ (c .before .before .if1 .left)) (sym (c .before .entry2 .ensures) ∙ (c .if2 .left))
+loop-again c = used-less _ _ _ _ _ (c .before .before .before .before .loop-test .taken)
+    (c .before .before .before .before .before .loop .inv)
+    (sym (c .before .before .before .entry .ensures) ∙ (c .before .before .if1 .left))
+    (sym (c .before .entry2 .ensures) ∙ (c .if2 .left))
 
 returns-3 : tie.Need-returns-3 Inv-loop μ-loop
 returns-3 c = c .before .loop .inv

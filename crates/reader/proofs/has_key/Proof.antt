@@ -32,7 +32,9 @@ shared-slice-read-if2-2 : tie.Need-shared-slice-read-if2-2 Inv-loop μ-loop
 shared-slice-read-if2-2 c = omega arith
 
 returns-2 : tie.Need-returns-2 Inv-loop μ-loop
-returns-2 c = compared-other _ _ _ _ (c .before .before .before .before .before .loop .inv) (c .before .before .before .before .loop-test .taken) (omega arith) (c .if2 .taken)
+returns-2 c =
+    let turn = c .before .before .before .before in
+    compared-other _ _ _ _ (turn .before .loop .inv) (turn .loop-test .taken) (omega arith) (c .if2 .taken)
 
 add-k : tie.Need-add-k Inv-loop μ-loop
 add-k c = omega arith
@@ -41,7 +43,9 @@ loop-less : tie.Need-loop-less Inv-loop μ-loop
 loop-less c = omega arith
 
 loop-again : tie.Need-loop-again Inv-loop μ-loop
-loop-again c = compared-next _ _ _ _ (c .before .before .before .before .before .loop .inv) (c .before .before .before .before .loop-test .taken) (omega arith) (c .if2 .left)
+loop-again c =
+    let turn = c .before .before .before .before in
+    compared-next _ _ _ _ (turn .before .loop .inv) (turn .loop-test .taken) (omega arith) (c .if2 .left)
 
 returns-3 : tie.Need-returns-3 Inv-loop μ-loop
 returns-3 c = compared-ends _ _ _ _ (c .before .loop .inv) (c .loop-test .left)
@@ -50,16 +54,6 @@ pub has-key-spec : {M : Type 1} → statement M
 has-key-spec =
     tie.close
     (tie.spec
-    Inv-loop
-    μ-loop
-    loop-holds
-    sub-if1
-    returns
-    add-if2
-    shared-slice-read-if2
-    shared-slice-read-if2-2
-    returns-2
-    add-k
-    loop-less
-    loop-again
-    returns-3)
+    Inv-loop μ-loop
+    loop-holds sub-if1 returns add-if2 shared-slice-read-if2 shared-slice-read-if2-2 returns-2 add-k loop-less
+    loop-again returns-3)

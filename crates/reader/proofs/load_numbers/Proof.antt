@@ -57,7 +57,8 @@ returns-4 : tie.Need-returns-4 Inv-loop μ-loop
 returns-4 c =
     let number = c .before .before in
     let loop = number .before .before .before .before in
-    loading-open _ _ _ _ _ _ (loop .loop .inv) _ _ (number-found _ _ _ (number .before .before .read-number .ensures) _ _ (number .x .given .1)) (c .if3 .taken)
+    loading-open _ _ _ _ _ _ (loop .loop .inv)
+    _ _ (number-found _ _ _ (number .before .before .read-number .ensures) _ _ (number .x .given .1)) (c .if3 .taken)
 
 store-requires : tie.Need-store-requires Inv-loop μ-loop
 store-requires c κs = tt
@@ -76,7 +77,9 @@ loop-less c =
     let number = c .before .before .before .before .before .before .before .before in
     let loop = number .before .before .before .before in
     let start = loop .before .before .before .before .before .before in
-    omega (arith, number-found (start .args .text .now) (loop .loop .i) _ (number .before .before .read-number .ensures) _ _ (number .x .given .1) .on)
+    let there = number-found (start .args .text .now) (loop .loop .i)
+    _ (number .before .before .read-number .ensures) _ _ (number .x .given .1) in
+    omega (arith, there .on)
 
 loop-again : tie.Need-loop-again Inv-loop μ-loop
 loop-again c =
@@ -84,7 +87,8 @@ loop-again c =
     let more = stored .before .before in
     let number = more .before .before in
     let loop = number .before .before .before .before in
-    loading-next _ _ _ _ _ _ (loop .loop .inv) _ _ (number-found _ _ _ (number .before .before .read-number .ensures) _ _ (number .x .given .1))
+    loading-next _ _ _ _ _ _ (loop .loop .inv)
+    _ _ (number-found _ _ _ (number .before .before .read-number .ensures) _ _ (number .x .given .1))
     (more .if3 .left) _ (stored .store .ensures) (c .match2 .keys1)
 
 add-t22 : tie.Need-add-t22 Inv-loop μ-loop
@@ -99,7 +103,8 @@ returns-5 c =
     let more = stored .before .before in
     let number = more .before .before in
     let loop = number .before .before .before .before in
-    loading-ends _ _ _ _ _ _ (loop .loop .inv) _ _ (number-found _ _ _ (number .before .before .read-number .ensures) _ _ (number .x .given .1))
+    loading-ends _ _ _ _ _ _ (loop .loop .inv)
+    _ _ (number-found _ _ _ (number .before .before .read-number .ensures) _ _ (number .x .given .1))
     (more .if3 .left) _ (stored .store .ensures) (c .match2 .keys2)
 
 same-length-4 : tie.Need-same-length-4 Inv-loop μ-loop
@@ -110,7 +115,8 @@ returns-6 c =
     let more = c .before .before .before .before .before .before in
     let number = more .before .before in
     let loop = number .before .before .before .before in
-    loading-other _ _ _ _ _ _ (loop .loop .inv) _ _ (number-found _ _ _ (number .before .before .read-number .ensures) _ _ (number .x .given .1))
+    loading-other _ _ _ _ _ _ (loop .loop .inv)
+    _ _ (number-found _ _ _ (number .before .before .read-number .ensures) _ _ (number .x .given .1))
     (more .if3 .left) (c .match2 .rest .0 .1) (c .match2 .rest .1)
 
 same-length-5 : tie.Need-same-length-5 Inv-loop μ-loop
@@ -123,30 +129,7 @@ pub load-numbers-spec : {M : Type 1} → statement M
 load-numbers-spec =
     tie.close
     (tie.spec
-    Inv-loop
-    μ-loop
-    returns
-    shared-slice-read-if2
-    add-t13
-    returns-2
-    loop-holds
-    read-number-requires
-    enum-known-x
-    enum-told
-    same-length
-    returns-3
-    same-length-2
-    returns-4
-    store-requires
-    add-count
-    shared-slice-read-b
-    add-i
-    loop-less
-    loop-again
-    add-t22
-    same-length-3
-    returns-5
-    same-length-4
-    returns-6
-    same-length-5
-    returns-7)
+    Inv-loop μ-loop
+    returns shared-slice-read-if2 add-t13 returns-2 loop-holds read-number-requires enum-known-x enum-told same-length
+    returns-3 same-length-2 returns-4 store-requires add-count shared-slice-read-b add-i loop-less loop-again add-t22
+    same-length-3 returns-5 same-length-4 returns-6 same-length-5 returns-7)

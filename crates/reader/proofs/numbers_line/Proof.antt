@@ -1,9 +1,10 @@
 -- `numbers_line` reads a line of numbers: its key, and then the numbers. Assumes nothing.
 use lib.ListN.{drop}
 use borrow.Author.Tests.{not-true, not-false}
-use Rattle.definitions.specs.Reading.{readNumbers}
-use Rattle.reader.specs.Keys.{key-found, key-missed, line-none, line-listed}
 use borrow.Author.Needs.{needs}
+use Rattle.definitions.specs.Reading.{readNumbers}
+use Rattle.reader.specs.Keys.{key-found, key-missed, line-none}
+use Rattle.reader.specs.Lines.{line-listed}
 use Rattle.reader.proofs.numbers_line.Statement.{statement}
 use Rattle.reader.proofs.numbers_line.Tie as tie
 
@@ -11,10 +12,12 @@ has-key-requires : tie.Need-has-key-requires
 has-key-requires c κs = search needs
 
 returns : tie.Need-returns
-returns c = let start = c .before .before .before .before .before in
+returns c =
+    let start = c .before .before .before .before .before in
     let text = start .args .text .now in
     let key = start .args .key .now in
-    line-none key readNumbers (drop (start .args .at) text) (key-missed text (start .args .at) key _ (c .before .has-key .ensures) (not-true _ (c .if1 .taken)))
+    line-none key readNumbers (drop (start .args .at) text)
+    (key-missed text (start .args .at) key _ (c .before .has-key .ensures) (not-true _ (c .if1 .taken)))
 
 add-load-numbers : tie.Need-add-load-numbers
 add-load-numbers c = search needs
@@ -26,7 +29,8 @@ same-length : tie.Need-same-length
 same-length c = search needs
 
 returns-2 : tie.Need-returns-2
-returns-2 c = let key-there = c .before .before .before .before in
+returns-2 c =
+    let key-there = c .before .before .before .before in
     let start = key-there .before .before .before .before .before in
     let text = start .args .text .now in
     let key = start .args .key .now in
@@ -38,9 +42,4 @@ pub numbers-line-spec : {M : Type 1} → statement M
 numbers-line-spec =
     tie.close
     (tie.spec
-    has-key-requires
-    returns
-    add-load-numbers
-    load-numbers-requires
-    same-length
-    returns-2)
+    has-key-requires returns add-load-numbers load-numbers-requires same-length returns-2)

@@ -33,16 +33,22 @@ add-next : tie.Need-add-next Inv-loop μ-loop
 add-next c = omega arith
 
 returns : tie.Need-returns Inv-loop μ-loop
-returns c = digits-large _ _ _ _ _ (c .before .before .before .before .before .loop .inv) (c .before .before .before .before .loop-test .taken) (c .before .before .if1 .left) (omega arith) (c .if3 .taken)
+returns c =
+    let turn = c .before .before .before .before in
+    digits-large _ _ _ _ _ (turn .before .loop .inv) (turn .loop-test .taken) (c .before .before .if1 .left) (omega arith) (c .if3 .taken)
 
 cast-value : tie.Need-cast-value Inv-loop μ-loop
 cast-value c = omega arith
 
 returns-2 : tie.Need-returns-2 Inv-loop μ-loop
-returns-2 c = digits-end _ _ _ _ _ (c .before .before .before .loop .inv) (c .before .before .loop-test .taken) (digit-below _ (c .if1 .taken))
+returns-2 c =
+    let turn = c .before .before in
+    digits-end _ _ _ _ _ (turn .before .loop .inv) (turn .loop-test .taken) (digit-below _ (c .if1 .taken))
 
 returns-3 : tie.Need-returns-3 Inv-loop μ-loop
-returns-3 c = digits-end _ _ _ _ _ (c .before .before .before .before .loop .inv) (c .before .before .before .loop-test .taken) (digit-above _ (omega arith))
+returns-3 c =
+    let turn = c .before .before .before in
+    digits-end _ _ _ _ _ (turn .before .loop .inv) (turn .loop-test .taken) (digit-above _ (omega arith))
 
 add-i : tie.Need-add-i Inv-loop μ-loop
 add-i c = omega arith
@@ -51,7 +57,9 @@ loop-less : tie.Need-loop-less Inv-loop μ-loop
 loop-less c = omega arith
 
 loop-again : tie.Need-loop-again Inv-loop μ-loop
-loop-again c = digits-next _ _ _ _ _ (c .before .before .before .before .before .loop .inv) (c .before .before .before .before .loop-test .taken) (c .before .before .if1 .left) (omega arith) (c .if3 .left)
+loop-again c =
+    let turn = c .before .before .before .before in
+    digits-next _ _ _ _ _ (turn .before .loop .inv) (turn .loop-test .taken) (c .before .before .if1 .left) (omega arith) (c .if3 .left)
 
 returns-4 : tie.Need-returns-4 Inv-loop μ-loop
 returns-4 c = digits-past _ _ _ _ _ (c .before .loop .inv) (c .loop-test .left)
@@ -60,19 +68,6 @@ pub read-digits-spec : {M : Type 1} → statement M
 read-digits-spec =
     tie.close
     (tie.spec
-    Inv-loop
-    μ-loop
-    loop-holds
-    shared-slice-read-b
-    cast-next
-    mul-next
-    cast-next-2
-    add-next
-    returns
-    cast-value
-    returns-2
-    returns-3
-    add-i
-    loop-less
-    loop-again
-    returns-4)
+    Inv-loop μ-loop
+    loop-holds shared-slice-read-b cast-next mul-next cast-next-2 add-next returns cast-value returns-2 returns-3
+    add-i loop-less loop-again returns-4)

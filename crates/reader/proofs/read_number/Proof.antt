@@ -30,10 +30,14 @@ returns-2 : tie.Need-returns-2
 returns-2 c = number-nought _ _ (c .before .before .if1 .left) (c .match .keys1)
 
 returns-3 : tie.Need-returns-3
-returns-3 c = c .read-digits .ensures ∙ sym (ap (placed _) (number-first _ _ (c .before .before .before .before .before .if1 .left) (omega arith) (omega arith)))
+returns-3 c =
+    let inside = c .before .before .before .before .before .if1 .left in
+    c .read-digits .ensures ∙ sym (ap (placed _) (number-first _ _ inside (omega arith) (omega arith)))
 
 returns-4 : tie.Need-returns-4
-returns-4 c = sym (ap (placed _) (number-other _ _ (c .before .before .before .if1 .left) (digit-below _ (omega (arith, c .before .match .rest .1)))))
+returns-4 c =
+    let inside = c .before .before .before .if1 .left in
+    sym (ap (placed _) (number-other _ _ inside (digit-below _ (omega (arith, c .before .match .rest .1)))))
 
 returns-5 : tie.Need-returns-5
 returns-5 c = sym (ap (placed _) (number-other _ _ (c .before .before .before .before .if1 .left) (digit-above _ (omega arith))))
@@ -42,13 +46,5 @@ pub read-number-spec : {M : Type 1} → statement M
 read-number-spec =
     tie.close
     (tie.spec
-    returns
-    shared-slice-read-b
-    add-t9
-    add-read-digits
-    cast-read-digits
-    read-digits-requires
-    returns-2
-    returns-3
-    returns-4
-    returns-5)
+    returns shared-slice-read-b add-t9 add-read-digits cast-read-digits read-digits-requires returns-2 returns-3
+    returns-4 returns-5)

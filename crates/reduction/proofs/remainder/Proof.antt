@@ -38,7 +38,9 @@ returns c =
     (c .before .wrapping-sub-u64 .ensures) (c .before .wrapping-sub-u64 .ok) (c .lesser .ensures)
 
 cast-result : tie.Need-cast-result
-cast-result c = record { fits = remainder-fits _ _ _ (c .before .before .before .pre .positive) (c .before .before .before .fits .m .fits) (returns c) }
+cast-result c =
+    let start = c .before .before .before in
+    record { fits = remainder-fits _ _ _ (start .pre .positive) (start .fits .m .fits) (returns c) }
 
 pub remainder-spec : {M : Type 1} → statement M
 remainder-spec =

@@ -1,12 +1,13 @@
--- `invert` meets its contract: the loop's invariant is Euclid's algorithm before a turn (`Turning`); the measure is the second remainder. Assumes nothing.
-use mathlib.Core.Path.{_≡_}
-use Prim.Native.Nat.{ℕ, _+_, _*_, _/_, _%_, _<_, _≤_}
+-- `invert` meets its contract: the loop's invariant is Euclid's algorithm before a turn (`Turning`); the measure is the second
+-- remainder. Assumes nothing.
+use Prim.Native.Nat.{ℕ, _+_, _*_, _%_, _<_, _≤_}
 use native.Mathlib.Nat.{mod-lt, mod-one}
 use native.Mathlib.Omega.{arith}
 use borrow.Author.Needs.{needs}
 use Rattle.numbers.specs.Euclid.{greatest-factor-zero, greatest-factor-one}
-use Rattle.residue.specs.Inversion.{IsInverse, SharesFactor}
-use Rattle.residue.specs.Turning.{Turning, turning-starts, turned, turned-again, first-fits, second-fits, found-middle, absent-middle, at-most, found-end, absent-end}
+use Rattle.residue.specs.Inversion.{SharesFactor}
+use Rattle.residue.specs.UnsignedEuclid.{Turning, turning-starts, turned, turned-again, first-fits, second-fits}
+use Rattle.residue.specs.UnsignedEuclid.{found-middle, absent-middle, at-most, found-end, absent-end}
 use Rattle.residue.proofs.invert.Statement.{statement}
 use Rattle.residue.proofs.invert.Tie as tie
 
@@ -51,10 +52,14 @@ div-t : tie.Need-div-t Inv-loop μ-loop
 div-t c = search needs
 
 mul-t : tie.Need-mul-t Inv-loop μ-loop
-mul-t c = record { fits = behind _ _ _ (first-fits _ _ (omega arith) _ _ _ _ (c .before .loop .inv) (c .loop-test .taken)) (c .before .before .before .before .fits .m .fits) }
+mul-t c =
+    let amounts = first-fits _ _ (omega arith) _ _ _ _ (c .before .loop .inv) (c .loop-test .taken) in
+    record { fits = behind _ _ _ amounts (c .before .before .before .before .fits .m .fits) }
 
 add-t : tie.Need-add-t Inv-loop μ-loop
-add-t c = record { fits = within (first-fits _ _ (omega arith) _ _ _ _ (c .before .loop .inv) (c .loop-test .taken)) (c .before .before .before .before .fits .m .fits) }
+add-t c =
+    let amounts = first-fits _ _ (omega arith) _ _ _ _ (c .before .loop .inv) (c .loop-test .taken) in
+    record { fits = within amounts (c .before .before .before .before .fits .m .fits) }
 
 rem-r : tie.Need-rem-r Inv-loop μ-loop
 rem-r c = search needs
@@ -75,10 +80,16 @@ div-u : tie.Need-div-u Inv-loop μ-loop
 div-u c = omega arith
 
 mul-u : tie.Need-mul-u Inv-loop μ-loop
-mul-u c = record { fits = behind _ _ _ (second-fits _ _ (omega arith) _ _ _ _ (turned _ _ (omega arith) _ _ _ _ (c .before .before .loop .inv) (c .before .loop-test .taken)) (omega arith)) (c .before .before .before .before .before .fits .m .fits) }
+mul-u c =
+    let turn = turned _ _ (omega arith) _ _ _ _ (c .before .before .loop .inv) (c .before .loop-test .taken) in
+    let amounts = second-fits _ _ (omega arith) _ _ _ _ turn (omega arith) in
+    record { fits = behind _ _ _ amounts (c .before .before .before .before .before .fits .m .fits) }
 
 add-u : tie.Need-add-u Inv-loop μ-loop
-add-u c = record { fits = within (second-fits _ _ (omega arith) _ _ _ _ (turned _ _ (omega arith) _ _ _ _ (c .before .before .loop .inv) (c .before .loop-test .taken)) (omega arith)) (c .before .before .before .before .before .fits .m .fits) }
+add-u c =
+    let turn = turned _ _ (omega arith) _ _ _ _ (c .before .before .loop .inv) (c .before .loop-test .taken) in
+    let amounts = second-fits _ _ (omega arith) _ _ _ _ turn (omega arith) in
+    record { fits = within amounts (c .before .before .before .before .before .fits .m .fits) }
 
 rem-s : tie.Need-rem-s Inv-loop μ-loop
 rem-s c = omega arith

@@ -36,8 +36,8 @@ negative-requires c κs = search needs
 
 add-product-by : tie.Need-add-product-by
 add-product-by c =
-    omega
-    (arith, coefficient-fits _ _ _ _ _ _ _ _ (c .before .before .before .before .before .before .before .before .before .pre) _ _ _ (c .before .reversed-entry .ensures) (c .negative .ensures))
+    let start = c .before .before .before .before .before .before .before .before .before in
+    omega (arith, coefficient-fits _ _ _ _ _ _ _ _ (start .pre) _ _ _ (c .before .reversed-entry .ensures) (c .negative .ensures))
 
 product-by-requires : tie.Need-product-by-requires
 product-by-requires c κs = search needs

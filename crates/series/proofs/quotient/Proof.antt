@@ -21,7 +21,8 @@ loop-holds c = dividing-starts _ _ _ _ _ _ _ (c .before .before .before .before 
 coefficient-requires : tie.Need-coefficient-requires Inv-loop μ-loop
 coefficient-requires c κs =
     let loop = c .before .before in
-    dividing-input _ _ _ _ _ _ _ (loop .before .before .before .before .before .pre) _ _ (loop .loop .inv) _ (loop .before .reciprocal .ensures)
+    dividing-input _ _ _ _ _ _ _ (loop .before .before .before .before .before .pre) _ _ (loop .loop .inv) _
+    (loop .before .reciprocal .ensures)
     (c .before .loop-test .taken)
 
 mul-output : tie.Need-mul-output Inv-loop μ-loop
@@ -39,7 +40,8 @@ loop-less c = omega arith
 loop-again : tie.Need-loop-again Inv-loop μ-loop
 loop-again c =
     let loop = c .before .before .before in
-    dividing-next _ _ _ _ _ _ _ (loop .before .before .before .before .before .pre) _ _ (loop .loop .inv) (c .before .before .loop-test .taken) _
+    dividing-next _ _ _ _ _ _ _ (loop .before .before .before .before .before .pre) _ _ (loop .loop .inv)
+    (c .before .before .loop-test .taken) _
     (c .coefficient .ensures)
 
 same-length : tie.Need-same-length Inv-loop μ-loop

@@ -45,8 +45,10 @@ loop-again c =
     (rw (← c .before .before .row-total .ensures) (c .before .product .ensures)) (c .sum .ensures)
 
 returns : tie.Need-returns Inv-loop μ-loop
-returns c = totalling-ends (c .before .loop .inv) (c .loop-test .left)
-    ∙ rowTotals-momentTotal _ _ _ _ _ (c .before .before .before .before .before .pre .positive) (c .before .before .before .before .before .pre .least)
+returns c =
+    let start = c .before .before .before .before .before in
+    totalling-ends (c .before .loop .inv) (c .loop-test .left)
+    ∙ rowTotals-momentTotal _ _ _ _ _ (start .pre .positive) (start .pre .least)
 
 pub moment-total-spec : {M : Type 1} → statement M
 moment-total-spec =

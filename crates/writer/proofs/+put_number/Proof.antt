@@ -54,16 +54,22 @@ put-number-cast-out-2 : (t : ℕ) → put-number-lts.Need-cast-out-2 (put-number
 put-number-cast-out-2 t c = omega arith
 
 put-number-slice-write-out-2 : (t : ℕ) → put-number-lts.Need-slice-write-out-2 (put-number-claims t) (put-number-at t) put-number.Post
-put-number-slice-write-out-2 t c = omega (arith, large-inside _ _ _ (omega arith) (c .before .before .before .before .if1 .left) (omega arith) _ _ (c .before .before .put-number .ensures))
+put-number-slice-write-out-2 t c =
+    let tens = c .before .before in
+    omega (arith, large-inside _ _ _ (omega arith) (tens .before .before .if1 .left) (omega arith) _ _ (tens .put-number .ensures))
 
 put-number-add-result-2 : (t : ℕ) → put-number-lts.Need-add-result-2 (put-number-claims t) (put-number-at t) put-number.Post
-put-number-add-result-2 t c = omega (arith, large-inside _ _ _ (omega arith) (c .before .before .before .before .if1 .left) (omega arith) _ _ (c .before .before .put-number .ensures))
+put-number-add-result-2 t c =
+    let tens = c .before .before in
+    omega (arith, large-inside _ _ _ (omega arith) (tens .before .before .if1 .left) (omega arith) _ _ (tens .put-number .ensures))
 
 put-number-same-length-2 : (t : ℕ) → put-number-lts.Need-same-length-2 (put-number-claims t) (put-number-at t) put-number.Post
 put-number-same-length-2 t c = search needs
 
 put-number-returns-2 : (t : ℕ) → put-number-lts.Need-returns-2 (put-number-claims t) (put-number-at t) put-number.Post
-put-number-returns-2 t c = put-large _ _ _ (omega arith) (c .before .before .before .before .if1 .left) (omega arith) _ _ (c .before .before .put-number .ensures)
+put-number-returns-2 t c =
+    let tens = c .before .before in
+    put-large _ _ _ (omega arith) (tens .before .before .if1 .left) (omega arith) _ _ (tens .put-number .ensures)
 
 pub +put-number-spec : {M : Type 1} → statement M
 +put-number-spec = close μ-put-number λ t. put-number-lts.spec (

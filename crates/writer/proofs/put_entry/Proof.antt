@@ -26,7 +26,9 @@ put-number-requires-2 : tie.Need-put-number-requires-2
 put-number-requires-2 c κs = simp length-set (omega arith)
 
 same-length-2 : tie.Need-same-length-2
-same-length-2 c = omega (arith, length-set (c .before .before .before .before .before .before .args .out .now) (c .before .before .before .before .before .before .args .at) space)
+same-length-2 c =
+    let start = c .before .before .before .before .before .before in
+    omega (arith, length-set (start .args .out .now) (start .args .at) space)
 
 returns-2 : tie.Need-returns-2
 returns-2 c = put-later _ _ _ _ _ _ (c .before .before .before .before .if1 .left) (omega arith) (c .before .before .put-number2 .ensures)
@@ -35,11 +37,5 @@ pub put-entry-spec : {M : Type 1} → statement M
 put-entry-spec =
     tie.close
     (tie.spec
-    put-number-requires
-    same-length
-    returns
-    slice-write-out
-    add-put-number
-    put-number-requires-2
-    same-length-2
+    put-number-requires same-length returns slice-write-out add-put-number put-number-requires-2 same-length-2
     returns-2)

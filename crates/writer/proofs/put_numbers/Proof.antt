@@ -32,7 +32,10 @@ loop-less : tie.Need-loop-less Inv-loop μ-loop
 loop-less c = omega arith
 
 loop-again : tie.Need-loop-again Inv-loop μ-loop
-loop-again c = listing-next _ _ _ _ _ _ (c .before .before .before .before .before .before .loop .inv) (c .before .before .before .before .before .before .before .before .before .pre) (c .before .before .before .before .before .loop-test .taken) _ _ (c .before .before .put-entry .ensures)
+loop-again c =
+    let turn = c .before .before .before .before .before in
+    let start = turn .before .before .before .before in
+    listing-next _ _ _ _ _ _ (turn .before .loop .inv) (start .pre) (turn .loop-test .taken) _ _ (c .before .before .put-entry .ensures)
 
 same-length : tie.Need-same-length Inv-loop μ-loop
 same-length c = c .before .loop .inv .size
@@ -44,14 +47,6 @@ pub put-numbers-spec : {M : Type 1} → statement M
 put-numbers-spec =
     tie.close
     (tie.spec
-    Inv-loop
-    μ-loop
-    loop-holds
-    mul-put-entry
-    shared-slice-read-put-entry
-    put-entry-requires
-    add-k
-    loop-less
-    loop-again
-    same-length
+    Inv-loop μ-loop
+    loop-holds mul-put-entry shared-slice-read-put-entry put-entry-requires add-k loop-less loop-again same-length
     returns)

@@ -23,7 +23,13 @@ same-length-2 : tie.Need-same-length-2
 same-length-2 c = search needs
 
 returns : tie.Need-returns
-returns c = (text-returned _ _ _ _ _ _ (c .before .before .before .before .before .before .before .convert-text .ensures) 0 (sym (ap (λ r. number (valued r)) (c .before .bytes .given .1))), value-returned _ _ _ _ (sym (ap valued (c .before .bytes .given .1)) ∙ c .before .before .before .before .before .before .before .convert-text .ensures .answer))
+returns c =
+    let call = c .before .before .before .before .before .before .before .convert-text .ensures in
+    let is = c .before .bytes .given .1 in
+    record {
+      text = text-returned _ _ _ _ _ _ call 0 (sym (ap (λ r. number (valued r)) is));
+      counted = value-returned _ _ _ _ (sym (ap valued is) ∙ call .answer);
+    }
 
 same-length-3 : tie.Need-same-length-3
 same-length-3 c = search needs
@@ -32,7 +38,13 @@ same-length-4 : tie.Need-same-length-4
 same-length-4 c = search needs
 
 returns-2 : tie.Need-returns-2
-returns-2 c = (text-returned _ _ _ _ _ _ (c .before .before .before .before .before .before .before .convert-text .ensures) _ (sym (ap (λ r. number (valued r)) (c .before .k .given .1))), refusal-returned _ _ _ _ (sym (ap valued (c .before .k .given .1)) ∙ c .before .before .before .before .before .before .before .convert-text .ensures .answer))
+returns-2 c =
+    let call = c .before .before .before .before .before .before .before .convert-text .ensures in
+    let is = c .before .k .given .1 in
+    record {
+      text = text-returned _ _ _ _ _ _ call _ (sym (ap (λ r. number (valued r)) is));
+      counted = refusal-returned _ _ _ _ (sym (ap valued is) ∙ call .answer);
+    }
 
 pub zahupnik-convert-text-spec : {M : Type 1} → statement M
 zahupnik-convert-text-spec =

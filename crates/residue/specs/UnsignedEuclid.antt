@@ -1,4 +1,5 @@
--- Euclid's algorithm with the cofactors' amounts and no remainders: their signs take turns, and they are at most m.
+-- Euclid's algorithm on unsigned numbers, with the cofactors' amounts and no remainders: their signs take turns, and they are at
+-- most m.
 --   Turning m x r s t u   before a turn: r is -t x and s is u x modulo m, and r u + s t is m
 --   Turned m x s r t u    in the middle of it, when r has been divided by s
 -- Proved: where the algorithm begins, both halves of a turn, that the cofactors fit, and what has been found at either end.
@@ -7,15 +8,17 @@ use mathlib.Core.Path.{_≡_, sym, _∙_, ap}
 use mathlib.Core.List.{[], _∷_}
 use mathlib.Core.Logic.{_↔_}
 use Prim.Native.Nat.{ℕ, zero, suc, _+_, _*_, _-_, _/_, _%_, _<_, _≤_, _∣_}
-use native.Mathlib.Nat.{mul-add, add-mul, mul-assoc, mul-comm, mul-left-comm, mul-le-mul-right, mul-le-mul-left, div-add-mod', dvd-mod-iff, dvd-refl, dvd-zero, mod-lt, mod-self, mod-eq-of-lt, one-mul, mul-one, zero-mul, mul-zero, add-zero, zero-add, zero-mod, le-mul-of-pos-right}
+use native.Mathlib.Nat.{mul-add, add-mul, mul-assoc, mul-comm, mul-left-comm, mul-le-mul-right}
+use native.Mathlib.Nat.{mul-le-mul-left, div-add-mod', dvd-mod-iff, dvd-refl, dvd-zero, mod-lt, mod-self}
+use native.Mathlib.Nat.{mod-eq-of-lt, one-mul, mul-one, zero-mul, mul-zero, add-zero, zero-mod}
 use native.Mathlib.Omega.{arith}
-use Rattle.algebra.specs.Residues.{Zmod, res, res-of-mod, mod-of-res, res-mul}
+use Rattle.algebra.specs.Residues.{Zmod, res, res-of-mod, mod-of-res}
 use Rattle.algebra.specs.Ring.{CommRing}
 use Rattle.algebra.specs.Solver.{linear, scaled, both, reify}
 use Rattle.definitions.specs.Number.{HasInverse}
 use Rattle.numbers.specs.Euclid.{GreatestFactor, has-inverse-greatest}
 use Rattle.numbers.specs.Inverse.{inverse-unique}
-use Rattle.numbers.specs.Residue.{bridge}
+use Rattle.numbers.specs.Residue.{bridge, residue-multiple}
 use Rattle.residue.specs.Inversion.{IsInverse, SharesFactor}
 
 abbrev Common : ℕ → ℕ → ℕ → ℕ → Type 0
@@ -55,9 +58,6 @@ module _ (m : ℕ) (pos : 0 < m) (x : ℕ) where
   abbrev ι : ℕ → R .Car
   ι = res m pos
 
-  ring-form : (y z : ℕ) → y % m ≡ z * x % m → ι y ≡ R .mul (ι z) (ι x)
-  ring-form y z e = res-of-mod m pos y (z * x) e ∙ res-mul m pos z x
-
   zero-form : (y : ℕ) → y % m ≡ 0 % m → ι y ≡ ι 0
   zero-form y e = res-of-mod m pos y 0 e
 
@@ -66,17 +66,21 @@ module _ (m : ℕ) (pos : 0 < m) (x : ℕ) where
   first-half q ρ r s t u whole first second = mod-of-res m pos (ρ + (t + q * u) * x) 0 (simp bridge
       (linear R (ι x ∷ ι q ∷ ι ρ ∷ ι r ∷ ι s ∷ ι t ∷ ι u ∷ [])
       (both R (scaled R (R .one) (simp bridge at (ap ι whole)))
-      (both R (scaled R (R .one) (simp bridge at (zero-form (r + t * x) first))) (scaled R (R .neg (ι q)) (ring-form s u second)))) (search reify depth 20) tt))
+      (both R (scaled R (R .one) (simp bridge at (zero-form (r + t * x) first)))
+      (scaled R (R .neg (ι q)) (residue-multiple m pos x s u second))))
+      (search reify depth 20) tt))
 
   second-half : (q σ s r t u : ℕ) → q * r + σ ≡ s → (r + t * x) % m ≡ 0 % m → s % m ≡ u * x % m → σ % m ≡ (u + q * t) * x % m
   second-half q σ s r t u whole first second = mod-of-res m pos σ ((u + q * t) * x) (simp bridge
       (linear R (ι x ∷ ι q ∷ ι σ ∷ ι r ∷ ι s ∷ ι t ∷ ι u ∷ [])
       (both R (scaled R (R .one) (simp bridge at (ap ι whole)))
-      (both R (scaled R (R .one) (ring-form s u second)) (scaled R (R .neg (ι q)) (simp bridge at (zero-form (r + t * x) first))))) (search reify depth 20) tt))
+      (both R (scaled R (R .one) (residue-multiple m pos x s u second))
+      (scaled R (R .neg (ι q)) (simp bridge at (zero-form (r + t * x) first)))))
+      (search reify depth 20) tt))
 
   -- what t lacks to m
-  opposite-inverse : (t y : ℕ) → y + t ≡ m → (1 + t * x) % m ≡ 0 % m → x * y % m ≡ 1 % m
-  opposite-inverse t y e first = mod-of-res m pos (x * y) 1 (simp bridge
+  negative-inverse : (t y : ℕ) → y + t ≡ m → (1 + t * x) % m ≡ 0 % m → x * y % m ≡ 1 % m
+  negative-inverse t y e first = mod-of-res m pos (x * y) 1 (simp bridge
       (linear R (ι x ∷ ι t ∷ ι y ∷ [])
       (both R (scaled R (ι x) (simp bridge at (zero-form (y + t) (ap (λ z. z % m) e ∙ mod-self m ∙ sym (zero-mod m)))))
       (scaled R (R .neg (R .one)) (simp bridge at (zero-form (1 + t * x) first)))) (search reify depth 20) tt))
@@ -181,7 +185,7 @@ module _ (m x : ℕ) (two : 2 ≤ m) where
     found-end e =
         let l = at-most e in
         let f : (1 + t * x) % m ≡ 0 % m = rw (← e) (h .first) in
-        is-inverse (m - t) (less (h .first)) (opposite-inverse m (omega arith) x t (m - t) (omega arith) f ∙ mod-eq-of-lt (omega arith))
+        is-inverse (m - t) (less (h .first)) (negative-inverse m (omega arith) x t (m - t) (omega arith) f ∙ mod-eq-of-lt (omega arith))
       where
         less : (r + t * x) % m ≡ 0 % m → m - t < m
         less f = by t f
@@ -189,7 +193,11 @@ module _ (m x : ℕ) (two : 2 ≤ m) where
             by : (k : ℕ) → (r + k * x) % m ≡ 0 % m → m - k < m
             by zero g =
                 absurd
-                (omega (arith, sym (ap (λ y. y % m) (ap (λ y. y + 0 * x) e ∙ ap (λ y. 1 + y) (zero-mul x))) ∙ g ∙ zero-mod m, mod-eq-of-lt two))
+                (omega (
+                  arith,
+                  sym (ap (λ y. y % m) (ap (λ y. y + 0 * x) e ∙ ap (λ y. 1 + y) (zero-mul x))) ∙ g ∙ zero-mod m,
+                  mod-eq-of-lt two,
+                ))
             by (suc k) g = omega arith
 
     pub absent-end : (r ≡ 1 → ⊥) → SharesFactor m x r

@@ -9,7 +9,7 @@ use native.Mathlib.Omega.{arith}
 use lib.ListN.{length}
 use Rattle.definitions.specs.Answers.{answered, after}
 use Rattle.definitions.specs.Conversion.{expand, decompose}
-use Rattle.definitions.specs.Family.{Family, Accepted, Curve, family}
+use Rattle.definitions.specs.Family.{Family, Accepted, Curve}
 use Rattle.definitions.specs.Refusals.{Test, finished, verdict}
 use Rattle.definitions.specs.declared.Answer.{Answer}
 use Rattle.acceptance.specs.Acceptance.{accepted-convertible}
@@ -17,7 +17,7 @@ use Rattle.theory.specs.Bridge.{expand-curve}
 use Rattle.theory.specs.RoundTrip.{Decomposable, convertible-decomposable, decompose-curve, expand-decompose, decompose-expand}
 use Rattle.acceptance.specs.Verdicts.{None, verdict-finished, none-append}
 use Rattle.laws.specs.ByWay.{two-calls-pass, work-length}
-use Rattle.laws.specs.Chain.{chain-refused, chain-next, list-new}
+use Rattle.acceptance.specs.Stages.{all-remain, stage-refuses, stage-passes, stages-end, list-new}
 use Rattle.laws.specs.Laws.{TwoCallsInput, RoundTripHolds, wayTests, workLeft, Made, thereTests, backTests, Returned}
 use Rattle.laws.specs.declared.Way.{Way}
 
@@ -41,11 +41,8 @@ expand-undoes-decompose =
     record { curve = λ f acc. decompose-curve f (positive f acc); undone = λ f acc. expand-decompose f (decomposable f acc) }
 
 -- ---- two calls
-module _ {there back : Family → List ℕ → List ℕ} (undoes : Undoes there back) (first second : Way) (m : ℕ)
-    (a b c u one one′ two work w₁ : List ℕ) (s : Answer) (made₁ : Made there first (family m a b c) u s one one′ work w₁) where
-  abbrev f : Family
-  f = family m a b c
-
+module _ {there back : Family → List ℕ → List ℕ} (undoes : Undoes there back) (first second : Way) (f : Family)
+    (u one one′ two work w₁ : List ℕ) (s : Answer) (made₁ : Made there first f u s one one′ work w₁) where
   abbrev T₁ : List Test
   T₁ = thereTests there back first second f u one work
 
@@ -62,7 +59,7 @@ module _ {there back : Family → List ℕ → List ℕ} (undoes : Undoes there 
       → TwoCallsInput f u one two work → RoundTripHolds there f u r one′ two′
   round-trip r two′ e w input =
       let there-curve = undoes .curve f (input .accepted) u in
-      let none : None T₁ × None later = two-calls-pass first second m a b c u (there f u) one two work input there-curve in
+      let none : None T₁ × None later = two-calls-pass first second f u (there f u) one two work input there-curve in
       let done : answered r ≡ finished [] = e ∙ verdict-finished (T₁ ++ later) [] .1 (none-append T₁ later .1 none) in
       let new : one′ ≡ there f u = first-is ∙ list-new T₁ (none .0) (there f u) one in
       record {
@@ -73,7 +70,7 @@ module _ {there back : Family → List ℕ → List ℕ} (undoes : Undoes there 
 
   pub first-refused : (k : ℕ) → s ≡ Answer.Refused k → Returned there back first second f u s one one′ two two work w₁
   first-refused k q =
-      let e = chain-refused T₁ later s (made₁ .answer) k q in
+      let e = stage-refuses T₁ later all-remain s (made₁ .answer) k q in
       let stays = sym (ap (λ x. after (answered x) (back f one′) two) q) in
       record {
         answer = e;
@@ -100,7 +97,7 @@ module _ {there back : Family → List ℕ → List ℕ} (undoes : Undoes there 
 
     pub both-made : Returned there back first second f u r one one′ two two′ work w₂
     both-made =
-        let e = chain-next T₁ later s (made₁ .answer) q r (made₂ .answer ∙ ap (λ ts. verdict ts []) tests-are) in
+        let e = stages-end later (stage-passes T₁ later all-remain s (made₁ .answer) q) r (made₂ .answer ∙ ap (λ ts. verdict ts []) tests-are) in
         record {
           answer = e;
           firstIs = first-is;

@@ -1,10 +1,10 @@
--- `put_operation` puts the line of an operation, whose bytes stand in the code for each of the five. Assumes nothing.
+-- `put_operation_line` puts the line of an operation, whose bytes stand in the code for each of the five. Assumes nothing.
 use borrow.Author.Needs.{needs}
 use Rattle.definitions.specs.Text.{line, name}
 use Rattle.definitions.specs.declared.Operation.{Operation}
-use Rattle.writer.specs.Answer.{put-named}
-use Rattle.writer.proofs.put_operation.Statement.{statement}
-use Rattle.writer.proofs.put_operation.Tie as tie
+use Rattle.writer.specs.Lines.{put-named}
+use Rattle.writer.proofs.put_operation_line.Statement.{statement}
+use Rattle.writer.proofs.put_operation_line.Tie as tie
 
 enum-told : tie.Need-enum-told
 enum-told c = search needs
@@ -56,62 +56,53 @@ same-length c = search needs
 
 returns : tie.Need-returns
 unfolding line name
-returns c = put-named _ _ _ _ Operation.Expand (c .before .before .before .before .before .enum-told .given .1) (c .before .before .put-bytes .ensures)
+returns c =
+    let put = c .before .before in
+    put-named _ _ _ _ _ Operation.Expand (put .before .before .before .enum-told .given .1) (put .put-bytes .ensures)
 
 same-length-2 : tie.Need-same-length-2
 same-length-2 c = search needs
 
 returns-2 : tie.Need-returns-2
 unfolding line name
-returns-2 c = put-named _ _ _ _ Operation.Adjoint (c .before .before .before .before .before .enum-told2 .given .1) (c .before .before .put-bytes2 .ensures)
+returns-2 c =
+    let put = c .before .before in
+    put-named _ _ _ _ _ Operation.Adjoint (put .before .before .before .enum-told2 .given .1) (put .put-bytes2 .ensures)
 
 same-length-3 : tie.Need-same-length-3
 same-length-3 c = search needs
 
 returns-3 : tie.Need-returns-3
 unfolding line name
-returns-3 c = put-named _ _ _ _ Operation.Decompose (c .before .before .before .before .before .enum-told3 .given .1) (c .before .before .put-bytes3 .ensures)
+returns-3 c =
+    let put = c .before .before in
+    put-named _ _ _ _ _ Operation.Decompose (put .before .before .before .enum-told3 .given .1) (put .put-bytes3 .ensures)
 
 same-length-4 : tie.Need-same-length-4
 same-length-4 c = search needs
 
 returns-4 : tie.Need-returns-4
 unfolding line name
-returns-4 c = put-named _ _ _ _ Operation.Moments (c .before .before .before .before .before .enum-told4 .given .1) (c .before .before .put-bytes4 .ensures)
+returns-4 c =
+    let put = c .before .before in
+    put-named _ _ _ _ _ Operation.Moments (put .before .before .before .enum-told4 .given .1) (put .put-bytes4 .ensures)
 
 same-length-5 : tie.Need-same-length-5
 same-length-5 c = search needs
 
 returns-5 : tie.Need-returns-5
 unfolding line name
-returns-5 c = put-named _ _ _ _ Operation.Norms (c .before .before .before .before .before .enum-told5 .given .1) (c .before .before .put-bytes5 .ensures)
+returns-5 c =
+    let put = c .before .before in
+    put-named _ _ _ _ _ Operation.Norms (put .before .before .before .enum-told5 .given .1) (put .put-bytes5 .ensures)
 
-pub put-operation-spec : {M : Type 1} → statement M
-put-operation-spec =
+pub put-operation-line-spec : {M : Type 1} → statement M
+put-operation-line-spec =
     tie.close
     (tie.spec
-    enum-told
-    slice-aggregate-put-bytes
-    put-bytes-requires
-    enum-told-2
-    slice-aggregate-put-bytes-2
-    put-bytes-requires-2
-    enum-told-3
-    slice-aggregate-put-bytes-3
-    put-bytes-requires-3
-    enum-told-4
-    slice-aggregate-put-bytes-4
-    put-bytes-requires-4
-    enum-told-5
-    slice-aggregate-put-bytes-5
-    put-bytes-requires-5
-    same-length
-    returns
-    same-length-2
-    returns-2
-    same-length-3
-    returns-3
-    same-length-4
-    returns-4
-    same-length-5
-    returns-5)
+    enum-told slice-aggregate-put-bytes put-bytes-requires
+    enum-told-2 slice-aggregate-put-bytes-2 put-bytes-requires-2
+    enum-told-3 slice-aggregate-put-bytes-3 put-bytes-requires-3
+    enum-told-4 slice-aggregate-put-bytes-4 put-bytes-requires-4
+    enum-told-5 slice-aggregate-put-bytes-5 put-bytes-requires-5
+    same-length returns same-length-2 returns-2 same-length-3 returns-3 same-length-4 returns-4 same-length-5 returns-5)
