@@ -1,34 +1,21 @@
 // The public calls. Each makes every test itself, ends on every input, and either converts or refuses with the scope paper's
 // number and touches nothing: none has a 'requires', and each has one 'ensures' that settles answer and output on every input.
 ghost use mathlib.Core.Path.{_≡_};
-ghost use mathlib.Core.List.{List, [], _∷_};
-ghost use Prim.Native.Nat.{ℕ};
-ghost use lib.ListN.{length};
-ghost use Rattle.definitions.specs.Answers.{valued, PlainCall, NormsCall, ConvertedIn};
+ghost use mathlib.Core.List.{[], _∷_};
+ghost use Rattle.definitions.specs.Answers.{valued, PlainCall, TreeCall, NormsCall, MomentsCall};
 ghost use Rattle.definitions.specs.Conversion.{expand, adjoint, decompose};
-ghost use Rattle.definitions.specs.Orthogonality.{moments};
 ghost use Rattle.definitions.specs.Family.{family};
 ghost use Rattle.definitions.specs.Number.{inverse};
-ghost use Rattle.definitions.specs.Refusals.{verdict, treeTests, momentsTests, inverseTests};
+ghost use Rattle.definitions.specs.Refusals.{verdict, inverseTests};
 use definitions::Answer;
 use definitions::Valued;
-use residue::Inversion;
 
 // Inverse: the number below m that times x leaves 1 modulo m.
 // Refused with 3: m is out of its range; with 12: x is not below m; with 13: x has no inverse.
 pub fn invert(m: u32, x: u32) -> Valued
     ensures { λ r. ⌜ valued r ≡ verdict (inverseTests m x) (inverse m x ∷ []) ⌝ }
 {
-    let Answer::Finished = checks::modulus(m) else {
-        return Valued::Refused(3);
-    };
-    let Answer::Finished = checks::number_below(m, x) else {
-        return Valued::Refused(12);
-    };
-    let Inversion::Found(y) = residue::invert(m, x) else {
-        return Valued::Refused(13);
-    };
-    Valued::Value(y)
+    verdicts::inverse(m, x)
 }
 
 // Expand, row by row: from a curve the n coefficients, in powers of x, of the sum of its entries times F_i.
@@ -124,7 +111,8 @@ pub fn tree_expand(
     output: &mut [u32],
     work: &mut [u32],
 ) -> Answer
-    ensures { λ r. ⌜ ConvertedIn (treeTests (family m (now (a .entry)) (now (b .entry)) (now (c .entry))) (now (curve .entry)) (length (now (output .entry))) (length (now (work .entry)))) (expand (family m (now (a .entry)) (now (b .entry)) (now (c .entry))) (now (curve .entry))) r (now (output .entry)) (now (output .exit)) (now (work .entry)) (now (work .exit)) ⌝ }
+    ensures { λ r. ⌜ TreeCall expand (family m (now (a .entry)) (now (b .entry)) (now (c .entry))) (now (curve .entry)) r
+        (now (output .entry)) (now (output .exit)) (now (work .entry)) (now (work .exit)) ⌝ }
 {
     let tested = verdicts::tree(m, a, b, c, curve, output.len(), work.len());
     let Answer::Finished = tested else {
@@ -145,7 +133,8 @@ pub fn tree_adjoint(
     output: &mut [u32],
     work: &mut [u32],
 ) -> Answer
-    ensures { λ r. ⌜ ConvertedIn (treeTests (family m (now (a .entry)) (now (b .entry)) (now (c .entry))) (now (curve .entry)) (length (now (output .entry))) (length (now (work .entry)))) (adjoint (family m (now (a .entry)) (now (b .entry)) (now (c .entry))) (now (curve .entry))) r (now (output .entry)) (now (output .exit)) (now (work .entry)) (now (work .exit)) ⌝ }
+    ensures { λ r. ⌜ TreeCall adjoint (family m (now (a .entry)) (now (b .entry)) (now (c .entry))) (now (curve .entry)) r
+        (now (output .entry)) (now (output .exit)) (now (work .entry)) (now (work .exit)) ⌝ }
 {
     let tested = verdicts::tree(m, a, b, c, curve, output.len(), work.len());
     let Answer::Finished = tested else {
@@ -166,23 +155,24 @@ pub fn tree_decompose(
     output: &mut [u32],
     work: &mut [u32],
 ) -> Answer
-    ensures { λ r. ⌜ ConvertedIn (treeTests (family m (now (a .entry)) (now (b .entry)) (now (c .entry))) (now (coefficients .entry)) (length (now (output .entry))) (length (now (work .entry)))) (decompose (family m (now (a .entry)) (now (b .entry)) (now (c .entry))) (now (coefficients .entry))) r (now (output .entry)) (now (output .exit)) (now (work .entry)) (now (work .exit)) ⌝ }
+    ensures { λ r. ⌜ TreeCall decompose (family m (now (a .entry)) (now (b .entry)) (now (c .entry))) (now (coefficients .entry)) r
+        (now (output .entry)) (now (output .exit)) (now (work .entry)) (now (work .exit)) ⌝ }
 {
     let tested = verdicts::tree(m, a, b, c, coefficients, output.len(), work.len());
     let Answer::Finished = tested else {
         return tested;
     };
-    let mut inverses = lists::zeros();
-    inverses::of_list(m, a, a.len(), &mut inverses);
-    let mut reciprocals = lists::zeros();
-    inverses::of_list(m, c, c.len(), &mut reciprocals);
+    let mut a_inverses = lists::zeros();
+    inverses::of_list(m, a, 0, a.len(), &mut a_inverses);
+    let mut c_inverses = lists::zeros();
+    inverses::of_list(m, c, 1, a.len(), &mut c_inverses);
     moment_way::decompose(
         m,
         a,
         b,
         c,
-        &inverses,
-        &reciprocals,
+        &a_inverses,
+        &c_inverses,
         1,
         1,
         1,
@@ -207,14 +197,28 @@ pub fn moments(
     output: &mut [u32],
     work: &mut [u32],
 ) -> Answer
-    ensures { λ r. ⌜ ConvertedIn (momentsTests (family m (now (a .entry)) (now (b .entry)) (now (c .entry))) (length (now (output .entry))) (length (now (work .entry)))) (moments (family m (now (a .entry)) (now (b .entry)) (now (c .entry)))) r (now (output .entry)) (now (output .exit)) (now (work .entry)) (now (work .exit)) ⌝ }
+    ensures { λ r. ⌜ MomentsCall (family m (now (a .entry)) (now (b .entry)) (now (c .entry))) r
+        (now (output .entry)) (now (output .exit)) (now (work .entry)) (now (work .exit)) ⌝ }
 {
     let tested = verdicts::moments(m, a, b, c, output.len(), work.len());
     let Answer::Finished = tested else {
         return tested;
     };
-    let mut inverses = lists::zeros();
-    inverses::of_list(m, a, a.len(), &mut inverses);
-    moment_way::moments(m, a, b, c, &inverses, 1, 1, 1, 1, a.len() + 1, output, work);
+    let mut a_inverses = lists::zeros();
+    inverses::of_list(m, a, 0, a.len(), &mut a_inverses);
+    moment_way::moments(
+        m,
+        a,
+        b,
+        c,
+        &a_inverses,
+        1,
+        1,
+        1,
+        1,
+        a.len() + 1,
+        output,
+        work,
+    );
     Answer::Finished
 }

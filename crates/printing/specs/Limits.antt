@@ -48,8 +48,7 @@ late k h = record { least = omega (arith, h .0); greatest = h .1; not7 = λ e. o
 job-given : (j : Job) → Given Causable (jobTests j textOutputLength workLength)
 unfolding jobTests curveLengthTest textOutputTest workTest curveEntriesTest
 job-given j = given-append Causable (familyShape (j .family)) _
-    (shape-given Causable _ _ _ _ (early 3 (omega arith)) (early 4 (omega arith)) (early 5 (omega arith)))
-    (
+    (shape-given Causable _ _ _ _ (early 3 (omega arith)) (early 4 (omega arith)) (early 5 (omega arith))) (
       λ e. early 6 (omega arith),
       (
         λ e. absurd (true≢false (sym e)),

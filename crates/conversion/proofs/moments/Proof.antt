@@ -1,8 +1,7 @@
 -- `moments` meets its promise: it answers the verdict of its tests, and its core, lent the inverses of the a, writes the definition's
 -- list and leaves the working list clear. Assumes nothing.
-use Rattle.conversion.specs.GramCore.{moments-accepted, moments-input, moments-written}
-use Rattle.conversion.specs.InversesCore.{room}
-use Rattle.conversion.specs.PlainCall.{tests-passed}
+use Rattle.conversion.specs.MomentCore.{moments-accepted, moments-input, moments-made}
+use Rattle.conversion.specs.PlainCore.{a-room, a-inverted}
 use Rattle.conversion.specs.TreeCore.{both-kept}
 use borrow.Author.Needs.{needs}
 use Rattle.conversion.proofs.moments.Statement.{statement}
@@ -19,7 +18,7 @@ enum-told-2 : tie.Need-enum-told-2
 enum-told-2 c = search needs
 
 returns : tie.Need-returns
-returns c = both-kept _ _ _ _ _ _ (c .before .before .moments .ensures) (c .enum-told2 .given .1)
+returns c = both-kept (c .before .before .moments .ensures) (c .enum-told2 .given .1)
 
 zeros-requires : tie.Need-zeros-requires
 zeros-requires c κs = search needs
@@ -28,7 +27,10 @@ slice-aggregate-of-list : tie.Need-slice-aggregate-of-list
 slice-aggregate-of-list c = search needs
 
 of-list-requires : tie.Need-of-list-requires
-of-list-requires c κs = room _ _ _ _ ((moments-accepted _ _ _ _ _ _ _ (c .before .before .before .before .moments .ensures) (c .before .before .enum-told .given .1)) .accepted) _ (c .before .zeros .ensures)
+of-list-requires c κs =
+    let passed = c .before .before in
+    let input = moments-accepted (passed .before .before .moments .ensures) (passed .enum-told .given .1) in
+    a-room (input .accepted) (c .before .zeros .ensures)
 
 slice-aggregate-moments : tie.Need-slice-aggregate-moments
 slice-aggregate-moments c = search needs
@@ -38,8 +40,11 @@ add-moments c = search needs
 
 moments-requires-2 : tie.Need-moments-requires-2
 moments-requires-2 c κs =
-    let input = (moments-accepted _ _ _ _ _ _ _ (c .before .before .before .before .before .before .before .before .before .moments .ensures) (c .before .before .before .before .before .before .before .enum-told .given .1)) in
-    moments-input _ _ _ _ (input .accepted) _ (c .before .before .before .before .before .before .zeros .ensures) _ (c .before .before .before .before .of-list .ensures) (c .before .before .before .before .before .before .before .before .before .before .before .before .before .before .before .args .output .now) (c .before .before .before .before .before .before .before .before .before .before .before .before .before .before .before .args .work .now) input
+    let filled = c .before .before .before .before in
+    let passed = filled .before .before .before in
+    let input = moments-accepted (passed .before .before .moments .ensures) (passed .enum-told .given .1) in
+    moments-input (input .accepted)
+    (a-inverted (input .accepted) (filled .before .before .zeros .ensures) (filled .of-list .ensures)) input
 
 same-length : tie.Need-same-length
 same-length c = search needs
@@ -49,12 +54,10 @@ same-length-2 c = search needs
 
 returns-2 : tie.Need-returns-2
 returns-2 c =
-    let input = (moments-accepted _ _ _ _ _ _ _ (c .before .before .before .before .before .before .before .before .before .before .before .before .before .before .moments .ensures) (c .before .before .before .before .before .before .before .before .before .before .before .before .enum-told .given .1)) in
-    record {
-      answer = tests-passed _ _ (c .before .before .before .before .before .before .before .before .before .before .before .before .before .before .moments .ensures) (c .before .before .before .before .before .before .before .before .before .before .before .before .enum-told .given .1);
-      written = moments-written _ _ _ _ (input .accepted) _ (c .before .before .before .before .before .before .before .before .before .before .before .zeros .ensures) _ (c .before .before .before .before .before .before .before .before .before .of-list .ensures) (c .before .before .before .before .before .before .before .before .before .before .before .before .before .before .before .before .before .before .before .before .args .output .now) (c .before .before .before .before .before .before .before .before .before .before .before .before .before .before .before .before .before .before .before .before .args .work .now) input _ _ (c .before .before .before .before .moments2 .ensures);
-      wiped = c .before .before .before .before .moments2 .ensures .wiped;
-    }
+    let passed = c .before .before .before .before .before .before .before .before .before .before .before .before in
+    let tests = passed .before .before .moments .ensures in
+    moments-made (moments-accepted tests (passed .enum-told .given .1)) tests (passed .enum-told .given .1)
+    (c .before .before .before .before .moments2 .ensures)
 
 pub moments-spec : {M : Type 1} → statement M
 moments-spec =

@@ -1,8 +1,8 @@
 -- `tree_adjoint` meets its promise: it answers the verdict of its tests, and its core, whose list is the tree model's, writes the
 -- definition's list and leaves the working list clear. Assumes nothing.
+use Rattle.definitions.specs.Conversion.{adjoint}
 use Rattle.tree_model.specs.Tree.{treeAdjoint}
-use Rattle.conversion.specs.PlainCall.{tests-passed}
-use Rattle.conversion.specs.TreeCore.{both-kept, tree-input, core-input, core-written, adjoint-is}
+use Rattle.conversion.specs.TreeCore.{both-kept, tree-input, core-input, tree-made, adjoint-is}
 use borrow.Author.Needs.{needs}
 use Rattle.conversion.proofs.tree_adjoint.Statement.{statement}
 use Rattle.conversion.proofs.tree_adjoint.Tie as tie
@@ -17,13 +17,15 @@ enum-told-2 : tie.Need-enum-told-2
 enum-told-2 c = search needs
 
 returns : tie.Need-returns
-returns c = both-kept _ _ _ _ _ _ (c .before .before .tree .ensures) (c .enum-told2 .given .1)
+returns c = both-kept (c .before .before .tree .ensures) (c .enum-told2 .given .1)
 
 add-adjoint : tie.Need-add-adjoint
 add-adjoint c = search needs
 
 adjoint-requires : tie.Need-adjoint-requires
-adjoint-requires c κs = core-input _ _ _ _ _ (c .before .before .before .before .before .before .before .before .before .before .before .args .output .now) (c .before .before .before .before .before .before .before .before .before .before .before .args .work .now) (tree-input _ _ _ _ _ _ _ _ (c .before .before .before .before .tree .ensures) (c .before .before .enum-told .given .1))
+adjoint-requires c κs =
+    let passed = c .before .before in
+    core-input (tree-input (passed .before .before .tree .ensures) (passed .enum-told .given .1))
 
 same-length : tie.Need-same-length
 same-length c = search needs
@@ -32,11 +34,11 @@ same-length-2 : tie.Need-same-length-2
 same-length-2 c = search needs
 
 returns-2 : tie.Need-returns-2
-returns-2 c = record {
-  answer = tests-passed _ _ (c .before .before .before .before .before .before .before .before .before .tree .ensures) (c .before .before .before .before .before .before .before .enum-told .given .1);
-  written = core-written _ _ _ _ _ (c .before .before .before .before .before .before .before .before .before .before .before .before .before .before .before .before .args .output .now) (c .before .before .before .before .before .before .before .before .before .before .before .before .before .before .before .before .args .work .now) (tree-input _ _ _ _ _ _ _ _ (c .before .before .before .before .before .before .before .before .before .tree .ensures) (c .before .before .before .before .before .before .before .enum-told .given .1)) treeAdjoint _ _ _ (adjoint-is _ _ _ _ _ (c .before .before .before .before .before .before .before .before .before .before .before .before .before .before .before .before .args .output .now) (c .before .before .before .before .before .before .before .before .before .before .before .before .before .before .before .before .args .work .now) (tree-input _ _ _ _ _ _ _ _ (c .before .before .before .before .before .before .before .before .before .tree .ensures) (c .before .before .before .before .before .before .before .enum-told .given .1))) (c .before .before .before .before .adjoint .ensures);
-  wiped = c .before .before .before .before .adjoint .ensures .wiped;
-}
+returns-2 c =
+    let passed = c .before .before .before .before .before .before .before in
+    let tests = passed .before .before .tree .ensures in
+    let input = tree-input tests (passed .enum-told .given .1) in
+    tree-made input treeAdjoint adjoint (adjoint-is input) tests (passed .enum-told .given .1) (c .before .before .before .before .adjoint .ensures)
 
 pub tree-adjoint-spec : {M : Type 1} → statement M
 tree-adjoint-spec =

@@ -1,9 +1,10 @@
 -- `tree_decompose` meets its promise: it answers the verdict of its tests, and its core, lent the inverses of the a and of the c, writes
 -- the definition's list and leaves the working list clear. Assumes nothing.
-use Rattle.conversion.specs.GramCore.{reciprocals-room, decompose-input, decompose-written}
-use Rattle.conversion.specs.InversesCore.{room}
-use Rattle.conversion.specs.PlainCall.{tests-passed}
-use Rattle.conversion.specs.TreeCore.{both-kept, tree-input}
+use mathlib.Core.Path.{refl}
+use Rattle.definitions.specs.Conversion.{decompose}
+use Rattle.conversion.specs.MomentCore.{c-room, c-inverted, decompose-input}
+use Rattle.conversion.specs.PlainCore.{a-room, a-inverted}
+use Rattle.conversion.specs.TreeCore.{both-kept, tree-input, tree-made}
 use borrow.Author.Needs.{needs}
 use Rattle.conversion.proofs.tree_decompose.Statement.{statement}
 use Rattle.conversion.proofs.tree_decompose.Tie as tie
@@ -18,7 +19,7 @@ enum-told-2 : tie.Need-enum-told-2
 enum-told-2 c = search needs
 
 returns : tie.Need-returns
-returns c = both-kept _ _ _ _ _ _ (c .before .before .tree .ensures) (c .enum-told2 .given .1)
+returns c = both-kept (c .before .before .tree .ensures) (c .enum-told2 .given .1)
 
 zeros-requires : tie.Need-zeros-requires
 zeros-requires c κs = search needs
@@ -27,7 +28,10 @@ slice-aggregate-of-list : tie.Need-slice-aggregate-of-list
 slice-aggregate-of-list c = search needs
 
 of-list-requires : tie.Need-of-list-requires
-of-list-requires c κs = room _ _ _ _ ((tree-input _ _ _ _ _ _ _ _ (c .before .before .before .before .tree .ensures) (c .before .before .enum-told .given .1)) .plain .accepted) _ (c .before .zeros .ensures)
+of-list-requires c κs =
+    let passed = c .before .before in
+    let input = tree-input (passed .before .before .tree .ensures) (passed .enum-told .given .1) in
+    a-room (input .plain .accepted) (c .before .zeros .ensures)
 
 zeros-requires-2 : tie.Need-zeros-requires-2
 zeros-requires-2 c κs = search needs
@@ -36,7 +40,10 @@ slice-aggregate-of-list-2 : tie.Need-slice-aggregate-of-list-2
 slice-aggregate-of-list-2 c = search needs
 
 of-list-requires-2 : tie.Need-of-list-requires-2
-of-list-requires-2 c κs = reciprocals-room _ _ _ _ ((tree-input _ _ _ _ _ _ _ _ (c .before .before .before .before .before .before .before .before .tree .ensures) (c .before .before .before .before .before .before .enum-told .given .1)) .plain .accepted) _ (c .before .before .before .before .before .zeros .ensures) _ (c .before .before .before .of-list .ensures) _ (c .before .zeros2 .ensures)
+of-list-requires-2 c κs =
+    let passed = c .before .before .before .before .before .before in
+    let input = tree-input (passed .before .before .tree .ensures) (passed .enum-told .given .1) in
+    c-room (input .plain .accepted) (c .before .zeros2 .ensures)
 
 slice-aggregate-decompose : tie.Need-slice-aggregate-decompose
 slice-aggregate-decompose c = search needs
@@ -49,8 +56,13 @@ add-decompose c = search needs
 
 decompose-requires : tie.Need-decompose-requires
 decompose-requires c κs =
-    let input = (tree-input _ _ _ _ _ _ _ _ (c .before .before .before .before .before .before .before .before .before .before .before .before .before .before .tree .ensures) (c .before .before .before .before .before .before .before .before .before .before .before .before .enum-told .given .1)) in
-    decompose-input _ _ _ _ (input .plain .accepted) _ (c .before .before .before .before .before .before .before .before .before .before .before .zeros .ensures) _ (c .before .before .before .before .before .before .before .before .before .of-list .ensures) _ (c .before .before .before .before .before .before .before .zeros2 .ensures) _ (c .before .before .before .before .before .of-list2 .ensures) _ (c .before .before .before .before .before .before .before .before .before .before .before .before .before .before .before .before .before .before .before .before .before .args .output .now) (c .before .before .before .before .before .before .before .before .before .before .before .before .before .before .before .before .before .before .before .before .before .args .work .now) input
+    let second = c .before .before .before .before .before in
+    let first = second .before .before .before .before in
+    let passed = first .before .before .before in
+    let input = tree-input (passed .before .before .tree .ensures) (passed .enum-told .given .1) in
+    decompose-input (input .plain .accepted)
+    (a-inverted (input .plain .accepted) (first .before .before .zeros .ensures) (first .of-list .ensures))
+    (c-inverted (input .plain .accepted) (second .before .before .zeros2 .ensures) (second .of-list2 .ensures)) input
 
 same-length : tie.Need-same-length
 same-length c = search needs
@@ -60,12 +72,10 @@ same-length-2 c = search needs
 
 returns-2 : tie.Need-returns-2
 returns-2 c =
-    let input = (tree-input _ _ _ _ _ _ _ _ (c .before .before .before .before .before .before .before .before .before .before .before .before .before .before .before .before .before .before .before .tree .ensures) (c .before .before .before .before .before .before .before .before .before .before .before .before .before .before .before .before .before .enum-told .given .1)) in
-    record {
-      answer = tests-passed _ _ (c .before .before .before .before .before .before .before .before .before .before .before .before .before .before .before .before .before .before .before .tree .ensures) (c .before .before .before .before .before .before .before .before .before .before .before .before .before .before .before .before .before .enum-told .given .1);
-      written = decompose-written _ _ _ _ (input .plain .accepted) _ (c .before .before .before .before .before .before .before .before .before .before .before .before .before .before .before .before .zeros .ensures) _ (c .before .before .before .before .before .before .before .before .before .before .before .before .before .before .of-list .ensures) _ (c .before .before .before .before .before .before .before .before .before .before .before .before .zeros2 .ensures) _ (c .before .before .before .before .before .before .before .before .before .before .of-list2 .ensures) _ (c .before .before .before .before .before .before .before .before .before .before .before .before .before .before .before .before .before .before .before .before .before .before .before .before .before .before .args .output .now) (c .before .before .before .before .before .before .before .before .before .before .before .before .before .before .before .before .before .before .before .before .before .before .before .before .before .before .args .work .now) input _ _ (c .before .before .before .before .decompose .ensures);
-      wiped = c .before .before .before .before .decompose .ensures .wiped;
-    }
+    let passed = c .before .before .before .before .before .before .before .before .before .before .before .before .before .before .before .before .before in
+    let tests = passed .before .before .tree .ensures in
+    tree-made (tree-input tests (passed .enum-told .given .1)) decompose decompose refl tests (passed .enum-told .given .1)
+    (c .before .before .before .before .decompose .ensures)
 
 pub tree-decompose-spec : {M : Type 1} → statement M
 tree-decompose-spec =
