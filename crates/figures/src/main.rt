@@ -59,7 +59,7 @@ fn expand(
     curve: &[u32],
     output: &mut [u32],
 ) {
-    let answer = conversion::plain_expand(m, a, b, c, curve, output);
+    let answer = plain_calls::plain_expand(m, a, b, c, curve, output);
     show(label, answer, output);
 }
 
@@ -72,7 +72,7 @@ fn adjoint(
     curve: &[u32],
     output: &mut [u32],
 ) {
-    let answer = conversion::plain_adjoint(m, a, b, c, curve, output);
+    let answer = plain_calls::plain_adjoint(m, a, b, c, curve, output);
     show(label, answer, output);
 }
 
@@ -85,12 +85,12 @@ fn decompose(
     coefficients: &[u32],
     output: &mut [u32],
 ) {
-    let answer = conversion::plain_decompose(m, a, b, c, coefficients, output);
+    let answer = plain_calls::plain_decompose(m, a, b, c, coefficients, output);
     show(label, answer, output);
 }
 
 fn norms(label: &[u8], m: u32, a: &[u32], b: &[u32], c: &[u32], output: &mut [u32]) {
-    let answer = conversion::norms(m, a, b, c, output);
+    let answer = plain_calls::norms(m, a, b, c, output);
     show(label, answer, output);
 }
 
@@ -112,8 +112,8 @@ fn on_small_families() {
 }
 
 fn on_inverses() {
-    show_value(b"P8", conversion::invert(15, 4));
-    show_value(b"P9", conversion::invert(15, 6));
+    show_value(b"P8", plain_calls::invert(15, 4));
+    show_value(b"P9", plain_calls::invert(15, 6));
 }
 
 // The limits of the modulus, of the number of rows and of an entry.
@@ -246,7 +246,7 @@ fn tree_expand(
     output: &mut [u32],
 ) {
     let mut work = nines();
-    let answer = conversion::tree_expand(m, a, b, c, curve, output, &mut work);
+    let answer = tree_calls::tree_expand(m, a, b, c, curve, output, &mut work);
     show(label, answer, output);
     working(work[0], work[16383], work[16384]);
 }
@@ -261,7 +261,7 @@ fn tree_adjoint(
     output: &mut [u32],
 ) {
     let mut work = nines();
-    let answer = conversion::tree_adjoint(m, a, b, c, curve, output, &mut work);
+    let answer = tree_calls::tree_adjoint(m, a, b, c, curve, output, &mut work);
     show(label, answer, output);
     working(work[0], work[16383], work[16384]);
 }
@@ -308,14 +308,14 @@ fn tree_decompose(
     output: &mut [u32],
 ) {
     let mut work = nines();
-    let answer = conversion::tree_decompose(m, a, b, c, coefficients, output, &mut work);
+    let answer = tree_calls::tree_decompose(m, a, b, c, coefficients, output, &mut work);
     show(label, answer, output);
     working(work[0], work[16383], work[16384]);
 }
 
 fn moments(label: &[u8], m: u32, a: &[u32], b: &[u32], c: &[u32], output: &mut [u32]) {
     let mut work = nines();
-    let answer = conversion::moments(m, a, b, c, output, &mut work);
+    let answer = tree_calls::moments(m, a, b, c, output, &mut work);
     show(label, answer, output);
     working(work[0], work[16383], work[16384]);
 }
@@ -344,7 +344,7 @@ fn short() -> [u32; 16383] {
 fn in_a_short_list() {
     let mut output: [u32; 3] = [4; 3];
     let mut work = short();
-    let answer = conversion::tree_expand(
+    let answer = tree_calls::tree_expand(
         7,
         &[1, 2],
         &[0, 3],

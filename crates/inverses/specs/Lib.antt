@@ -3,3 +3,4 @@ pub mod OneByOne
 pub mod Sharing
 pub mod Range
 pub mod Joint
+pub mod InverseArray

@@ -34,8 +34,8 @@ fn expand_by(
         (now (output .entry)) (now (output .exit)) (now (work .entry)) (now (work .exit)) ⌝ }
 {
     match way {
-        Way::Plain => conversion::plain_expand(m, a, b, c, curve, output),
-        Way::Tree => conversion::tree_expand(m, a, b, c, curve, output, work),
+        Way::Plain => plain_calls::plain_expand(m, a, b, c, curve, output),
+        Way::Tree => tree_calls::tree_expand(m, a, b, c, curve, output, work),
     }
 }
 
@@ -54,8 +54,8 @@ fn decompose_by(
         (now (output .entry)) (now (output .exit)) (now (work .entry)) (now (work .exit)) ⌝ }
 {
     match way {
-        Way::Plain => conversion::plain_decompose(m, a, b, c, coefficients, output),
-        Way::Tree => conversion::tree_decompose(m, a, b, c, coefficients, output, work),
+        Way::Plain => plain_calls::plain_decompose(m, a, b, c, coefficients, output),
+        Way::Tree => tree_calls::tree_decompose(m, a, b, c, coefficients, output, work),
     }
 }
 
@@ -119,11 +119,11 @@ fn expand_by_both_ways(
     ensures { λ r. ⌜ Agreed expand (family m (now (a .entry)) (now (b .entry)) (now (c .entry))) (now (curve .entry)) r
         (now (plain .entry)) (now (plain .exit)) (now (tree .entry)) (now (tree .exit)) (now (work .entry)) (now (work .exit)) ⌝ }
 {
-    let answer = conversion::plain_expand(m, a, b, c, curve, plain);
+    let answer = plain_calls::plain_expand(m, a, b, c, curve, plain);
     let Answer::Finished = answer else {
         return answer;
     };
-    conversion::tree_expand(m, a, b, c, curve, tree, work)
+    tree_calls::tree_expand(m, a, b, c, curve, tree, work)
 }
 
 // Adjoint by the plain way and by the tree way: the same list.
@@ -140,11 +140,11 @@ fn adjoint_by_both_ways(
     ensures { λ r. ⌜ Agreed adjoint (family m (now (a .entry)) (now (b .entry)) (now (c .entry))) (now (curve .entry)) r
         (now (plain .entry)) (now (plain .exit)) (now (tree .entry)) (now (tree .exit)) (now (work .entry)) (now (work .exit)) ⌝ }
 {
-    let answer = conversion::plain_adjoint(m, a, b, c, curve, plain);
+    let answer = plain_calls::plain_adjoint(m, a, b, c, curve, plain);
     let Answer::Finished = answer else {
         return answer;
     };
-    conversion::tree_adjoint(m, a, b, c, curve, tree, work)
+    tree_calls::tree_adjoint(m, a, b, c, curve, tree, work)
 }
 
 // Decompose by the plain way and by the tree way: the same list.
@@ -161,11 +161,11 @@ fn decompose_by_both_ways(
     ensures { λ r. ⌜ Agreed decompose (family m (now (a .entry)) (now (b .entry)) (now (c .entry))) (now (coefficients .entry)) r
         (now (plain .entry)) (now (plain .exit)) (now (tree .entry)) (now (tree .exit)) (now (work .entry)) (now (work .exit)) ⌝ }
 {
-    let answer = conversion::plain_decompose(m, a, b, c, coefficients, plain);
+    let answer = plain_calls::plain_decompose(m, a, b, c, coefficients, plain);
     let Answer::Finished = answer else {
         return answer;
     };
-    conversion::tree_decompose(m, a, b, c, coefficients, tree, work)
+    tree_calls::tree_decompose(m, a, b, c, coefficients, tree, work)
 }
 
 // Expand for u and for v, Moments and Norms, until one refuses.
@@ -196,11 +196,11 @@ fn hand_out(
     let Answer::Finished = two else {
         return two;
     };
-    let three = conversion::moments(m, a, b, c, moment, work);
+    let three = tree_calls::moments(m, a, b, c, moment, work);
     let Answer::Finished = three else {
         return three;
     };
-    conversion::norms(m, a, b, c, norm)
+    plain_calls::norms(m, a, b, c, norm)
 }
 
 // The product law, demand 3: the uncut product of what Expand hands out for u and for v, weighed with the moments, and the products of

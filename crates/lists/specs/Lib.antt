@@ -4,3 +4,4 @@ pub mod Entries
 pub mod Held
 pub mod Lent
 pub mod Inverses
+pub mod Whole

@@ -41,12 +41,12 @@ fn convert_lists(
         (now (output .entry)) (now (output .exit)) (now (work .entry)) (now (work .exit)) ⌝ }
 {
     match operation {
-        Operation::Expand => conversion::tree_expand(m, a, b, c, curve, output, work),
-        Operation::Adjoint => conversion::tree_adjoint(m, a, b, c, curve, output, work),
-        Operation::Decompose => conversion::tree_decompose(m, a, b, c, curve, output, work),
-        Operation::Moments => conversion::moments(m, a, b, c, output, work),
+        Operation::Expand => tree_calls::tree_expand(m, a, b, c, curve, output, work),
+        Operation::Adjoint => tree_calls::tree_adjoint(m, a, b, c, curve, output, work),
+        Operation::Decompose => tree_calls::tree_decompose(m, a, b, c, curve, output, work),
+        Operation::Moments => tree_calls::moments(m, a, b, c, output, work),
         Operation::Norms => {
-            let tested = conversion::norms(m, a, b, c, output);
+            let tested = plain_calls::norms(m, a, b, c, output);
             let Answer::Finished = tested else {
                 return tested;
             };

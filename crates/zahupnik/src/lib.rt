@@ -21,12 +21,12 @@ fn number(answer: Answer) -> u32
     }
 }
 
-// Inverse, written to the lent number. Refused as conversion::invert is.
+// Inverse, written to the lent number. Refused as plain_calls::invert is.
 #[no_mangle]
 pub extern "C" fn zahupnik_invert(m: u32, x: u32, inverse: &mut u32) -> u32
     ensures { λ r. ⌜ Returned (inverseTests m x) (Number.inverse m x ∷ []) r (now (inverse .entry) ∷ []) (now (inverse .exit) ∷ []) ⌝ }
 {
-    match conversion::invert(m, x) {
+    match plain_calls::invert(m, x) {
         Valued::Value(y) => {
             *inverse = y;
             0
@@ -35,7 +35,7 @@ pub extern "C" fn zahupnik_invert(m: u32, x: u32, inverse: &mut u32) -> u32
     }
 }
 
-// Expand by the plain way. Refused as conversion::plain_expand is.
+// Expand by the plain way. Refused as plain_calls::plain_expand is.
 #[no_mangle]
 pub extern "C" fn zahupnik_plain_expand(
     m: u32,
@@ -48,10 +48,10 @@ pub extern "C" fn zahupnik_plain_expand(
     ensures { λ r. ⌜ PlainReturned expand (family m (now (a .entry)) (now (b .entry)) (now (c .entry))) (now (curve .entry)) r
         (now (output .entry)) (now (output .exit)) ⌝ }
 {
-    number(conversion::plain_expand(m, a, b, c, curve, output))
+    number(plain_calls::plain_expand(m, a, b, c, curve, output))
 }
 
-// Adjoint by the plain way. Refused as conversion::plain_adjoint is.
+// Adjoint by the plain way. Refused as plain_calls::plain_adjoint is.
 #[no_mangle]
 pub extern "C" fn zahupnik_plain_adjoint(
     m: u32,
@@ -64,10 +64,10 @@ pub extern "C" fn zahupnik_plain_adjoint(
     ensures { λ r. ⌜ PlainReturned adjoint (family m (now (a .entry)) (now (b .entry)) (now (c .entry))) (now (curve .entry)) r
         (now (output .entry)) (now (output .exit)) ⌝ }
 {
-    number(conversion::plain_adjoint(m, a, b, c, curve, output))
+    number(plain_calls::plain_adjoint(m, a, b, c, curve, output))
 }
 
-// Decompose by the plain way. Refused as conversion::plain_decompose is.
+// Decompose by the plain way. Refused as plain_calls::plain_decompose is.
 #[no_mangle]
 pub extern "C" fn zahupnik_plain_decompose(
     m: u32,
@@ -80,19 +80,19 @@ pub extern "C" fn zahupnik_plain_decompose(
     ensures { λ r. ⌜ PlainReturned decompose (family m (now (a .entry)) (now (b .entry)) (now (c .entry))) (now (coefficients .entry)) r
         (now (output .entry)) (now (output .exit)) ⌝ }
 {
-    number(conversion::plain_decompose(m, a, b, c, coefficients, output))
+    number(plain_calls::plain_decompose(m, a, b, c, coefficients, output))
 }
 
-// Norms. Refused as conversion::norms is.
+// Norms. Refused as plain_calls::norms is.
 #[no_mangle]
 pub extern "C" fn zahupnik_norms(m: u32, a: &[u32], b: &[u32], c: &[u32], output: &mut [u32]) -> u32
     ensures { λ r. ⌜ NormsReturned (family m (now (a .entry)) (now (b .entry)) (now (c .entry))) r
         (now (output .entry)) (now (output .exit)) ⌝ }
 {
-    number(conversion::norms(m, a, b, c, output))
+    number(plain_calls::norms(m, a, b, c, output))
 }
 
-// Expand by the tree way, in the working list. Refused as conversion::tree_expand is.
+// Expand by the tree way, in the working list. Refused as tree_calls::tree_expand is.
 #[no_mangle]
 pub extern "C" fn zahupnik_tree_expand(
     m: u32,
@@ -106,10 +106,10 @@ pub extern "C" fn zahupnik_tree_expand(
     ensures { λ r. ⌜ TreeReturned expand (family m (now (a .entry)) (now (b .entry)) (now (c .entry))) (now (curve .entry)) r
         (now (output .entry)) (now (output .exit)) (now (work .entry)) (now (work .exit)) ⌝ }
 {
-    number(conversion::tree_expand(m, a, b, c, curve, output, work))
+    number(tree_calls::tree_expand(m, a, b, c, curve, output, work))
 }
 
-// Adjoint by the tree way, in the working list. Refused as conversion::tree_adjoint is.
+// Adjoint by the tree way, in the working list. Refused as tree_calls::tree_adjoint is.
 #[no_mangle]
 pub extern "C" fn zahupnik_tree_adjoint(
     m: u32,
@@ -123,10 +123,10 @@ pub extern "C" fn zahupnik_tree_adjoint(
     ensures { λ r. ⌜ TreeReturned adjoint (family m (now (a .entry)) (now (b .entry)) (now (c .entry))) (now (curve .entry)) r
         (now (output .entry)) (now (output .exit)) (now (work .entry)) (now (work .exit)) ⌝ }
 {
-    number(conversion::tree_adjoint(m, a, b, c, curve, output, work))
+    number(tree_calls::tree_adjoint(m, a, b, c, curve, output, work))
 }
 
-// Decompose by the tree way, in the working list. Refused as conversion::tree_decompose is.
+// Decompose by the tree way, in the working list. Refused as tree_calls::tree_decompose is.
 #[no_mangle]
 pub extern "C" fn zahupnik_tree_decompose(
     m: u32,
@@ -140,10 +140,10 @@ pub extern "C" fn zahupnik_tree_decompose(
     ensures { λ r. ⌜ TreeReturned decompose (family m (now (a .entry)) (now (b .entry)) (now (c .entry))) (now (coefficients .entry)) r
         (now (output .entry)) (now (output .exit)) (now (work .entry)) (now (work .exit)) ⌝ }
 {
-    number(conversion::tree_decompose(m, a, b, c, coefficients, output, work))
+    number(tree_calls::tree_decompose(m, a, b, c, coefficients, output, work))
 }
 
-// Moments, in the working list. Refused as conversion::moments is.
+// Moments, in the working list. Refused as tree_calls::moments is.
 #[no_mangle]
 pub extern "C" fn zahupnik_moments(
     m: u32,
@@ -156,7 +156,7 @@ pub extern "C" fn zahupnik_moments(
     ensures { λ r. ⌜ MomentsReturned (family m (now (a .entry)) (now (b .entry)) (now (c .entry))) r
         (now (output .entry)) (now (output .exit)) (now (work .entry)) (now (work .exit)) ⌝ }
 {
-    number(conversion::moments(m, a, b, c, output, work))
+    number(tree_calls::moments(m, a, b, c, output, work))
 }
 
 // The text call, with the length of the answer text written to the lent number. Refused as job::convert_text is.

@@ -1,4 +1,4 @@
--- `zahupnik_moments` returns the number of the answer of `conversion::moments`, and leaves what that call leaves. Assumes nothing.
+-- `zahupnik_moments` returns the number of the answer of `tree_calls::moments`, and leaves what that call leaves. Assumes nothing.
 use Rattle.zahupnik.specs.Returning.{list-returned-in}
 use borrow.Author.Needs.{needs}
 use Rattle.zahupnik.proofs.zahupnik_moments.Statement.{statement}

@@ -1,4 +1,4 @@
--- `zahupnik_norms` returns the number of the answer of `conversion::norms`, and leaves what that call leaves. Assumes nothing.
+-- `zahupnik_norms` returns the number of the answer of `plain_calls::norms`, and leaves what that call leaves. Assumes nothing.
 use Rattle.zahupnik.specs.Returning.{list-returned}
 use borrow.Author.Needs.{needs}
 use Rattle.zahupnik.proofs.zahupnik_norms.Statement.{statement}

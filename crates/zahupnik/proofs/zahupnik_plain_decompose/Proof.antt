@@ -1,4 +1,4 @@
--- `zahupnik_plain_decompose` returns the number of the answer of `conversion::plain_decompose`, and leaves what that call leaves. Assumes nothing.
+-- `zahupnik_plain_decompose` returns the number of the answer of `plain_calls::plain_decompose`, and leaves what that call leaves. Assumes nothing.
 use Rattle.zahupnik.specs.Returning.{list-returned}
 use borrow.Author.Needs.{needs}
 use Rattle.zahupnik.proofs.zahupnik_plain_decompose.Statement.{statement}

@@ -1,4 +1,4 @@
--- `zahupnik_tree_adjoint` returns the number of the answer of `conversion::tree_adjoint`, and leaves what that call leaves. Assumes nothing.
+-- `zahupnik_tree_adjoint` returns the number of the answer of `tree_calls::tree_adjoint`, and leaves what that call leaves. Assumes nothing.
 use Rattle.zahupnik.specs.Returning.{list-returned-in}
 use borrow.Author.Needs.{needs}
 use Rattle.zahupnik.proofs.zahupnik_tree_adjoint.Statement.{statement}

@@ -1,0 +1,81 @@
+-- `plain_decompose` meets its promise: it answers the verdict of its tests, and its core, lent the inverses of the a, writes the
+-- definition's list. Assumes nothing.
+use mathlib.Core.Path.{_∙_}
+use Rattle.definitions.specs.Conversion.{decompose}
+use Rattle.plain_calls.specs.PlainCall.{tests-refuse, tests-finish, plain-input}
+use Rattle.inverses.specs.InverseArray.{a-room, a-array, whole-inverts}
+use Rattle.plain_calls.specs.PlainCore.{decompose-core, plain-written}
+use borrow.Author.Needs.{needs}
+use Rattle.plain_calls.proofs.plain_decompose.Statement.{statement}
+use Rattle.plain_calls.proofs.plain_decompose.Tie as tie
+
+plain-requires : tie.Need-plain-requires
+plain-requires c κs = search needs
+
+enum-told : tie.Need-enum-told
+enum-told c = search needs
+
+enum-told-2 : tie.Need-enum-told-2
+enum-told-2 c = search needs
+
+returns : tie.Need-returns
+returns c = tests-refuse _ _ (c .before .before .plain .ensures) _ (c .enum-told2 .given .1)
+
+zeros-requires : tie.Need-zeros-requires
+zeros-requires c κs = search needs
+
+slice-aggregate-of-list : tie.Need-slice-aggregate-of-list
+slice-aggregate-of-list c = search needs
+
+of-list-requires : tie.Need-of-list-requires
+of-list-requires c κs =
+    let passed = c .before .before in
+    let input = plain-input _ (passed .before .before .plain .ensures) (passed .enum-told .given .1) in
+    a-room (input .accepted) (c .before .zeros .ensures)
+
+slice-aggregate-decompose : tie.Need-slice-aggregate-decompose
+slice-aggregate-decompose c = search needs
+
+add-decompose : tie.Need-add-decompose
+add-decompose c = search needs
+
+decompose-requires : tie.Need-decompose-requires
+decompose-requires c κs =
+    let filled = c .before .before .before in
+    let zeros = filled .before .before in
+    let passed = zeros .before in
+    let input = plain-input _ (passed .before .before .plain .ensures) (passed .enum-told .given .1) in
+    decompose-core _ input (a-array (input .accepted) (zeros .zeros .ensures) (filled .of-list .ensures))
+
+same-length : tie.Need-same-length
+same-length c = search needs
+
+returns-2 : tie.Need-returns-2
+returns-2 c =
+    let filled = c .before .before .before .before .before .before in
+    let zeros = filled .before .before in
+    let passed = zeros .before in
+    let tested = passed .before .before in
+    let args = tested .before .before .before .before .before .before .args in
+    let input = plain-input _ (tested .plain .ensures) (passed .enum-told .given .1) in
+    let inverted = a-array (input .accepted) (zeros .zeros .ensures) (filled .of-list .ensures) in
+    tests-finish _ _ (tested .plain .ensures) (passed .enum-told .given .1)
+    (c .before .before .decompose .ensures (args .a .now) (whole-inverts (input .accepted) inverted)
+    ∙ plain-written (args .output .now) input decompose)
+
+pub plain-decompose-spec : {M : Type 1} → statement M
+plain-decompose-spec =
+    tie.close
+    (tie.spec
+    plain-requires
+    enum-told
+    enum-told-2
+    returns
+    zeros-requires
+    slice-aggregate-of-list
+    of-list-requires
+    slice-aggregate-decompose
+    add-decompose
+    decompose-requires
+    same-length
+    returns-2)
