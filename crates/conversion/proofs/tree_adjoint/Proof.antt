@@ -38,7 +38,8 @@ returns-2 c =
     let passed = c .before .before .before .before .before .before .before in
     let tests = passed .before .before .tree .ensures in
     let input = tree-input tests (passed .enum-told .given .1) in
-    tree-made input treeAdjoint adjoint (adjoint-is input) tests (passed .enum-told .given .1) (c .before .before .before .before .adjoint .ensures)
+    tree-made input treeAdjoint adjoint (adjoint-is input) tests (passed .enum-told .given .1)
+    (c .before .before .before .before .adjoint .ensures)
 
 pub tree-adjoint-spec : {M : Type 1} → statement M
 tree-adjoint-spec =

@@ -72,7 +72,8 @@ same-length-2 c = search needs
 
 returns-2 : tie.Need-returns-2
 returns-2 c =
-    let passed = c .before .before .before .before .before .before .before .before .before .before .before .before .before .before .before .before .before in
+    let filled = c .before .before .before .before .before .before .before .before .before .before in
+    let passed = filled .before .before .before .before .before .before .before in
     let tests = passed .before .before .tree .ensures in
     tree-made (tree-input tests (passed .enum-told .given .1)) decompose decompose refl tests (passed .enum-told .given .1)
     (c .before .before .before .before .decompose .ensures)

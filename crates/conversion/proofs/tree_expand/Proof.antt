@@ -38,7 +38,8 @@ returns-2 c =
     let passed = c .before .before .before .before .before .before .before in
     let tests = passed .before .before .tree .ensures in
     let input = tree-input tests (passed .enum-told .given .1) in
-    tree-made input treeExpand expand (expand-is input) tests (passed .enum-told .given .1) (c .before .before .before .before .expand .ensures)
+    tree-made input treeExpand expand (expand-is input) tests (passed .enum-told .given .1)
+    (c .before .before .before .before .expand .ensures)
 
 pub tree-expand-spec : {M : Type 1} → statement M
 tree-expand-spec =
