@@ -70,23 +70,6 @@ pub main-spec : {M : Type 1} → statement M
 main-spec =
     tie.close
     (tie.spec
-    text-buffer-requires
-    slice-aggregate-read-input
-    read-input-requires
-    enum-known-count
-    enum-told
-    slice-aggregate-fail
-    fail-requires
-    returns
-    sub-job
-    part-job-start
-    part-job-end
-    print-job-requires
-    sub-print
-    part-print-start
-    part-print-end
-    print-requires
-    slice-aggregate-fail-2
-    fail-requires-2
-    returns-2
-    returns-3)
+    text-buffer-requires slice-aggregate-read-input read-input-requires enum-known-count enum-told slice-aggregate-fail fail-requires
+    returns sub-job part-job-start part-job-end print-job-requires sub-print part-print-start part-print-end print-requires
+    slice-aggregate-fail-2 fail-requires-2 returns-2 returns-3)

@@ -66,21 +66,5 @@ pub read-input-spec : {M : Type 1} → statement M
 read-input-spec =
     tie.close
     (tie.spec
-    Inv-loop
-    μ-loop
-    loop-holds
-    sub-read-some
-    part-read-some-start
-    part-read-some-end
-    read-some-requires
-    enum-known-more
-    enum-told
-    same-length
-    returns
-    same-length-2
-    returns-2
-    add-count
-    loop-less
-    loop-again
-    same-length-3
-    returns-3)
+    Inv-loop μ-loop loop-holds sub-read-some part-read-some-start part-read-some-end read-some-requires enum-known-more enum-told
+    same-length returns same-length-2 returns-2 add-count loop-less loop-again same-length-3 returns-3)

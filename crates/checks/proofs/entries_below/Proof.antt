@@ -52,15 +52,4 @@ pub entries-below-spec : {M : Type 1} → statement M
 entries-below-spec =
     tie.close
     (tie.spec
-    Inv-loop
-    μ-loop
-    all-below-requires
-    returns
-    loop-holds
-    mul-x
-    shared-slice-read-x
-    returns-2
-    add-i
-    loop-less
-    loop-again
-    returns-3)
+    Inv-loop μ-loop all-below-requires returns loop-holds mul-x shared-slice-read-x returns-2 add-i loop-less loop-again returns-3)

@@ -50,13 +50,4 @@ pub family-shape-spec : {M : Type 1} → statement M
 family-shape-spec =
     tie.close
     (tie.spec
-    modulus-requires
-    enum-told
-    enum-told-2
-    returns
-    equal-lengths-requires
-    enum-told-3
-    enum-told-4
-    returns-2
-    row-count-requires
-    returns-3)
+    modulus-requires enum-told enum-told-2 returns equal-lengths-requires enum-told-3 enum-told-4 returns-2 row-count-requires returns-3)

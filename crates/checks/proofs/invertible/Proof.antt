@@ -90,22 +90,5 @@ pub invertible-spec : {M : Type 1} → statement M
 invertible-spec =
     tie.close
     (tie.spec
-    Inv-loop
-    μ-loop
-    running-product-requires
-    invert-requires
-    enum-told
-    enum-told-2
-    returns
-    loop-holds
-    mul-x
-    shared-slice-read-x
-    invert-requires-2
-    enum-known-inversion
-    returns-2
-    returns-3
-    enum-told-3
-    add-i
-    loop-less
-    loop-again
-    returns-4)
+    Inv-loop μ-loop running-product-requires invert-requires enum-told enum-told-2 returns loop-holds mul-x shared-slice-read-x
+    invert-requires-2 enum-known-inversion returns-2 returns-3 enum-told-3 add-i loop-less loop-again returns-4)

@@ -79,19 +79,5 @@ pub lacks-inverse-spec : {M : Type 1} → statement M
 lacks-inverse-spec =
     tie.close
     (tie.spec
-    excess-requires
-    sub-start
-    mul-invertible
-    sub-invertible
-    part-invertible-start
-    part-invertible-end
-    invertible-requires
-    enum-told
-    enum-told-2
-    returns
-    returns-2
-    invert-requires
-    enum-told-3
-    enum-told-4
-    returns-3
-    returns-4)
+    excess-requires sub-start mul-invertible sub-invertible part-invertible-start part-invertible-end invertible-requires enum-told
+    enum-told-2 returns returns-2 invert-requires enum-told-3 enum-told-4 returns-3 returns-4)

@@ -107,22 +107,6 @@ pub row-entries-spec : {M : Type 1} → statement M
 row-entries-spec =
     tie.close
     (tie.spec
-    slice-aggregate-entries-below
-    entries-below-requires
-    enum-told
-    enum-told-2
-    returns
-    slice-aggregate-entries-below-2
-    entries-below-requires-2
-    enum-told-3
-    enum-told-4
-    returns-2
-    slice-aggregate-entries-below-3
-    entries-below-requires-3
-    enum-told-5
-    enum-told-6
-    returns-3
-    returns-4
-    returns-5
-    returns-6
-    returns-7)
+    slice-aggregate-entries-below entries-below-requires enum-told enum-told-2 returns slice-aggregate-entries-below-2
+    entries-below-requires-2 enum-told-3 enum-told-4 returns-2 slice-aggregate-entries-below-3 entries-below-requires-3 enum-told-5
+    enum-told-6 returns-3 returns-4 returns-5 returns-6 returns-7)

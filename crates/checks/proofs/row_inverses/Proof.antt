@@ -82,20 +82,6 @@ pub row-inverses-spec : {M : Type 1} → statement M
 row-inverses-spec =
     tie.close
     (tie.spec
-    excess-requires
-    sub-start
-    slice-aggregate-joint-product
-    mul-joint-product
-    sub-joint-product
-    part-joint-product-start
-    part-joint-product-end
-    joint-product-requires
-    invert-requires
-    enum-told
-    enum-told-2
-    returns
-    lacks-inverse-requires
-    returns-2
-    lacks-inverse-requires-2
-    returns-3
-    returns-4)
+    excess-requires sub-start slice-aggregate-joint-product mul-joint-product sub-joint-product part-joint-product-start
+    part-joint-product-end joint-product-requires invert-requires enum-told enum-told-2 returns lacks-inverse-requires returns-2
+    lacks-inverse-requires-2 returns-3 returns-4)

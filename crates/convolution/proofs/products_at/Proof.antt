@@ -99,26 +99,6 @@ pub products-at-spec : {M : Type 1} → statement M
 products-at-spec =
     tie.close
     (tie.spec
-    Inv-loop
-    μ-loop
-    add-next
-    excess-requires
-    lesser-requires
-    loop-holds
-    sub-j
-    mul-pair
-    shared-slice-read-pair
-    mul-pair-2
-    shared-slice-read-pair-2
-    mul-pair-3
-    shared-slice-read-pair-3
-    mul-pair-4
-    shared-slice-read-pair-4
-    pair-requires
-    wrapping-add-u64-requires
-    wraps-after-requires
-    add-i
-    loop-less
-    loop-again
-    remainder-of-sum-requires
-    returns)
+    Inv-loop μ-loop add-next excess-requires lesser-requires loop-holds sub-j mul-pair shared-slice-read-pair mul-pair-2
+    shared-slice-read-pair-2 mul-pair-3 shared-slice-read-pair-3 mul-pair-4 shared-slice-read-pair-4 pair-requires
+    wrapping-add-u64-requires wraps-after-requires add-i loop-less loop-again remainder-of-sum-requires returns)

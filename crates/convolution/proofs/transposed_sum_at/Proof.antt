@@ -97,25 +97,6 @@ pub transposed-sum-at-spec : {M : Type 1} → statement M
 transposed-sum-at-spec =
     tie.close
     (tie.spec
-    Inv-loop
-    μ-loop
-    excess-requires
-    lesser-requires
-    loop-holds
-    add-k
-    mul-pair
-    shared-slice-read-pair
-    mul-pair-2
-    shared-slice-read-pair-2
-    mul-pair-3
-    shared-slice-read-pair-3
-    mul-pair-4
-    shared-slice-read-pair-4
-    pair-requires
-    wrapping-add-u64-requires
-    wraps-after-requires
-    add-j
-    loop-less
-    loop-again
-    remainder-of-sum-requires
-    returns)
+    Inv-loop μ-loop excess-requires lesser-requires loop-holds add-k mul-pair shared-slice-read-pair mul-pair-2 shared-slice-read-pair-2
+    mul-pair-3 shared-slice-read-pair-3 mul-pair-4 shared-slice-read-pair-4 pair-requires wrapping-add-u64-requires wraps-after-requires
+    add-j loop-less loop-again remainder-of-sum-requires returns)

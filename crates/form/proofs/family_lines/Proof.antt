@@ -69,6 +69,5 @@ pub family-lines-spec : {M : Type 1} → statement M
 family-lines-spec =
     tie.close
     (tie.spec
-    slice-aggregate-number-line number-line-requires enum-known-modulus enum-told returns
-    row-lines-requires enum-known-a-count enum-told-2 same-length same-length-2 same-length-3 returns-2
-    same-length-4 same-length-5 same-length-6 returns-3)
+    slice-aggregate-number-line number-line-requires enum-known-modulus enum-told returns row-lines-requires enum-known-a-count
+    enum-told-2 same-length same-length-2 same-length-3 returns-2 same-length-4 same-length-5 same-length-6 returns-3)

@@ -69,6 +69,5 @@ pub job-end-spec : {M : Type 1} → statement M
 job-end-spec =
     tie.close
     (tie.spec
-    operation-line-requires enum-known-operation enum-told returns
-    slice-aggregate-numbers-line numbers-line-requires enum-known-entries enum-told-2 same-length returns-2
-    same-length-2 returns-3 same-length-3 returns-4)
+    operation-line-requires enum-known-operation enum-told returns slice-aggregate-numbers-line numbers-line-requires enum-known-entries
+    enum-told-2 same-length returns-2 same-length-2 returns-3 same-length-3 returns-4)

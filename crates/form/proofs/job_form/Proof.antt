@@ -64,5 +64,5 @@ pub job-form-spec : {M : Type 1} → statement M
 job-form-spec =
     tie.close
     (tie.spec
-    family-lines-requires enum-known-modulus enum-told same-length same-length-2 same-length-3 returns
-    job-end-requires with-family-requires same-length-4 same-length-5 same-length-6 same-length-7 returns-2)
+    family-lines-requires enum-known-modulus enum-told same-length same-length-2 same-length-3 returns job-end-requires
+    with-family-requires same-length-4 same-length-5 same-length-6 same-length-7 returns-2)

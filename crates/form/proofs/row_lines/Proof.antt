@@ -107,7 +107,7 @@ pub row-lines-spec : {M : Type 1} → statement M
 row-lines-spec =
     tie.close
     (tie.spec
-    slice-aggregate-numbers-line numbers-line-requires enum-known-a-count enum-told same-length returns
-    slice-aggregate-numbers-line-2 numbers-line-requires-2 enum-known-b-count enum-told-2 same-length-2 same-length-3 returns-2
-    slice-aggregate-numbers-line-3 numbers-line-requires-3 enum-known-c-count enum-told-3
-    same-length-4 same-length-5 same-length-6 returns-3 same-length-7 same-length-8 same-length-9 returns-4)
+    slice-aggregate-numbers-line numbers-line-requires enum-known-a-count enum-told same-length returns slice-aggregate-numbers-line-2
+    numbers-line-requires-2 enum-known-b-count enum-told-2 same-length-2 same-length-3 returns-2 slice-aggregate-numbers-line-3
+    numbers-line-requires-3 enum-known-c-count enum-told-3 same-length-4 same-length-5 same-length-6 returns-3 same-length-7 same-length-8
+    same-length-9 returns-4)

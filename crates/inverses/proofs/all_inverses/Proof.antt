@@ -57,16 +57,5 @@ pub all-inverses-spec : {M : Type 1} → statement M
 all-inverses-spec =
     tie.close
     (tie.spec
-    one-by-one-requires
-    same-length
-    returns
-    running-products-requires
-    invert-requires
-    enum-known-whole
-    enum-told
-    one-by-one-requires-2
-    same-length-2
-    returns-2
-    share-inverse-requires
-    same-length-3
-    returns-3)
+    one-by-one-requires same-length returns running-products-requires invert-requires enum-known-whole enum-told one-by-one-requires-2
+    same-length-2 returns-2 share-inverse-requires same-length-3 returns-3)

@@ -146,43 +146,10 @@ pub joint-product-spec : {M : Type 1} → statement M
 joint-product-spec =
     tie.close
     (tie.spec
-    Inv-loop
-    μ-loop
-    reciprocal-requires
-    pair-count-requires
-    loop-holds
-    mul-i
-    mul-j
-    add-j
-    mul-product-by
-    shared-slice-read-product-by
-    product-by-requires
-    mul-product-by-2
-    shared-slice-read-product-by-2
-    product-by-requires-2
-    mul-product-by-3
-    shared-slice-read-product-by-3
-    product-by-requires-3
-    mul-product-by-4
-    shared-slice-read-product-by-4
-    product-by-requires-4
-    add-k
-    loop-less
-    loop-again
-    mul-rest
-    product-by-requires-5
-    mul-running-product
-    sub-running-product
-    part-running-product-start
-    part-running-product-end
-    running-product-requires
-    product-by-requires-6
-    product-by-requires-7
-    mul-running-product-2
-    sub-running-product-2
-    part-running-product-start-2
-    part-running-product-end-2
-    running-product-requires-2
-    product-by-requires-8
-    product-by-requires-9
-    returns)
+    Inv-loop μ-loop reciprocal-requires pair-count-requires loop-holds mul-i mul-j add-j mul-product-by shared-slice-read-product-by
+    product-by-requires mul-product-by-2 shared-slice-read-product-by-2 product-by-requires-2 mul-product-by-3
+    shared-slice-read-product-by-3 product-by-requires-3 mul-product-by-4 shared-slice-read-product-by-4 product-by-requires-4 add-k
+    loop-less loop-again mul-rest product-by-requires-5 mul-running-product sub-running-product part-running-product-start
+    part-running-product-end running-product-requires product-by-requires-6 product-by-requires-7 mul-running-product-2
+    sub-running-product-2 part-running-product-start-2 part-running-product-end-2 running-product-requires-2 product-by-requires-8
+    product-by-requires-9 returns)

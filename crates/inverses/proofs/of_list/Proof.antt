@@ -79,24 +79,6 @@ pub of-list-spec : {M : Type 1} → statement M
 of-list-spec =
     tie.close
     (tie.spec
-    Inv-loop
-    μ-loop
-    excess-requires
-    sub-start
-    loop-holds
-    mul-output
-    slice-write-output
-    add-i
-    loop-less
-    loop-again
-    mul-all-inverses
-    sub-all-inverses
-    part-all-inverses-start
-    part-all-inverses-end
-    mul-all-inverses-2
-    sub-all-inverses-2
-    part-all-inverses-start-2
-    part-all-inverses-end-2
-    all-inverses-requires
-    same-length
-    returns)
+    Inv-loop μ-loop excess-requires sub-start loop-holds mul-output slice-write-output add-i loop-less loop-again mul-all-inverses
+    sub-all-inverses part-all-inverses-start part-all-inverses-end mul-all-inverses-2 sub-all-inverses-2 part-all-inverses-start-2
+    part-all-inverses-end-2 all-inverses-requires same-length returns)

@@ -52,16 +52,5 @@ pub one-by-one-spec : {M : Type 1} → statement M
 one-by-one-spec =
     tie.close
     (tie.spec
-    Inv-loop
-    μ-loop
-    loop-holds
-    mul-inverse-or-zero
-    shared-slice-read-inverse-or-zero
-    inverse-or-zero-requires
-    mul-output
-    slice-write-output
-    add-i
-    loop-less
-    loop-again
-    same-length
-    returns)
+    Inv-loop μ-loop loop-holds mul-inverse-or-zero shared-slice-read-inverse-or-zero inverse-or-zero-requires mul-output
+    slice-write-output add-i loop-less loop-again same-length returns)

@@ -61,17 +61,5 @@ pub running-products-spec : {M : Type 1} → statement M
 running-products-spec =
     tie.close
     (tie.spec
-    Inv-loop
-    μ-loop
-    reciprocal-requires
-    loop-holds
-    mul-output
-    slice-write-output
-    mul-product-by
-    shared-slice-read-product-by
-    product-by-requires
-    add-i
-    loop-less
-    loop-again
-    same-length
-    returns)
+    Inv-loop μ-loop reciprocal-requires loop-holds mul-output slice-write-output mul-product-by shared-slice-read-product-by
+    product-by-requires add-i loop-less loop-again same-length returns)

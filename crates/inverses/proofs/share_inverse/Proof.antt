@@ -73,20 +73,5 @@ pub share-inverse-spec : {M : Type 1} → statement M
 share-inverse-spec =
     tie.close
     (tie.spec
-    Inv-loop
-    μ-loop
-    reciprocal-requires
-    loop-holds
-    sub-i
-    mul-product-by
-    slice-read-product-by
-    product-by-requires
-    mul-output
-    slice-write-output
-    mul-product-by-2
-    shared-slice-read-product-by
-    product-by-requires-2
-    loop-less
-    loop-again
-    same-length
-    returns)
+    Inv-loop μ-loop reciprocal-requires loop-holds sub-i mul-product-by slice-read-product-by product-by-requires mul-output
+    slice-write-output mul-product-by-2 shared-slice-read-product-by product-by-requires-2 loop-less loop-again same-length returns)

@@ -81,19 +81,6 @@ pub answer-spec : {M : Type 1} → statement M
 answer-spec =
     tie.close
     (tie.spec
-    result-count-requires
-    slice-aggregate-convert-parts
-    convert-parts-requires
-    enum-told
-    enum-told-2
-    with-length-requires
-    same-length
-    returns
-    sub-write-answer
-    part-write-answer-start
-    part-write-answer-end
-    write-answer-requires
-    cast-length
-    same-length-2
-    same-length-3
+    result-count-requires slice-aggregate-convert-parts convert-parts-requires enum-told enum-told-2 with-length-requires same-length
+    returns sub-write-answer part-write-answer-start part-write-answer-end write-answer-requires cast-length same-length-2 same-length-3
     returns-2)

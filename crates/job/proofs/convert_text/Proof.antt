@@ -127,33 +127,8 @@ pub convert-text-spec : {M : Type 1} → statement M
 convert-text-spec =
     tie.close
     (tie.spec
-    text-length-requires
-    enum-told
-    enum-told-2
-    with-length-requires
-    returns
-    zeros-requires
-    zeros-requires-2
-    zeros-requires-3
-    zeros-requires-4
-    slice-aggregate-job-form
-    slice-aggregate-job-form-2
-    slice-aggregate-job-form-3
-    slice-aggregate-job-form-4
-    job-form-requires
-    enum-known-modulus
-    enum-told-3
-    returns-2
-    sizes-requires
-    enum-told-4
-    enum-told-5
-    with-length-requires-2
-    returns-3
-    slice-aggregate-answer
-    slice-aggregate-answer-2
-    slice-aggregate-answer-3
-    slice-aggregate-answer-4
-    answer-requires
-    same-length
-    same-length-2
-    returns-4)
+    text-length-requires enum-told enum-told-2 with-length-requires returns zeros-requires zeros-requires-2 zeros-requires-3
+    zeros-requires-4 slice-aggregate-job-form slice-aggregate-job-form-2 slice-aggregate-job-form-3 slice-aggregate-job-form-4
+    job-form-requires enum-known-modulus enum-told-3 returns-2 sizes-requires enum-told-4 enum-told-5 with-length-requires-2 returns-3
+    slice-aggregate-answer slice-aggregate-answer-2 slice-aggregate-answer-3 slice-aggregate-answer-4 answer-requires same-length
+    same-length-2 returns-4)

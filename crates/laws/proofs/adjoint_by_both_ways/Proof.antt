@@ -45,13 +45,5 @@ pub adjoint-by-both-ways-spec : {M : Type 1} → statement M
 adjoint-by-both-ways-spec =
     tie.close
     (tie.spec
-    plain-adjoint-requires
-    enum-told
-    enum-told-2
-    same-length
-    returns
-    tree-adjoint-requires
-    same-length-2
-    same-length-3
-    same-length-4
+    plain-adjoint-requires enum-told enum-told-2 same-length returns tree-adjoint-requires same-length-2 same-length-3 same-length-4
     returns-2)

@@ -48,14 +48,5 @@ pub decompose-after-expand-spec : {M : Type 1} → statement M
 decompose-after-expand-spec =
     tie.close
     (tie.spec
-    expand-by-requires
-    enum-told
-    enum-told-2
-    same-length
-    same-length-2
-    returns
-    decompose-by-requires
-    same-length-3
-    same-length-4
-    same-length-5
-    returns-2)
+    expand-by-requires enum-told enum-told-2 same-length same-length-2 returns decompose-by-requires same-length-3 same-length-4
+    same-length-5 returns-2)

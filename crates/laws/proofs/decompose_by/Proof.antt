@@ -39,12 +39,4 @@ pub decompose-by-spec : {M : Type 1} → statement M
 decompose-by-spec =
     tie.close
     (tie.spec
-    enum-told
-    plain-decompose-requires
-    enum-told-2
-    tree-decompose-requires
-    same-length
-    returns
-    same-length-2
-    same-length-3
-    returns-2)
+    enum-told plain-decompose-requires enum-told-2 tree-decompose-requires same-length returns same-length-2 same-length-3 returns-2)

@@ -45,13 +45,5 @@ pub decompose-by-both-ways-spec : {M : Type 1} → statement M
 decompose-by-both-ways-spec =
     tie.close
     (tie.spec
-    plain-decompose-requires
-    enum-told
-    enum-told-2
-    same-length
-    returns
-    tree-decompose-requires
-    same-length-2
-    same-length-3
-    same-length-4
+    plain-decompose-requires enum-told enum-told-2 same-length returns tree-decompose-requires same-length-2 same-length-3 same-length-4
     returns-2)

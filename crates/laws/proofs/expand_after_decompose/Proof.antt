@@ -48,14 +48,5 @@ pub expand-after-decompose-spec : {M : Type 1} → statement M
 expand-after-decompose-spec =
     tie.close
     (tie.spec
-    decompose-by-requires
-    enum-told
-    enum-told-2
-    same-length
-    same-length-2
-    returns
-    expand-by-requires
-    same-length-3
-    same-length-4
-    same-length-5
-    returns-2)
+    decompose-by-requires enum-told enum-told-2 same-length same-length-2 returns expand-by-requires same-length-3 same-length-4
+    same-length-5 returns-2)

@@ -39,12 +39,4 @@ pub expand-by-spec : {M : Type 1} → statement M
 expand-by-spec =
     tie.close
     (tie.spec
-    enum-told
-    plain-expand-requires
-    enum-told-2
-    tree-expand-requires
-    same-length
-    returns
-    same-length-2
-    same-length-3
-    returns-2)
+    enum-told plain-expand-requires enum-told-2 tree-expand-requires same-length returns same-length-2 same-length-3 returns-2)

@@ -45,13 +45,5 @@ pub expand-by-both-ways-spec : {M : Type 1} → statement M
 expand-by-both-ways-spec =
     tie.close
     (tie.spec
-    plain-expand-requires
-    enum-told
-    enum-told-2
-    same-length
-    returns
-    tree-expand-requires
-    same-length-2
-    same-length-3
-    same-length-4
+    plain-expand-requires enum-told enum-told-2 same-length returns tree-expand-requires same-length-2 same-length-3 same-length-4
     returns-2)

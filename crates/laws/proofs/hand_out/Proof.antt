@@ -122,31 +122,6 @@ pub hand-out-spec : {M : Type 1} → statement M
 hand-out-spec =
     tie.close
     (tie.spec
-    expand-by-requires
-    enum-told
-    enum-told-2
-    same-length
-    same-length-2
-    returns
-    expand-by-requires-2
-    enum-told-3
-    enum-told-4
-    same-length-3
-    same-length-4
-    same-length-5
-    returns-2
-    moments-requires
-    enum-told-5
-    enum-told-6
-    same-length-6
-    same-length-7
-    same-length-8
-    same-length-9
-    returns-3
-    norms-requires
-    same-length-10
-    same-length-11
-    same-length-12
-    same-length-13
-    same-length-14
-    returns-4)
+    expand-by-requires enum-told enum-told-2 same-length same-length-2 returns expand-by-requires-2 enum-told-3 enum-told-4 same-length-3
+    same-length-4 same-length-5 returns-2 moments-requires enum-told-5 enum-told-6 same-length-6 same-length-7 same-length-8 same-length-9
+    returns-3 norms-requires same-length-10 same-length-11 same-length-12 same-length-13 same-length-14 returns-4)

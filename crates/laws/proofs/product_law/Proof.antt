@@ -85,21 +85,5 @@ pub product-law-spec : {M : Type 1} → statement M
 product-law-spec =
     tie.close
     (tie.spec
-    hand-out-requires
-    enum-known-answer
-    same-length
-    same-length-2
-    same-length-3
-    same-length-4
-    same-length-5
-    returns
-    enum-told
-    add-n
-    moment-total-requires
-    norm-total-requires
-    same-length-6
-    same-length-7
-    same-length-8
-    same-length-9
-    same-length-10
-    returns-2)
+    hand-out-requires enum-known-answer same-length same-length-2 same-length-3 same-length-4 same-length-5 returns enum-told add-n
+    moment-total-requires norm-total-requires same-length-6 same-length-7 same-length-8 same-length-9 same-length-10 returns-2)

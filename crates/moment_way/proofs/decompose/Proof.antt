@@ -45,14 +45,5 @@ pub decompose-spec : {M : Type 1} → statement M
 decompose-spec =
     tie.close
     (tie.spec
-    shared-slice-read-output
-    rem-output
-    slice-write-output
-    clear-requires
-    same-length
-    same-length-2
-    returns
-    decompose-tree-requires
-    same-length-3
-    same-length-4
-    returns-2)
+    shared-slice-read-output rem-output slice-write-output clear-requires same-length same-length-2 returns decompose-tree-requires
+    same-length-3 same-length-4 returns-2)

@@ -80,17 +80,6 @@ pub decompose-tree-spec : {M : Type 1} → statement M
 decompose-tree-spec =
     tie.close
     (tie.spec
-    blank-requires
-    blank-requires-2
-    slice-aggregate-moments
-    moments-requires
-    slice-aggregate-transposed
-    slice-aggregate-transposed-2
-    slice-aggregate-transposed-3
-    transposed-requires
-    slice-aggregate-adjoint
-    adjoint-requires
-    divide-by-norms-requires
-    same-length
-    same-length-2
-    returns)
+    blank-requires blank-requires-2 slice-aggregate-moments moments-requires slice-aggregate-transposed slice-aggregate-transposed-2
+    slice-aggregate-transposed-3 transposed-requires slice-aggregate-adjoint adjoint-requires divide-by-norms-requires same-length
+    same-length-2 returns)

@@ -81,24 +81,6 @@ pub divide-by-norms-spec : {M : Type 1} → statement M
 divide-by-norms-spec =
     tie.close
     (tie.spec
-    Inv-loop
-    μ-loop
-    sub-rows
-    reciprocal-requires
-    loop-holds
-    row-entry-requires
-    product-by-requires
-    mul-product-by
-    slice-read-product-by
-    product-by-requires-2
-    mul-output
-    slice-write-output
-    add-row-entry
-    row-entry-requires-2
-    negative-requires
-    product-by-requires-3
-    add-i
-    loop-less
-    loop-again
-    same-length
-    returns)
+    Inv-loop μ-loop sub-rows reciprocal-requires loop-holds row-entry-requires product-by-requires mul-product-by slice-read-product-by
+    product-by-requires-2 mul-output slice-write-output add-row-entry row-entry-requires-2 negative-requires product-by-requires-3 add-i
+    loop-less loop-again same-length returns)

@@ -41,12 +41,4 @@ pub last-polynomial-spec : {M : Type 1} → statement M
 last-polynomial-spec =
     tie.close
     (tie.spec
-    blank-requires
-    mul-curve
-    array-write-curve
-    slice-aggregate-expand
-    add-expand
-    expand-requires
-    same-length
-    same-length-2
-    returns)
+    blank-requires mul-curve array-write-curve slice-aggregate-expand add-expand expand-requires same-length same-length-2 returns)

@@ -46,14 +46,4 @@ pub leading-inverse-spec : {M : Type 1} → statement M
 leading-inverse-spec =
     tie.close
     (tie.spec
-    Inv-loop
-    μ-loop
-    sub-rows
-    reciprocal-requires
-    loop-holds
-    row-entry-requires
-    product-by-requires
-    add-i
-    loop-less
-    loop-again
-    returns)
+    Inv-loop μ-loop sub-rows reciprocal-requires loop-holds row-entry-requires product-by-requires add-i loop-less loop-again returns)

@@ -64,17 +64,6 @@ pub moments-spec : {M : Type 1} → statement M
 moments-spec =
     tie.close
     (tie.spec
-    blank-requires
-    blank-requires-2
-    slice-aggregate-polynomials
-    slice-aggregate-polynomials-2
-    polynomials-requires
-    leading-inverse-requires
-    slice-aggregate-quotient
-    slice-aggregate-quotient-2
-    mul-quotient
-    sub-quotient
-    quotient-requires
-    same-length
-    same-length-2
-    returns)
+    blank-requires blank-requires-2 slice-aggregate-polynomials slice-aggregate-polynomials-2 polynomials-requires
+    leading-inverse-requires slice-aggregate-quotient slice-aggregate-quotient-2 mul-quotient sub-quotient quotient-requires same-length
+    same-length-2 returns)

@@ -91,25 +91,7 @@ pub polynomials-spec : {M : Type 1} → statement M
 polynomials-spec =
     tie.close
     (tie.spec
-    sub-rows
-    extend-requires
-    extend-requires-2
-    extend-requires-3
-    slice-aggregate-last-polynomial
-    slice-aggregate-last-polynomial-2
-    slice-aggregate-last-polynomial-3
-    last-polynomial-requires
-    sub-last-polynomial
-    part-last-polynomial-start
-    part-last-polynomial-end
-    sub-last-polynomial-2
-    part-last-polynomial-start-2
-    part-last-polynomial-end-2
-    sub-last-polynomial-3
-    part-last-polynomial-start-3
-    part-last-polynomial-end-3
-    last-polynomial-requires-2
-    same-length
-    same-length-2
-    same-length-3
-    returns)
+    sub-rows extend-requires extend-requires-2 extend-requires-3 slice-aggregate-last-polynomial slice-aggregate-last-polynomial-2
+    slice-aggregate-last-polynomial-3 last-polynomial-requires sub-last-polynomial part-last-polynomial-start part-last-polynomial-end
+    sub-last-polynomial-2 part-last-polynomial-start-2 part-last-polynomial-end-2 sub-last-polynomial-3 part-last-polynomial-start-3
+    part-last-polynomial-end-3 last-polynomial-requires-2 same-length same-length-2 same-length-3 returns)

@@ -122,33 +122,7 @@ pub convert-lists-spec : {M : Type 1} → statement M
 convert-lists-spec =
     tie.close
     (tie.spec
-    enum-told
-    tree-expand-requires
-    enum-told-2
-    tree-adjoint-requires
-    enum-told-3
-    tree-decompose-requires
-    enum-told-4
-    moments-requires
-    enum-told-5
-    norms-requires
-    enum-told-6
-    enum-told-7
-    same-length
-    returns
-    clear-requires
-    same-length-2
-    same-length-3
-    returns-2
-    same-length-4
-    same-length-5
-    returns-3
-    same-length-6
-    same-length-7
-    returns-4
-    same-length-8
-    same-length-9
-    returns-5
-    same-length-10
-    same-length-11
-    returns-6)
+    enum-told tree-expand-requires enum-told-2 tree-adjoint-requires enum-told-3 tree-decompose-requires enum-told-4 moments-requires
+    enum-told-5 norms-requires enum-told-6 enum-told-7 same-length returns clear-requires same-length-2 same-length-3 returns-2
+    same-length-4 same-length-5 returns-3 same-length-6 same-length-7 returns-4 same-length-8 same-length-9 returns-5 same-length-10
+    same-length-11 returns-6)

@@ -68,22 +68,7 @@ pub convert-parts-spec : {M : Type 1} → statement M
 convert-parts-spec =
     tie.close
     (tie.spec
-    sub-convert-lists
-    part-convert-lists-start
-    part-convert-lists-end
-    sub-convert-lists-2
-    part-convert-lists-start-2
-    part-convert-lists-end-2
-    sub-convert-lists-3
-    part-convert-lists-start-3
-    part-convert-lists-end-3
-    sub-convert-lists-4
-    part-convert-lists-start-4
-    part-convert-lists-end-4
-    sub-convert-lists-5
-    part-convert-lists-start-5
-    part-convert-lists-end-5
-    convert-lists-requires
-    same-length
-    same-length-2
-    returns)
+    sub-convert-lists part-convert-lists-start part-convert-lists-end sub-convert-lists-2 part-convert-lists-start-2
+    part-convert-lists-end-2 sub-convert-lists-3 part-convert-lists-start-3 part-convert-lists-end-3 sub-convert-lists-4
+    part-convert-lists-start-4 part-convert-lists-end-4 sub-convert-lists-5 part-convert-lists-start-5 part-convert-lists-end-5
+    convert-lists-requires same-length same-length-2 returns)

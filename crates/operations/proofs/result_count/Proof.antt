@@ -63,19 +63,5 @@ pub result-count-spec : {M : Type 1} → statement M
 result-count-spec =
     tie.close
     (tie.spec
-    enum-told
-    add-result
-    enum-told-2
-    add-result-2
-    enum-told-3
-    add-result-3
-    enum-told-4
-    mul-result
-    add-result-4
-    enum-told-5
-    add-result-5
-    returns
-    returns-2
-    returns-3
-    returns-4
-    returns-5)
+    enum-told add-result enum-told-2 add-result-2 enum-told-3 add-result-3 enum-told-4 mul-result add-result-4 enum-told-5 add-result-5
+    returns returns-2 returns-3 returns-4 returns-5)

@@ -102,26 +102,6 @@ pub adjoint-spec : {M : Type 1} → statement M
 adjoint-spec =
     tie.close
     (tie.spec
-    Inv-loop
-    μ-loop
-    sub-rows
-    zeros-requires
-    zeros-requires-2
-    slice-aggregate-copy
-    copy-requires
-    loop-holds
-    array-read-output
-    mul-output
-    slice-write-output
-    row-entry-requires
-    row-entry-requires-2
-    row-entry-requires-3
-    slice-aggregate-adjoint-row
-    slice-aggregate-adjoint-row-2
-    sub-adjoint-row
-    adjoint-row-requires
-    add-j
-    loop-less
-    loop-again
-    same-length
-    returns)
+    Inv-loop μ-loop sub-rows zeros-requires zeros-requires-2 slice-aggregate-copy copy-requires loop-holds array-read-output mul-output
+    slice-write-output row-entry-requires row-entry-requires-2 row-entry-requires-3 slice-aggregate-adjoint-row
+    slice-aggregate-adjoint-row-2 sub-adjoint-row adjoint-row-requires add-j loop-less loop-again same-length returns)

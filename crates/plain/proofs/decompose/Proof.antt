@@ -135,33 +135,8 @@ pub decompose-spec : {M : Type 1} → statement M
 decompose-spec =
     tie.close
     (tie.spec
-    Inv-loop
-    μ-loop
-    sub-rows
-    zeros-requires
-    zeros-requires-2
-    zeros-requires-3
-    zeros-requires-4
-    slice-aggregate-copy
-    copy-requires
-    slice-aggregate-negative-products
-    negative-products-requires
-    slice-aggregate-negative-products-2
-    negative-products-requires-2
-    loop-holds
-    sub-decompose-row
-    mul-decompose-row
-    shared-slice-read-decompose-row
-    slice-aggregate-decompose-row
-    slice-aggregate-decompose-row-2
-    slice-aggregate-decompose-row-3
-    slice-aggregate-decompose-row-4
-    add-decompose-row
-    decompose-row-requires
-    add-i
-    loop-less
-    loop-again
-    slice-aggregate-copy-2
-    copy-requires-2
-    same-length
-    returns)
+    Inv-loop μ-loop sub-rows zeros-requires zeros-requires-2 zeros-requires-3 zeros-requires-4 slice-aggregate-copy copy-requires
+    slice-aggregate-negative-products negative-products-requires slice-aggregate-negative-products-2 negative-products-requires-2
+    loop-holds sub-decompose-row mul-decompose-row shared-slice-read-decompose-row slice-aggregate-decompose-row
+    slice-aggregate-decompose-row-2 slice-aggregate-decompose-row-3 slice-aggregate-decompose-row-4 add-decompose-row
+    decompose-row-requires add-i loop-less loop-again slice-aggregate-copy-2 copy-requires-2 same-length returns)

@@ -101,27 +101,6 @@ pub expand-spec : {M : Type 1} → statement M
 expand-spec =
     tie.close
     (tie.spec
-    Inv-loop
-    μ-loop
-    sub-rows
-    zeros-requires
-    zeros-requires-2
-    loop-holds
-    sub-k
-    mul-x
-    shared-slice-read-x
-    row-entry-requires
-    row-entry-requires-2
-    add-row-entry
-    row-entry-requires-3
-    slice-aggregate-expand-row
-    slice-aggregate-expand-row-2
-    add-expand-row
-    expand-row-requires
-    add-i
-    loop-less
-    loop-again
-    slice-aggregate-copy
-    copy-requires
-    same-length
-    returns)
+    Inv-loop μ-loop sub-rows zeros-requires zeros-requires-2 loop-holds sub-k mul-x shared-slice-read-x row-entry-requires
+    row-entry-requires-2 add-row-entry row-entry-requires-3 slice-aggregate-expand-row slice-aggregate-expand-row-2 add-expand-row
+    expand-row-requires add-i loop-less loop-again slice-aggregate-copy copy-requires same-length returns)

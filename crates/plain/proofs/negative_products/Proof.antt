@@ -73,20 +73,5 @@ pub negative-products-spec : {M : Type 1} → statement M
 negative-products-spec =
     tie.close
     (tie.spec
-    Inv-loop
-    μ-loop
-    reciprocal-requires
-    loop-holds
-    mul-negative
-    shared-slice-read-negative
-    negative-requires
-    mul-product-by
-    shared-slice-read-product-by
-    product-by-requires
-    mul-output
-    slice-write-output
-    add-i
-    loop-less
-    loop-again
-    same-length
-    returns)
+    Inv-loop μ-loop reciprocal-requires loop-holds mul-negative shared-slice-read-negative negative-requires mul-product-by
+    shared-slice-read-product-by product-by-requires mul-output slice-write-output add-i loop-less loop-again same-length returns)

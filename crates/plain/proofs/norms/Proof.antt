@@ -71,21 +71,5 @@ pub norms-spec : {M : Type 1} → statement M
 norms-spec =
     tie.close
     (tie.spec
-    Inv-loop
-    μ-loop
-    sub-rows
-    reciprocal-requires
-    loop-holds
-    row-entry-requires
-    product-by-requires
-    mul-output
-    slice-write-output
-    add-row-entry
-    row-entry-requires-2
-    negative-requires
-    product-by-requires-2
-    add-i
-    loop-less
-    loop-again
-    same-length
-    returns)
+    Inv-loop μ-loop sub-rows reciprocal-requires loop-holds row-entry-requires product-by-requires mul-output slice-write-output
+    add-row-entry row-entry-requires-2 negative-requires product-by-requires-2 add-i loop-less loop-again same-length returns)

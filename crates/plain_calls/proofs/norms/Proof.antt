@@ -66,15 +66,5 @@ pub norms-spec : {M : Type 1} → statement M
 norms-spec =
     tie.close
     (tie.spec
-    norms-requires
-    enum-told
-    enum-told-2
-    returns
-    zeros-requires
-    slice-aggregate-of-list
-    of-list-requires
-    slice-aggregate-norms
-    add-norms
-    norms-requires-2
-    same-length
-    returns-2)
+    norms-requires enum-told enum-told-2 returns zeros-requires slice-aggregate-of-list of-list-requires slice-aggregate-norms add-norms
+    norms-requires-2 same-length returns-2)

@@ -41,11 +41,4 @@ pub plain-adjoint-spec : {M : Type 1} → statement M
 plain-adjoint-spec =
     tie.close
     (tie.spec
-    plain-requires
-    enum-told
-    enum-told-2
-    returns
-    add-adjoint
-    adjoint-requires
-    same-length
-    returns-2)
+    plain-requires enum-told enum-told-2 returns add-adjoint adjoint-requires same-length returns-2)

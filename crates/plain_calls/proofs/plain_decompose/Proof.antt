@@ -67,15 +67,5 @@ pub plain-decompose-spec : {M : Type 1} → statement M
 plain-decompose-spec =
     tie.close
     (tie.spec
-    plain-requires
-    enum-told
-    enum-told-2
-    returns
-    zeros-requires
-    slice-aggregate-of-list
-    of-list-requires
-    slice-aggregate-decompose
-    add-decompose
-    decompose-requires
-    same-length
-    returns-2)
+    plain-requires enum-told enum-told-2 returns zeros-requires slice-aggregate-of-list of-list-requires slice-aggregate-decompose
+    add-decompose decompose-requires same-length returns-2)

@@ -41,11 +41,4 @@ pub plain-expand-spec : {M : Type 1} → statement M
 plain-expand-spec =
     tie.close
     (tie.spec
-    plain-requires
-    enum-told
-    enum-told-2
-    returns
-    add-expand
-    expand-requires
-    same-length
-    returns-2)
+    plain-requires enum-told enum-told-2 returns add-expand expand-requires same-length returns-2)

@@ -50,15 +50,5 @@ pub print-job-spec : {M : Type 1} → statement M
 print-job-spec =
     tie.close
     (tie.spec
-    output-requires
-    working-list-requires
-    slice-aggregate-convert-text
-    slice-aggregate-convert-text-2
-    convert-text-requires
-    enum-known-count
-    cast-length
-    enum-known-number
-    slice-aggregate-write-refusal
-    write-refusal-requires
-    returns
-    returns-2)
+    output-requires working-list-requires slice-aggregate-convert-text slice-aggregate-convert-text-2 convert-text-requires
+    enum-known-count cast-length enum-known-number slice-aggregate-write-refusal write-refusal-requires returns returns-2)

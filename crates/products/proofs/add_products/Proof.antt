@@ -65,18 +65,5 @@ pub add-products-spec : {M : Type 1} → statement M
 add-products-spec =
     tie.close
     (tie.spec
-    Inv-loop
-    μ-loop
-    reciprocal-requires
-    used-length-requires
-    loop-holds
-    entry-requires
-    coefficient-or-start-requires
-    add-place
-    mul-w
-    slice-write-w
-    add-k
-    loop-less
-    loop-again
-    same-length
-    returns)
+    Inv-loop μ-loop reciprocal-requires used-length-requires loop-holds entry-requires coefficient-or-start-requires add-place mul-w
+    slice-write-w add-k loop-less loop-again same-length returns)

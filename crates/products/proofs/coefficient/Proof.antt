@@ -74,25 +74,7 @@ pub coefficient-spec : {M : Type 1} → statement M
 coefficient-spec =
     tie.close
     (tie.spec
-    add-products-at
-    mul-products-at
-    sub-products-at
-    part-products-at-start
-    part-products-at-end
-    add-products-at-2
-    mul-products-at-2
-    sub-products-at-2
-    part-products-at-start-2
-    part-products-at-end-2
-    add-products-at-3
-    mul-products-at-3
-    sub-products-at-3
-    part-products-at-start-3
-    part-products-at-end-3
-    add-products-at-4
-    mul-products-at-4
-    sub-products-at-4
-    part-products-at-start-4
-    part-products-at-end-4
-    products-at-requires
-    returns)
+    add-products-at mul-products-at sub-products-at part-products-at-start part-products-at-end add-products-at-2 mul-products-at-2
+    sub-products-at-2 part-products-at-start-2 part-products-at-end-2 add-products-at-3 mul-products-at-3 sub-products-at-3
+    part-products-at-start-3 part-products-at-end-3 add-products-at-4 mul-products-at-4 sub-products-at-4 part-products-at-start-4
+    part-products-at-end-4 products-at-requires returns)

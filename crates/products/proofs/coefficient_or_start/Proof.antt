@@ -29,9 +29,4 @@ pub coefficient-or-start-spec : {M : Type 1} → statement M
 coefficient-or-start-spec =
     tie.close
     (tie.spec
-    excess-requires
-    coefficient-requires
-    returns
-    coefficient-requires-2
-    returns-2
-    returns-3)
+    excess-requires coefficient-requires returns coefficient-requires-2 returns-2 returns-3)

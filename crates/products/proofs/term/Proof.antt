@@ -75,25 +75,8 @@ pub term-spec : {M : Type 1} → statement M
 term-spec =
     tie.close
     (tie.spec
-    add-transposed-sum-at
-    mul-transposed-sum-at
-    sub-transposed-sum-at
-    part-transposed-sum-at-start
-    part-transposed-sum-at-end
-    add-transposed-sum-at-2
-    mul-transposed-sum-at-2
-    sub-transposed-sum-at-2
-    part-transposed-sum-at-start-2
-    part-transposed-sum-at-end-2
-    add-transposed-sum-at-3
-    mul-transposed-sum-at-3
-    sub-transposed-sum-at-3
-    part-transposed-sum-at-start-3
-    part-transposed-sum-at-end-3
-    add-transposed-sum-at-4
-    mul-transposed-sum-at-4
-    sub-transposed-sum-at-4
-    part-transposed-sum-at-start-4
-    part-transposed-sum-at-end-4
-    transposed-sum-at-requires
-    returns)
+    add-transposed-sum-at mul-transposed-sum-at sub-transposed-sum-at part-transposed-sum-at-start part-transposed-sum-at-end
+    add-transposed-sum-at-2 mul-transposed-sum-at-2 sub-transposed-sum-at-2 part-transposed-sum-at-start-2 part-transposed-sum-at-end-2
+    add-transposed-sum-at-3 mul-transposed-sum-at-3 sub-transposed-sum-at-3 part-transposed-sum-at-start-3 part-transposed-sum-at-end-3
+    add-transposed-sum-at-4 mul-transposed-sum-at-4 sub-transposed-sum-at-4 part-transposed-sum-at-start-4 part-transposed-sum-at-end-4
+    transposed-sum-at-requires returns)

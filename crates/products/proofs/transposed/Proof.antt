@@ -55,16 +55,5 @@ pub transposed-spec : {M : Type 1} → statement M
 transposed-spec =
     tie.close
     (tie.spec
-    Inv-loop
-    μ-loop
-    reciprocal-requires
-    loop-holds
-    add-place
-    transposed-at-requires
-    mul-w
-    slice-write-w
-    add-i
-    loop-less
-    loop-again
-    same-length
-    returns)
+    Inv-loop μ-loop reciprocal-requires loop-holds add-place transposed-at-requires mul-w slice-write-w add-i loop-less loop-again
+    same-length returns)

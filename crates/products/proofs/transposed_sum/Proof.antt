@@ -55,16 +55,5 @@ pub transposed-sum-spec : {M : Type 1} → statement M
 transposed-sum-spec =
     tie.close
     (tie.spec
-    Inv-loop
-    μ-loop
-    reciprocal-requires
-    loop-holds
-    term-requires
-    add-place
-    mul-w
-    slice-write-w
-    add-i
-    loop-less
-    loop-again
-    same-length
+    Inv-loop μ-loop reciprocal-requires loop-holds term-requires add-place mul-w slice-write-w add-i loop-less loop-again same-length
     returns)

@@ -46,14 +46,4 @@ pub used-length-spec : {M : Type 1} → statement M
 used-length-spec =
     tie.close
     (tie.spec
-    Inv-loop
-    μ-loop
-    loop-holds
-    sub-last
-    entry-requires
-    returns
-    entry-requires-2
-    returns-2
-    loop-less
-    loop-again
-    returns-3)
+    Inv-loop μ-loop loop-holds sub-last entry-requires returns entry-requires-2 returns-2 loop-less loop-again returns-3)

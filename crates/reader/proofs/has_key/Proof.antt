@@ -54,6 +54,5 @@ pub has-key-spec : {M : Type 1} → statement M
 has-key-spec =
     tie.close
     (tie.spec
-    Inv-loop μ-loop
-    loop-holds sub-if1 returns add-if2 shared-slice-read-if2 shared-slice-read-if2-2 returns-2 add-k loop-less
-    loop-again returns-3)
+    Inv-loop μ-loop loop-holds sub-if1 returns add-if2 shared-slice-read-if2 shared-slice-read-if2-2 returns-2 add-k loop-less loop-again
+    returns-3)

@@ -129,7 +129,6 @@ pub load-numbers-spec : {M : Type 1} → statement M
 load-numbers-spec =
     tie.close
     (tie.spec
-    Inv-loop μ-loop
-    returns shared-slice-read-if2 add-t13 returns-2 loop-holds read-number-requires enum-known-x enum-told same-length
-    returns-3 same-length-2 returns-4 store-requires add-count shared-slice-read-b add-i loop-less loop-again add-t22
-    same-length-3 returns-5 same-length-4 returns-6 same-length-5 returns-7)
+    Inv-loop μ-loop returns shared-slice-read-if2 add-t13 returns-2 loop-holds read-number-requires enum-known-x enum-told same-length
+    returns-3 same-length-2 returns-4 store-requires add-count shared-slice-read-b add-i loop-less loop-again add-t22 same-length-3
+    returns-5 same-length-4 returns-6 same-length-5 returns-7)

@@ -74,5 +74,5 @@ pub number-line-spec : {M : Type 1} → statement M
 number-line-spec =
     tie.close
     (tie.spec
-    has-key-requires returns add-read-number read-number-requires enum-known-x enum-told returns-2
-    slice-aggregate-has-key has-key-requires-2 returns-3 add-t11 returns-4)
+    has-key-requires returns add-read-number read-number-requires enum-known-x enum-told returns-2 slice-aggregate-has-key
+    has-key-requires-2 returns-3 add-t11 returns-4)

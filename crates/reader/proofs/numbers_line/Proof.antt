@@ -41,5 +41,4 @@ returns-2 c =
 pub numbers-line-spec : {M : Type 1} → statement M
 numbers-line-spec =
     tie.close
-    (tie.spec
-    has-key-requires returns add-load-numbers load-numbers-requires same-length returns-2)
+    (tie.spec has-key-requires returns add-load-numbers load-numbers-requires same-length returns-2)

@@ -111,8 +111,6 @@ pub operation-line-spec : {M : Type 1} → statement M
 operation-line-spec =
     tie.close
     (tie.spec
-    slice-aggregate-has-key has-key-requires add-t12 returns
-    slice-aggregate-has-key-2 has-key-requires-2 add-t17 returns-2
-    slice-aggregate-has-key-3 has-key-requires-3 add-t22 returns-3
-    slice-aggregate-has-key-4 has-key-requires-4 add-t27 returns-4
+    slice-aggregate-has-key has-key-requires add-t12 returns slice-aggregate-has-key-2 has-key-requires-2 add-t17 returns-2
+    slice-aggregate-has-key-3 has-key-requires-3 add-t22 returns-3 slice-aggregate-has-key-4 has-key-requires-4 add-t27 returns-4
     slice-aggregate-has-key-5 has-key-requires-5 add-t32 returns-5 returns-6)

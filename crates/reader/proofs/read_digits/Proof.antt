@@ -68,6 +68,5 @@ pub read-digits-spec : {M : Type 1} → statement M
 read-digits-spec =
     tie.close
     (tie.spec
-    Inv-loop μ-loop
-    loop-holds shared-slice-read-b cast-next mul-next cast-next-2 add-next returns cast-value returns-2 returns-3
-    add-i loop-less loop-again returns-4)
+    Inv-loop μ-loop loop-holds shared-slice-read-b cast-next mul-next cast-next-2 add-next returns cast-value returns-2 returns-3 add-i
+    loop-less loop-again returns-4)

@@ -46,5 +46,4 @@ pub read-number-spec : {M : Type 1} → statement M
 read-number-spec =
     tie.close
     (tie.spec
-    returns shared-slice-read-b add-t9 add-read-digits cast-read-digits read-digits-requires returns-2 returns-3
-    returns-4 returns-5)
+    returns shared-slice-read-b add-t9 add-read-digits cast-read-digits read-digits-requires returns-2 returns-3 returns-4 returns-5)

@@ -46,10 +46,4 @@ pub remainder-spec : {M : Type 1} → statement M
 remainder-spec =
     tie.close
     (tie.spec
-    high-product-requires
-    mul-rest
-    sub-rest
-    wrapping-sub-u64-requires
-    lesser-requires
-    cast-result
-    returns)
+    high-product-requires mul-rest sub-rest wrapping-sub-u64-requires lesser-requires cast-result returns)

@@ -44,12 +44,4 @@ pub remainder-of-sum-spec : {M : Type 1} → statement M
 remainder-of-sum-spec =
     tie.close
     (tie.spec
-    mul-spare
-    sub-spare
-    add-spare
-    shortened-requires
-    mul-more
-    wrapping-add-u64-requires
-    unwrapped-requires
-    remainder-requires
-    returns)
+    mul-spare sub-spare add-spare shortened-requires mul-more wrapping-add-u64-requires unwrapped-requires remainder-requires returns)

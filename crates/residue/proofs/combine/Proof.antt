@@ -33,11 +33,4 @@ pub combine-spec : {M : Type 1} → statement M
 combine-spec =
     tie.close
     (tie.spec
-    mul-remainder
-    add-remainder
-    mul-remainder-2
-    add-remainder-2
-    mul-remainder-3
-    add-remainder-3
-    remainder-requires
-    returns)
+    mul-remainder add-remainder mul-remainder-2 add-remainder-2 mul-remainder-3 add-remainder-3 remainder-requires returns)

@@ -115,23 +115,5 @@ pub invert-spec : {M : Type 1} → statement M
 invert-spec =
     tie.close
     (tie.spec
-    Inv-loop
-    μ-loop
-    returns
-    returns-2
-    loop-holds
-    div-t
-    mul-t
-    add-t
-    rem-r
-    returns-3
-    returns-4
-    div-u
-    mul-u
-    add-u
-    rem-s
-    loop-less
-    loop-again
-    sub-t13
-    returns-5
-    returns-6)
+    Inv-loop μ-loop returns returns-2 loop-holds div-t mul-t add-t rem-r returns-3 returns-4 div-u mul-u add-u rem-s loop-less loop-again
+    sub-t13 returns-5 returns-6)

@@ -45,14 +45,5 @@ pub running-product-spec : {M : Type 1} → statement M
 running-product-spec =
     tie.close
     (tie.spec
-    Inv-loop
-    μ-loop
-    reciprocal-requires
-    loop-holds
-    mul-product-by
-    shared-slice-read-product-by
-    product-by-requires
-    add-i
-    loop-less
-    loop-again
-    returns)
+    Inv-loop μ-loop reciprocal-requires loop-holds mul-product-by shared-slice-read-product-by product-by-requires add-i loop-less
+    loop-again returns)

@@ -84,25 +84,6 @@ pub adjoint-row-spec : {M : Type 1} → statement M
 adjoint-row-spec =
     tie.close
     (tie.spec
-    Inv-loop
-    μ-loop
-    reciprocal-requires
-    loop-holds
-    mul-here
-    slice-read-here
-    add-next
-    mul-next
-    slice-read-next
-    mul-old
-    slice-read-old
-    combine-requires
-    mul-current
-    slice-write-current
-    mul-older
-    slice-write-older
-    add-i
-    loop-less
-    loop-again
-    same-length
-    same-length-2
+    Inv-loop μ-loop reciprocal-requires loop-holds mul-here slice-read-here add-next mul-next slice-read-next mul-old slice-read-old
+    combine-requires mul-current slice-write-current mul-older slice-write-older add-i loop-less loop-again same-length same-length-2
     returns)

@@ -89,25 +89,6 @@ pub decompose-row-spec : {M : Type 1} → statement M
 decompose-row-spec =
     tie.close
     (tie.spec
-    Inv-loop
-    μ-loop
-    reciprocal-requires
-    loop-holds
-    mul-here
-    slice-read-here
-    add-entry
-    entry-requires
-    add-entry-2
-    entry-requires-2
-    mul-combine
-    shared-slice-read-combine
-    combine-requires
-    mul-current
-    slice-write-current
-    mul-lead
-    shared-slice-read-lead
-    add-i
-    loop-less
-    loop-again
-    same-length
-    returns)
+    Inv-loop μ-loop reciprocal-requires loop-holds mul-here slice-read-here add-entry entry-requires add-entry-2 entry-requires-2
+    mul-combine shared-slice-read-combine combine-requires mul-current slice-write-current mul-lead shared-slice-read-lead add-i loop-less
+    loop-again same-length returns)

@@ -76,22 +76,5 @@ pub expand-row-spec : {M : Type 1} → statement M
 expand-row-spec =
     tie.close
     (tie.spec
-    Inv-loop
-    μ-loop
-    reciprocal-requires
-    loop-holds
-    mul-here
-    slice-read-here
-    mul-old
-    slice-read-old
-    combine-requires
-    mul-current
-    slice-write-current
-    mul-older
-    slice-write-older
-    add-i
-    loop-less
-    loop-again
-    same-length
-    same-length-2
-    returns)
+    Inv-loop μ-loop reciprocal-requires loop-holds mul-here slice-read-here mul-old slice-read-old combine-requires mul-current
+    slice-write-current mul-older slice-write-older add-i loop-less loop-again same-length same-length-2 returns)

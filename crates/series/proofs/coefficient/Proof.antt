@@ -52,15 +52,5 @@ pub coefficient-spec : {M : Type 1} → statement M
 coefficient-spec =
     tie.close
     (tie.spec
-    excess-requires
-    excess-requires-2
-    mul-transposed-at
-    sub-transposed-at
-    part-transposed-at-start
-    part-transposed-at-end
-    transposed-at-requires
-    reversed-entry-requires
-    negative-requires
-    add-product-by
-    product-by-requires
-    returns)
+    excess-requires excess-requires-2 mul-transposed-at sub-transposed-at part-transposed-at-start part-transposed-at-end
+    transposed-at-requires reversed-entry-requires negative-requires add-product-by product-by-requires returns)

@@ -55,15 +55,5 @@ pub quotient-spec : {M : Type 1} → statement M
 quotient-spec =
     tie.close
     (tie.spec
-    Inv-loop
-    μ-loop
-    reciprocal-requires
-    loop-holds
-    coefficient-requires
-    mul-output
-    slice-write-output
-    add-k
-    loop-less
-    loop-again
-    same-length
-    returns)
+    Inv-loop μ-loop reciprocal-requires loop-holds coefficient-requires mul-output slice-write-output add-k loop-less loop-again
+    same-length returns)

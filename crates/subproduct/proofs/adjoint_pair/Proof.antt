@@ -41,12 +41,5 @@ pub adjoint-pair-spec : {M : Type 1} → statement M
 adjoint-pair-spec =
     tie.close
     (tie.spec
-    add-row
-    add-row-2
-    add-transposed-sum
-    transposed-sum-requires
-    add-transposed-sum-2
-    add-transposed-sum-3
-    transposed-sum-requires-2
-    same-length
-    returns)
+    add-row add-row-2 add-transposed-sum transposed-sum-requires add-transposed-sum-2 add-transposed-sum-3 transposed-sum-requires-2
+    same-length returns)

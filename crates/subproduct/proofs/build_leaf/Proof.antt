@@ -53,14 +53,5 @@ pub build-leaf-spec : {M : Type 1} → statement M
 build-leaf-spec =
     tie.close
     (tie.spec
-    add-p
-    add-q
-    row-entry-requires
-    row-entry-requires-2
-    row-entry-requires-3
-    row-entry-requires-4
-    row-entry-requires-5
-    row-entry-requires-6
-    write-leaf-requires
-    same-length
-    returns)
+    add-p add-q row-entry-requires row-entry-requires-2 row-entry-requires-3 row-entry-requires-4 row-entry-requires-5
+    row-entry-requires-6 write-leaf-requires same-length returns)

@@ -49,16 +49,5 @@ pub climb-leaf-spec : {M : Type 1} → statement M
 climb-leaf-spec =
     tie.close
     (tie.spec
-    add-second
-    add-third
-    add-fourth
-    mul-w
-    slice-write-w
-    mul-w-2
-    slice-write-w-2
-    mul-w-3
-    slice-write-w-3
-    mul-w-4
-    slice-write-w-4
-    same-length
-    returns)
+    add-second add-third add-fourth mul-w slice-write-w mul-w-2 slice-write-w-2 mul-w-3 slice-write-w-3 mul-w-4 slice-write-w-4
+    same-length returns)

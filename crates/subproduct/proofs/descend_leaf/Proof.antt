@@ -43,14 +43,4 @@ pub descend-leaf-spec : {M : Type 1} → statement M
 descend-leaf-spec =
     tie.close
     (tie.spec
-    mul-x
-    slice-read-x
-    mul-y
-    slice-read-y
-    add-next
-    mul-w
-    slice-write-w
-    mul-w-2
-    slice-write-w-2
-    same-length
-    returns)
+    mul-x slice-read-x mul-y slice-read-y add-next mul-w slice-write-w mul-w-2 slice-write-w-2 same-length returns)

@@ -44,14 +44,5 @@ pub expand-pair-spec : {M : Type 1} → statement M
 expand-pair-spec =
     tie.close
     (tie.spec
-    add-second
-    add-bottom
-    add-bottom-2
-    add-products-requires
-    add-add-products
-    add-add-products-2
-    add-add-products-3
-    add-add-products-4
-    add-products-requires-2
-    same-length
-    returns)
+    add-second add-bottom add-bottom-2 add-products-requires add-add-products add-add-products-2 add-add-products-3 add-add-products-4
+    add-products-requires-2 same-length returns)

@@ -38,11 +38,4 @@ pub join-spec : {M : Type 1} → statement M
 join-spec =
     tie.close
     (tie.spec
-    expand-pair-requires
-    add-expand-pair
-    add-expand-pair-2
-    add-expand-pair-3
-    add-expand-pair-4
-    expand-pair-requires-2
-    same-length
-    returns)
+    expand-pair-requires add-expand-pair add-expand-pair-2 add-expand-pair-3 add-expand-pair-4 expand-pair-requires-2 same-length returns)

@@ -40,13 +40,4 @@ pub store-three-spec : {M : Type 1} → statement M
 store-three-spec =
     tie.close
     (tie.spec
-    add-second
-    add-third
-    mul-w
-    slice-write-w
-    mul-w-2
-    slice-write-w-2
-    mul-w-3
-    slice-write-w-3
-    same-length
-    returns)
+    add-second add-third mul-w slice-write-w mul-w-2 slice-write-w-2 mul-w-3 slice-write-w-3 same-length returns)

@@ -63,17 +63,5 @@ pub write-leaf-spec : {M : Type 1} → statement M
 write-leaf-spec =
     tie.close
     (tie.spec
-    combine-requires
-    combine-requires-2
-    combine-requires-3
-    combine-requires-4
-    combine-requires-5
-    store-three-requires
-    add-store-three
-    store-three-requires-2
-    add-store-three-2
-    store-three-requires-3
-    add-store-three-3
-    store-three-requires-4
-    same-length
-    returns)
+    combine-requires combine-requires-2 combine-requires-3 combine-requires-4 combine-requires-5 store-three-requires add-store-three
+    store-three-requires-2 add-store-three-2 store-three-requires-3 add-store-three-3 store-three-requires-4 same-length returns)

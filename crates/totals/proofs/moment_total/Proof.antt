@@ -54,15 +54,5 @@ pub moment-total-spec : {M : Type 1} → statement M
 moment-total-spec =
     tie.close
     (tie.spec
-    Inv-loop
-    μ-loop
-    loop-holds
-    mul-product
-    shared-slice-read-product
-    row-total-requires
-    product-requires
-    sum-requires
-    add-i
-    loop-less
-    loop-again
-    returns)
+    Inv-loop μ-loop loop-holds mul-product shared-slice-read-product row-total-requires product-requires sum-requires add-i loop-less
+    loop-again returns)

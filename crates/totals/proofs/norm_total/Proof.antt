@@ -64,19 +64,5 @@ pub norm-total-spec : {M : Type 1} → statement M
 norm-total-spec =
     tie.close
     (tie.spec
-    Inv-loop
-    μ-loop
-    loop-holds
-    mul-product
-    shared-slice-read-product
-    mul-product-2
-    shared-slice-read-product-2
-    product-requires
-    mul-product-3
-    shared-slice-read-product-3
-    product-requires-2
-    sum-requires
-    add-i
-    loop-less
-    loop-again
-    returns)
+    Inv-loop μ-loop loop-holds mul-product shared-slice-read-product mul-product-2 shared-slice-read-product-2 product-requires
+    mul-product-3 shared-slice-read-product-3 product-requires-2 sum-requires add-i loop-less loop-again returns)

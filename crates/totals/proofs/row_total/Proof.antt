@@ -56,17 +56,5 @@ pub row-total-spec : {M : Type 1} → statement M
 row-total-spec =
     tie.close
     (tie.spec
-    Inv-loop
-    μ-loop
-    loop-holds
-    mul-product
-    shared-slice-read-product
-    add-product
-    mul-product-2
-    shared-slice-read-product-2
-    product-requires
-    sum-requires
-    add-j
-    loop-less
-    loop-again
-    returns)
+    Inv-loop μ-loop loop-holds mul-product shared-slice-read-product add-product mul-product-2 shared-slice-read-product-2
+    product-requires sum-requires add-j loop-less loop-again returns)

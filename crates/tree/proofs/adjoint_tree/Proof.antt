@@ -124,25 +124,6 @@ pub adjoint-tree-spec : {M : Type 1} → statement M
 adjoint-tree-spec =
     tie.close
     (tie.spec
-    level-for-requires
-    pairs-for-requires
-    shared-slice-read-t15
-    shared-slice-read-t17
-    add-second
-    add-second-2
-    add-at
-    add-at-2
-    sub-build
-    build-requires
-    slice-aggregate-root-pair
-    add-root-pair
-    root-pair-requires
-    descend-requires
-    mul-copy
-    sub-copy
-    part-copy-start
-    part-copy-end
-    copy-requires
-    same-length
-    same-length-2
-    returns)
+    level-for-requires pairs-for-requires shared-slice-read-t15 shared-slice-read-t17 add-second add-second-2 add-at add-at-2 sub-build
+    build-requires slice-aggregate-root-pair add-root-pair root-pair-requires descend-requires mul-copy sub-copy part-copy-start
+    part-copy-end copy-requires same-length same-length-2 returns)

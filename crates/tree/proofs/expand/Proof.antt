@@ -50,15 +50,5 @@ pub expand-spec : {M : Type 1} → statement M
 expand-spec =
     tie.close
     (tie.spec
-    shared-slice-read-output
-    rem-output
-    slice-write-output
-    clear-requires
-    same-length
-    same-length-2
-    returns
-    expand-tree-requires
-    clear-requires-2
-    same-length-3
-    same-length-4
-    returns-2)
+    shared-slice-read-output rem-output slice-write-output clear-requires same-length same-length-2 returns expand-tree-requires
+    clear-requires-2 same-length-3 same-length-4 returns-2)

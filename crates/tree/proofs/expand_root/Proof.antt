@@ -51,15 +51,5 @@ pub expand-root-spec : {M : Type 1} → statement M
 expand-root-spec =
     tie.close
     (tie.spec
-    Inv-loop
-    μ-loop
-    reciprocal-requires
-    loop-holds
-    root-coefficient-requires
-    mul-output
-    slice-write-output
-    add-k
-    loop-less
-    loop-again
-    same-length
-    returns)
+    Inv-loop μ-loop reciprocal-requires loop-holds root-coefficient-requires mul-output slice-write-output add-k loop-less loop-again
+    same-length returns)

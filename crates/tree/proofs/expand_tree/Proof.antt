@@ -68,16 +68,5 @@ pub expand-tree-spec : {M : Type 1} → statement M
 expand-tree-spec =
     tie.close
     (tie.spec
-    level-for-requires
-    pairs-for-requires
-    shared-slice-read-t13
-    shared-slice-read-t15
-    sub-build
-    build-requires
-    climb-requires
-    add-expand-root
-    slice-aggregate-expand-root
-    expand-root-requires
-    same-length
-    same-length-2
-    returns)
+    level-for-requires pairs-for-requires shared-slice-read-t13 shared-slice-read-t15 sub-build build-requires climb-requires
+    add-expand-root slice-aggregate-expand-root expand-root-requires same-length same-length-2 returns)

@@ -50,17 +50,5 @@ pub root-coefficient-spec : {M : Type 1} → statement M
 root-coefficient-spec =
     tie.close
     (tie.spec
-    add-second
-    add-products-at
-    mul-products-at
-    sub-products-at
-    part-products-at-start
-    part-products-at-end
-    slice-aggregate-products-at
-    add-products-at-2
-    mul-products-at-2
-    sub-products-at-2
-    part-products-at-start-2
-    part-products-at-end-2
-    products-at-requires
-    returns)
+    add-second add-products-at mul-products-at sub-products-at part-products-at-start part-products-at-end slice-aggregate-products-at
+    add-products-at-2 mul-products-at-2 sub-products-at-2 part-products-at-start-2 part-products-at-end-2 products-at-requires returns)

@@ -42,11 +42,5 @@ pub root-pair-spec : {M : Type 1} → statement M
 root-pair-spec =
     tie.close
     (tie.spec
-    slice-aggregate-transposed
-    slice-aggregate-transposed-2
-    transposed-requires
-    slice-aggregate-transposed-3
-    add-transposed
-    transposed-requires-2
-    same-length
-    returns)
+    slice-aggregate-transposed slice-aggregate-transposed-2 transposed-requires slice-aggregate-transposed-3 add-transposed
+    transposed-requires-2 same-length returns)

@@ -63,16 +63,5 @@ pub moments-spec : {M : Type 1} → statement M
 moments-spec =
     tie.close
     (tie.spec
-    moments-requires
-    enum-told
-    enum-told-2
-    returns
-    zeros-requires
-    slice-aggregate-of-list
-    of-list-requires
-    slice-aggregate-moments
-    add-moments
-    moments-requires-2
-    same-length
-    same-length-2
-    returns-2)
+    moments-requires enum-told enum-told-2 returns zeros-requires slice-aggregate-of-list of-list-requires slice-aggregate-moments
+    add-moments moments-requires-2 same-length same-length-2 returns-2)

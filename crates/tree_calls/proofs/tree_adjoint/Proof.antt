@@ -44,12 +44,4 @@ pub tree-adjoint-spec : {M : Type 1} → statement M
 tree-adjoint-spec =
     tie.close
     (tie.spec
-    tree-requires
-    enum-told
-    enum-told-2
-    returns
-    add-adjoint
-    adjoint-requires
-    same-length
-    same-length-2
-    returns-2)
+    tree-requires enum-told enum-told-2 returns add-adjoint adjoint-requires same-length same-length-2 returns-2)

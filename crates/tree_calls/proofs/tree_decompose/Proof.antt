@@ -81,20 +81,6 @@ pub tree-decompose-spec : {M : Type 1} → statement M
 tree-decompose-spec =
     tie.close
     (tie.spec
-    tree-requires
-    enum-told
-    enum-told-2
-    returns
-    zeros-requires
-    slice-aggregate-of-list
-    of-list-requires
-    zeros-requires-2
-    slice-aggregate-of-list-2
-    of-list-requires-2
-    slice-aggregate-decompose
-    slice-aggregate-decompose-2
-    add-decompose
-    decompose-requires
-    same-length
-    same-length-2
-    returns-2)
+    tree-requires enum-told enum-told-2 returns zeros-requires slice-aggregate-of-list of-list-requires zeros-requires-2
+    slice-aggregate-of-list-2 of-list-requires-2 slice-aggregate-decompose slice-aggregate-decompose-2 add-decompose decompose-requires
+    same-length same-length-2 returns-2)

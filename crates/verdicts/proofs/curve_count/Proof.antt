@@ -53,16 +53,5 @@ pub curve-count-spec : {M : Type 1} → statement M
 curve-count-spec =
     tie.close
     (tie.spec
-    enum-told
-    add-result
-    enum-told-2
-    add-result-2
-    enum-told-3
-    add-result-3
-    enum-told-4
-    enum-told-5
-    returns
-    returns-2
-    returns-3
-    returns-4
+    enum-told add-result enum-told-2 add-result-2 enum-told-3 add-result-3 enum-told-4 enum-told-5 returns returns-2 returns-3 returns-4
     returns-5)

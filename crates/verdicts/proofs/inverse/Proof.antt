@@ -79,16 +79,5 @@ pub inverse-spec : {M : Type 1} → statement M
 inverse-spec =
     tie.close
     (tie.spec
-    modulus-requires
-    enum-known-range
-    returns
-    enum-told
-    number-below-requires
-    enum-known-below
-    returns-2
-    enum-told-2
-    invert-requires
-    enum-known-y
-    enum-told-3
-    returns-3
-    returns-4)
+    modulus-requires enum-known-range returns enum-told number-below-requires enum-known-below returns-2 enum-told-2 invert-requires
+    enum-known-y enum-told-3 returns-3 returns-4)

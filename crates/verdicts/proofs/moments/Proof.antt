@@ -83,19 +83,5 @@ pub moments-spec : {M : Type 1} → statement M
 moments-spec =
     tie.close
     (tie.spec
-    family-shape-requires
-    enum-told
-    enum-told-2
-    returns
-    mul-output-length
-    add-output-length
-    output-length-requires
-    enum-told-3
-    enum-told-4
-    returns-2
-    work-length-requires
-    enum-told-5
-    enum-told-6
-    returns-3
-    rows-requires
-    returns-4)
+    family-shape-requires enum-told enum-told-2 returns mul-output-length add-output-length output-length-requires enum-told-3 enum-told-4
+    returns-2 work-length-requires enum-told-5 enum-told-6 returns-3 rows-requires returns-4)

@@ -58,14 +58,5 @@ pub norms-spec : {M : Type 1} → statement M
 norms-spec =
     tie.close
     (tie.spec
-    family-shape-requires
-    enum-told
-    enum-told-2
-    returns
-    add-output-length
-    output-length-requires
-    enum-told-3
-    enum-told-4
-    returns-2
-    rows-requires
-    returns-3)
+    family-shape-requires enum-told enum-told-2 returns add-output-length output-length-requires enum-told-3 enum-told-4 returns-2
+    rows-requires returns-3)

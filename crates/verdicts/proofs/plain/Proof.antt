@@ -84,19 +84,5 @@ pub plain-spec : {M : Type 1} → statement M
 plain-spec =
     tie.close
     (tie.spec
-    family-shape-requires
-    enum-told
-    enum-told-2
-    returns
-    add-curve-length
-    curve-length-requires
-    enum-told-3
-    enum-told-4
-    returns-2
-    add-output-length
-    output-length-requires
-    enum-told-5
-    enum-told-6
-    returns-3
-    values-requires
-    returns-4)
+    family-shape-requires enum-told enum-told-2 returns add-curve-length curve-length-requires enum-told-3 enum-told-4 returns-2
+    add-output-length output-length-requires enum-told-5 enum-told-6 returns-3 values-requires returns-4)

@@ -81,18 +81,5 @@ pub sizes-spec : {M : Type 1} → statement M
 sizes-spec =
     tie.close
     (tie.spec
-    family-shape-requires
-    enum-told
-    enum-told-2
-    returns
-    curve-count-requires
-    curve-length-requires
-    enum-told-3
-    enum-told-4
-    returns-2
-    text-output-length-requires
-    enum-told-5
-    enum-told-6
-    returns-3
-    work-length-requires
-    returns-4)
+    family-shape-requires enum-told enum-told-2 returns curve-count-requires curve-length-requires enum-told-3 enum-told-4 returns-2
+    text-output-length-requires enum-told-5 enum-told-6 returns-3 work-length-requires returns-4)

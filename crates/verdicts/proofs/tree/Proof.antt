@@ -109,23 +109,6 @@ pub tree-spec : {M : Type 1} → statement M
 tree-spec =
     tie.close
     (tie.spec
-    family-shape-requires
-    enum-told
-    enum-told-2
-    returns
-    add-curve-length
-    curve-length-requires
-    enum-told-3
-    enum-told-4
-    returns-2
-    add-output-length
-    output-length-requires
-    enum-told-5
-    enum-told-6
-    returns-3
-    work-length-requires
-    enum-told-7
-    enum-told-8
-    returns-4
-    values-requires
-    returns-5)
+    family-shape-requires enum-told enum-told-2 returns add-curve-length curve-length-requires enum-told-3 enum-told-4 returns-2
+    add-output-length output-length-requires enum-told-5 enum-told-6 returns-3 work-length-requires enum-told-7 enum-told-8 returns-4
+    values-requires returns-5)

@@ -39,13 +39,4 @@ pub powers-spec : {M : Type 1} → statement M
 powers-spec =
     tie.close
     (tie.spec
-    Inv-loop
-    μ-loop
-    loop-holds
-    product-requires
-    mul-list
-    array-write-list
-    add-i
-    loop-less
-    loop-again
-    returns)
+    Inv-loop μ-loop loop-holds product-requires mul-list array-write-list add-i loop-less loop-again returns)

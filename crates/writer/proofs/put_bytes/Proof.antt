@@ -47,6 +47,4 @@ pub put-bytes-spec : {M : Type 1} → statement M
 put-bytes-spec =
     tie.close
     (tie.spec
-    Inv-loop μ-loop
-    loop-holds shared-slice-read-out add-out slice-write-out add-k loop-less loop-again add-result same-length
-    returns)
+    Inv-loop μ-loop loop-holds shared-slice-read-out add-out slice-write-out add-k loop-less loop-again add-result same-length returns)

@@ -37,5 +37,4 @@ pub put-entry-spec : {M : Type 1} → statement M
 put-entry-spec =
     tie.close
     (tie.spec
-    put-number-requires same-length returns slice-write-out add-put-number put-number-requires-2 same-length-2
-    returns-2)
+    put-number-requires same-length returns slice-write-out add-put-number put-number-requires-2 same-length-2 returns-2)

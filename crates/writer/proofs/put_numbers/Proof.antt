@@ -47,6 +47,5 @@ pub put-numbers-spec : {M : Type 1} → statement M
 put-numbers-spec =
     tie.close
     (tie.spec
-    Inv-loop μ-loop
-    loop-holds mul-put-entry shared-slice-read-put-entry put-entry-requires add-k loop-less loop-again same-length
+    Inv-loop μ-loop loop-holds mul-put-entry shared-slice-read-put-entry put-entry-requires add-k loop-less loop-again same-length
     returns)

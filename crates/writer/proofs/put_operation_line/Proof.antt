@@ -100,9 +100,7 @@ pub put-operation-line-spec : {M : Type 1} → statement M
 put-operation-line-spec =
     tie.close
     (tie.spec
-    enum-told slice-aggregate-put-bytes put-bytes-requires
-    enum-told-2 slice-aggregate-put-bytes-2 put-bytes-requires-2
-    enum-told-3 slice-aggregate-put-bytes-3 put-bytes-requires-3
-    enum-told-4 slice-aggregate-put-bytes-4 put-bytes-requires-4
-    enum-told-5 slice-aggregate-put-bytes-5 put-bytes-requires-5
-    same-length returns same-length-2 returns-2 same-length-3 returns-3 same-length-4 returns-4 same-length-5 returns-5)
+    enum-told slice-aggregate-put-bytes put-bytes-requires enum-told-2 slice-aggregate-put-bytes-2 put-bytes-requires-2 enum-told-3
+    slice-aggregate-put-bytes-3 put-bytes-requires-3 enum-told-4 slice-aggregate-put-bytes-4 put-bytes-requires-4 enum-told-5
+    slice-aggregate-put-bytes-5 put-bytes-requires-5 same-length returns same-length-2 returns-2 same-length-3 returns-3 same-length-4
+    returns-4 same-length-5 returns-5)

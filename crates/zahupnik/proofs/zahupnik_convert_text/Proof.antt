@@ -50,12 +50,4 @@ pub zahupnik-convert-text-spec : {M : Type 1} → statement M
 zahupnik-convert-text-spec =
     tie.close
     (tie.spec
-    convert-text-requires
-    enum-known-bytes
-    enum-known-k
-    same-length
-    same-length-2
-    returns
-    same-length-3
-    same-length-4
-    returns-2)
+    convert-text-requires enum-known-bytes enum-known-k same-length same-length-2 returns same-length-3 same-length-4 returns-2)
