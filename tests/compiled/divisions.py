@@ -27,14 +27,14 @@ subproduct::build            10  0  0
 tree::expand                  1  1  0
 tree::adjoint                 2  0  0
 moment_way::moments           1  0  0
-conversion::norms             1  0  0
-conversion::tree_decompose    2  0  0
+plain_calls::norms             1  0  0
+tree_calls::tree_decompose    2  0  0
 zahupnik_invert               0  2  0
 zahupnik_plain_adjoint        0  1  0
 zahupnik_plain_decompose      2  0  0
 zahupnik_plain_expand         1  0  0
 """
-ROWS = ("zahupnik_plain_expand", "zahupnik_plain_adjoint", "zahupnik_plain_decompose", "conversion::norms")
+ROWS = ("zahupnik_plain_expand", "zahupnik_plain_adjoint", "zahupnik_plain_decompose", "plain_calls::norms")
 PRODUCTS = ("products::add_products", "subproduct::descend")
 
 JUMP = re.compile(r"(j[a-z]+|loop[a-z]*)\s+([0-9a-f]+) <")

@@ -6,14 +6,8 @@ use borrow.Author.Needs.{needs}
 use Rattle.checks.proofs.curve_entries.Statement.{statement}
 use Rattle.checks.proofs.curve_entries.Tie as tie
 
-entries-below-requires : tie.Need-entries-below-requires
-entries-below-requires c κs = search needs
-
 enum-told : tie.Need-enum-told
 enum-told c = search needs
-
-enum-told-2 : tie.Need-enum-told-2
-enum-told-2 c = search needs
 
 returns : tie.Need-returns
 returns c = refuses-alone _ Iff·rfl (one-not-below _ _ _ _ (c .enum-told2 .given .1) (c .before .before .entries-below .ensures))
@@ -22,4 +16,4 @@ returns-2 : tie.Need-returns-2
 returns-2 c = finishes _ Iff·rfl (all-below _ _ _ (c .enum-told .given .1) (c .before .before .entries-below .ensures))
 
 pub curve-entries-spec : {M : Type 1} → statement M
-curve-entries-spec = tie.close (tie.spec entries-below-requires enum-told enum-told-2 returns returns-2)
+curve-entries-spec = tie.close (tie.spec (search needs) enum-told (search needs) returns returns-2)

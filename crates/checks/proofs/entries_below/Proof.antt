@@ -16,9 +16,6 @@ Inv-loop m list i₀ i = Passed (notBelow m) list i
 abbrev μ-loop : tie.MeasureT-loop
 μ-loop m list i₀ i = length list - i
 
-all-below-requires : tie.Need-all-below-requires Inv-loop μ-loop
-all-below-requires c κs = search needs
-
 returns : tie.Need-returns Inv-loop μ-loop
 returns c = c .before .all-below .ensures (c .if1 .taken)
 
@@ -52,4 +49,4 @@ pub entries-below-spec : {M : Type 1} → statement M
 entries-below-spec =
     tie.close
     (tie.spec
-    Inv-loop μ-loop all-below-requires returns loop-holds mul-x shared-slice-read-x returns-2 add-i loop-less loop-again returns-3)
+    Inv-loop μ-loop (search needs) returns loop-holds mul-x shared-slice-read-x returns-2 add-i loop-less loop-again returns-3)

@@ -5,27 +5,12 @@ use borrow.Author.Needs.{needs}
 use Rattle.checks.proofs.family_shape.Statement.{statement}
 use Rattle.checks.proofs.family_shape.Tie as tie
 
-modulus-requires : tie.Need-modulus-requires
-modulus-requires c κs = search needs
-
 enum-told : tie.Need-enum-told
 enum-told c = search needs
-
-enum-told-2 : tie.Need-enum-told-2
-enum-told-2 c = search needs
 
 returns : tie.Need-returns
 unfolding shapeTests
 returns c = stage-refuses _ _ all-remain _ (c .before .before .modulus .ensures) _ (c .enum-told2 .given .1)
-
-equal-lengths-requires : tie.Need-equal-lengths-requires
-equal-lengths-requires c κs = search needs
-
-enum-told-3 : tie.Need-enum-told-3
-enum-told-3 c = search needs
-
-enum-told-4 : tie.Need-enum-told-4
-enum-told-4 c = search needs
 
 returns-2 : tie.Need-returns-2
 unfolding shapeTests
@@ -33,9 +18,6 @@ returns-2 c =
     let first = c .before .before .before in
     let left = stage-passes _ _ all-remain _ (first .before .before .modulus .ensures) (first .enum-told .given .1) in
     stage-refuses _ _ left _ (c .before .before .equal-lengths .ensures) _ (c .enum-told4 .given .1)
-
-row-count-requires : tie.Need-row-count-requires
-row-count-requires c κs = search needs
 
 returns-3 : tie.Need-returns-3
 unfolding shapeTests
@@ -50,4 +32,4 @@ pub family-shape-spec : {M : Type 1} → statement M
 family-shape-spec =
     tie.close
     (tie.spec
-    modulus-requires enum-told enum-told-2 returns equal-lengths-requires enum-told-3 enum-told-4 returns-2 row-count-requires returns-3)
+    (search needs) enum-told (search needs) returns (search needs) (search needs) (search needs) returns-2 (search needs) returns-3)

@@ -18,17 +18,8 @@ Inv-loop m list i₀ i = Passed (noInverse m) list i
 abbrev μ-loop : tie.MeasureT-loop
 μ-loop m list i₀ i = length list - i
 
-running-product-requires : tie.Need-running-product-requires Inv-loop μ-loop
-running-product-requires c κs = search needs
-
 invert-requires : tie.Need-invert-requires Inv-loop μ-loop
 invert-requires c κs = tt
-
-enum-told : tie.Need-enum-told Inv-loop μ-loop
-enum-told c = search needs
-
-enum-told-2 : tie.Need-enum-told-2 Inv-loop μ-loop
-enum-told-2 c = search needs
 
 returns : tie.Need-returns Inv-loop μ-loop
 returns c =
@@ -49,9 +40,6 @@ shared-slice-read-x c = omega arith
 invert-requires-2 : tie.Need-invert-requires-2 Inv-loop μ-loop
 invert-requires-2 c κs = tt
 
-enum-known-inversion : tie.Need-enum-known-inversion Inv-loop μ-loop
-enum-known-inversion c = search needs
-
 returns-2 : tie.Need-returns-2 Inv-loop μ-loop
 returns-2 c =
     let inside = c .before .before .before .before .before .before in
@@ -67,9 +55,6 @@ returns-3 c =
     let absent = inverted-absent _ _ (c .before .before .before .before .invert2 .ensures) (c .before .before .inversion .given .1) in
     let here = passed-first _ _ _ (inside .before .loop .inv) (inside .loop-test .taken) (absent-fails _ _ _ (start .pre) absent) in
     (here, record { notZero = c .if1 .left; factor = absent .factor })
-
-enum-told-3 : tie.Need-enum-told-3 Inv-loop μ-loop
-enum-told-3 c = search needs
 
 add-i : tie.Need-add-i Inv-loop μ-loop
 add-i c = omega arith
@@ -90,5 +75,5 @@ pub invertible-spec : {M : Type 1} → statement M
 invertible-spec =
     tie.close
     (tie.spec
-    Inv-loop μ-loop running-product-requires invert-requires enum-told enum-told-2 returns loop-holds mul-x shared-slice-read-x
-    invert-requires-2 enum-known-inversion returns-2 returns-3 enum-told-3 add-i loop-less loop-again returns-4)
+    Inv-loop μ-loop (search needs) invert-requires (search needs) (search needs) returns loop-holds mul-x shared-slice-read-x
+    invert-requires-2 (search needs) returns-2 returns-3 (search needs) add-i loop-less loop-again returns-4)

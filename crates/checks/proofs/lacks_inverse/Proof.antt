@@ -6,32 +6,8 @@ use borrow.Author.Needs.{needs}
 use Rattle.checks.proofs.lacks_inverse.Statement.{statement}
 use Rattle.checks.proofs.lacks_inverse.Tie as tie
 
-excess-requires : tie.Need-excess-requires
-excess-requires c κs = search needs
-
-sub-start : tie.Need-sub-start
-sub-start c = search needs
-
-mul-invertible : tie.Need-mul-invertible
-mul-invertible c = search needs
-
-sub-invertible : tie.Need-sub-invertible
-sub-invertible c = search needs
-
-part-invertible-start : tie.Need-part-invertible-start
-part-invertible-start c = search needs
-
-part-invertible-end : tie.Need-part-invertible-end
-part-invertible-end c = search needs
-
-invertible-requires : tie.Need-invertible-requires
-invertible-requires c κs = search needs
-
 enum-told : tie.Need-enum-told
 enum-told c = search needs
-
-enum-told-2 : tie.Need-enum-told-2
-enum-told-2 c = search needs
 
 returns : tie.Need-returns
 returns c =
@@ -48,15 +24,6 @@ returns-2 c =
     let column = column-inverted _ _ _ _ (sized .excess .ensures) _ _ (start .pre .0) (start .pre .1) in
     let entries = all-invertible _ _ _ (passed .enum-told .given .1) (passed .before .before .invertible .ensures) in
     column .1 (entries, λ l. absurd (omega arith))
-
-invert-requires : tie.Need-invert-requires
-invert-requires c κs = search needs
-
-enum-told-3 : tie.Need-enum-told-3
-enum-told-3 c = search needs
-
-enum-told-4 : tie.Need-enum-told-4
-enum-told-4 c = search needs
 
 returns-3 : tie.Need-returns-3
 returns-3 c =
@@ -79,5 +46,5 @@ pub lacks-inverse-spec : {M : Type 1} → statement M
 lacks-inverse-spec =
     tie.close
     (tie.spec
-    excess-requires sub-start mul-invertible sub-invertible part-invertible-start part-invertible-end invertible-requires enum-told
-    enum-told-2 returns returns-2 invert-requires enum-told-3 enum-told-4 returns-3 returns-4)
+    (search needs) (search needs) (search needs) (search needs) (search needs) (search needs) (search needs) enum-told (search needs)
+    returns returns-2 (search needs) (search needs) (search needs) returns-3 returns-4)

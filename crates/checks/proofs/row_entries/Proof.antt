@@ -12,14 +12,8 @@ use Rattle.checks.proofs.row_entries.Tie as tie
 slice-aggregate-entries-below : tie.Need-slice-aggregate-entries-below
 slice-aggregate-entries-below c = sym (length-take-le _ _ (c .before .before .before .before .pre .aLong))
 
-entries-below-requires : tie.Need-entries-below-requires
-entries-below-requires c κs = search needs
-
 enum-told : tie.Need-enum-told
 enum-told c = search needs
-
-enum-told-2 : tie.Need-enum-told-2
-enum-told-2 c = search needs
 
 returns : tie.Need-returns
 unfolding entriesTest
@@ -33,15 +27,6 @@ slice-aggregate-entries-below-2 c =
     let start = c .before .before .before .before .before .before .before .before in
     sym (length-take-le _ _ (start .pre .bLong))
 
-entries-below-requires-2 : tie.Need-entries-below-requires-2
-entries-below-requires-2 c κs = search needs
-
-enum-told-3 : tie.Need-enum-told-3
-enum-told-3 c = search needs
-
-enum-told-4 : tie.Need-enum-told-4
-enum-told-4 c = search needs
-
 returns-2 : tie.Need-returns-2
 unfolding entriesTest
 returns-2 c =
@@ -53,15 +38,6 @@ slice-aggregate-entries-below-3 : tie.Need-slice-aggregate-entries-below-3
 slice-aggregate-entries-below-3 c =
     let start = c .before .before .before .before .before .before .before .before .before .before .before .before in
     sym (length-take-le _ _ (start .pre .cLong))
-
-entries-below-requires-3 : tie.Need-entries-below-requires-3
-entries-below-requires-3 c κs = search needs
-
-enum-told-5 : tie.Need-enum-told-5
-enum-told-5 c = search needs
-
-enum-told-6 : tie.Need-enum-told-6
-enum-told-6 c = search needs
 
 returns-3 : tie.Need-returns-3
 unfolding entriesTest
@@ -107,6 +83,6 @@ pub row-entries-spec : {M : Type 1} → statement M
 row-entries-spec =
     tie.close
     (tie.spec
-    slice-aggregate-entries-below entries-below-requires enum-told enum-told-2 returns slice-aggregate-entries-below-2
-    entries-below-requires-2 enum-told-3 enum-told-4 returns-2 slice-aggregate-entries-below-3 entries-below-requires-3 enum-told-5
-    enum-told-6 returns-3 returns-4 returns-5 returns-6 returns-7)
+    slice-aggregate-entries-below (search needs) enum-told (search needs) returns slice-aggregate-entries-below-2 (search needs)
+    (search needs) (search needs) returns-2 slice-aggregate-entries-below-3 (search needs) (search needs) (search needs) returns-3
+    returns-4 returns-5 returns-6 returns-7)

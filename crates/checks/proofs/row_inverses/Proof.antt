@@ -9,38 +9,8 @@ use borrow.Author.Needs.{needs}
 use Rattle.checks.proofs.row_inverses.Statement.{statement}
 use Rattle.checks.proofs.row_inverses.Tie as tie
 
-excess-requires : tie.Need-excess-requires
-excess-requires c κs = search needs
-
-sub-start : tie.Need-sub-start
-sub-start c = search needs
-
 slice-aggregate-joint-product : tie.Need-slice-aggregate-joint-product
 slice-aggregate-joint-product c = sym (length-take-le _ _ (c .before .before .before .before .before .pre .1))
-
-mul-joint-product : tie.Need-mul-joint-product
-mul-joint-product c = search needs
-
-sub-joint-product : tie.Need-sub-joint-product
-sub-joint-product c = search needs
-
-part-joint-product-start : tie.Need-part-joint-product-start
-part-joint-product-start c = search needs
-
-part-joint-product-end : tie.Need-part-joint-product-end
-part-joint-product-end c = search needs
-
-joint-product-requires : tie.Need-joint-product-requires
-joint-product-requires c κs = search needs
-
-invert-requires : tie.Need-invert-requires
-invert-requires c κs = search needs
-
-enum-told : tie.Need-enum-told
-enum-told c = search needs
-
-enum-told-2 : tie.Need-enum-told-2
-enum-told-2 c = search needs
 
 returns : tie.Need-returns
 returns c = λ b closeB.
@@ -52,17 +22,11 @@ returns c = λ b closeB.
     (λ l. ⊎-elim (λ w. w .1) (λ w. absurd (omega (arith, w .0 .left))) (joined .if1 .came)) (inverted .before .joint-product .ensures)
     (found-has _ _ _ (inverted-found _ _ (inverted .invert .ensures) (c .enum-told2 .given .1)))
 
-lacks-inverse-requires : tie.Need-lacks-inverse-requires
-lacks-inverse-requires c κs = search needs
-
 returns-2 : tie.Need-returns-2
 returns-2 c = λ b closeB.
     let start = c .before .before .before .before .before .before .before .before .before .before .before .before in
     a-refused _ _ _ _ _ _ _ (start .pre .0) (start .pre .1) (start .pre .2) _ _
     (subst (LackAnswer _ _ _ _ _) (c .if2 .taken) (c .before .lacks-inverse .ensures))
-
-lacks-inverse-requires-2 : tie.Need-lacks-inverse-requires-2
-lacks-inverse-requires-2 c κs = search needs
 
 returns-3 : tie.Need-returns-3
 returns-3 c = λ b closeB.
@@ -82,6 +46,5 @@ pub row-inverses-spec : {M : Type 1} → statement M
 row-inverses-spec =
     tie.close
     (tie.spec
-    excess-requires sub-start slice-aggregate-joint-product mul-joint-product sub-joint-product part-joint-product-start
-    part-joint-product-end joint-product-requires invert-requires enum-told enum-told-2 returns lacks-inverse-requires returns-2
-    lacks-inverse-requires-2 returns-3 returns-4)
+    (search needs) (search needs) slice-aggregate-joint-product (search needs) (search needs) (search needs) (search needs) (search needs)
+    (search needs) (search needs) (search needs) returns (search needs) returns-2 (search needs) returns-3 returns-4)

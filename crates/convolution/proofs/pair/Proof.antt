@@ -14,8 +14,5 @@ mul-result-2 c = let products = small-products _ _ _ _ (c .pre) in omega arith
 add-result : tie.Need-add-result
 add-result c = let products = small-products _ _ _ _ (c .pre) in omega arith
 
-returns : tie.Need-returns
-returns c = search needs
-
 pub pair-spec : {M : Type 1} → statement M
-pair-spec = tie.close (tie.spec mul-result mul-result-2 add-result returns)
+pair-spec = tie.close (tie.spec mul-result mul-result-2 add-result (search needs))

@@ -16,12 +16,6 @@ abbrev μ-loop : tie.MeasureT-loop
 add-next : tie.Need-add-next Inv-loop μ-loop
 add-next c = omega arith
 
-excess-requires : tie.Need-excess-requires Inv-loop μ-loop
-excess-requires c κs = search needs
-
-lesser-requires : tie.Need-lesser-requires Inv-loop μ-loop
-lesser-requires c κs = search needs
-
 loop-holds : tie.Need-loop-holds Inv-loop μ-loop
 loop-holds c =
     multiplying-starts _ _ _ _ _ _ _ _ (c .before .before .before .before .before .before .pre) _ _ (c .before .excess .ensures)
@@ -61,9 +55,6 @@ pair-requires c κs =
     let loop = c .before .before .before .before .before in
     multiplying-small _ _ _ _ _ _ _ _ (loop .before .before .before .before .before .before .before .pre) _ _ _ _ (loop .loop .inv)
 
-wrapping-add-u64-requires : tie.Need-wrapping-add-u64-requires Inv-loop μ-loop
-wrapping-add-u64-requires c κs = search needs
-
 wraps-after-requires : tie.Need-wraps-after-requires Inv-loop μ-loop
 wraps-after-requires c κs =
     let loop = c .before .before .before .before .before .before .before in
@@ -99,6 +90,6 @@ pub products-at-spec : {M : Type 1} → statement M
 products-at-spec =
     tie.close
     (tie.spec
-    Inv-loop μ-loop add-next excess-requires lesser-requires loop-holds sub-j mul-pair shared-slice-read-pair mul-pair-2
-    shared-slice-read-pair-2 mul-pair-3 shared-slice-read-pair-3 mul-pair-4 shared-slice-read-pair-4 pair-requires
-    wrapping-add-u64-requires wraps-after-requires add-i loop-less loop-again remainder-of-sum-requires returns)
+    Inv-loop μ-loop add-next (search needs) (search needs) loop-holds sub-j mul-pair shared-slice-read-pair mul-pair-2
+    shared-slice-read-pair-2 mul-pair-3 shared-slice-read-pair-3 mul-pair-4 shared-slice-read-pair-4 pair-requires (search needs)
+    wraps-after-requires add-i loop-less loop-again remainder-of-sum-requires returns)

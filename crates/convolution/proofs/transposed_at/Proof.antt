@@ -13,12 +13,6 @@ Inv-loop m reciprocal p w i room end low₀ wraps₀ j₀ low wraps j = Transpos
 abbrev μ-loop : tie.MeasureT-loop
 μ-loop m reciprocal p w i room end low₀ wraps₀ j₀ low wraps j = end - j
 
-excess-requires : tie.Need-excess-requires Inv-loop μ-loop
-excess-requires c κs = search needs
-
-lesser-requires : tie.Need-lesser-requires Inv-loop μ-loop
-lesser-requires c κs = search needs
-
 loop-holds : tie.Need-loop-holds Inv-loop μ-loop
 loop-holds c = transposing-starts _ _ _ _ (c .before .before .before .before .pre) _ _ _ (c .before .excess .ensures) (c .lesser .ensures)
 
@@ -41,9 +35,6 @@ pair-requires : tie.Need-pair-requires Inv-loop μ-loop
 pair-requires c κs =
     transposing-small _ _ _ _ (c .before .before .before .before .before .before .before .before .pre) _ _ _ _ _
     (c .before .before .before .loop .inv)
-
-wrapping-add-u64-requires : tie.Need-wrapping-add-u64-requires Inv-loop μ-loop
-wrapping-add-u64-requires c κs = search needs
 
 wraps-after-requires : tie.Need-wraps-after-requires Inv-loop μ-loop
 wraps-after-requires c κs =
@@ -75,5 +66,5 @@ pub transposed-at-spec : {M : Type 1} → statement M
 transposed-at-spec =
     tie.close
     (tie.spec
-    Inv-loop μ-loop excess-requires lesser-requires loop-holds add-k mul-pair shared-slice-read-pair mul-pair-2 shared-slice-read-pair-2
-    pair-requires wrapping-add-u64-requires wraps-after-requires add-j loop-less loop-again remainder-of-sum-requires returns)
+    Inv-loop μ-loop (search needs) (search needs) loop-holds add-k mul-pair shared-slice-read-pair mul-pair-2 shared-slice-read-pair-2
+    pair-requires (search needs) wraps-after-requires add-j loop-less loop-again remainder-of-sum-requires returns)

@@ -7,34 +7,16 @@ use Rattle.form.specs.JobForm.{no-operation, no-curve, no-end, end-at}
 use Rattle.form.proofs.job_end.Statement.{statement}
 use Rattle.form.proofs.job_end.Tie as tie
 
-operation-line-requires : tie.Need-operation-line-requires
-operation-line-requires c κs = search needs
-
-enum-known-operation : tie.Need-enum-known-operation
-enum-known-operation c = search needs
-
 enum-told : tie.Need-enum-told
 enum-told c = search needs
 
 returns : tie.Need-returns
 returns c = no-operation _ (subst (Chosen _ _) (c .enum-told .given .1) (c .before .before .operation-line .ensures))
 
-slice-aggregate-numbers-line : tie.Need-slice-aggregate-numbers-line
-slice-aggregate-numbers-line c = search needs
-
 numbers-line-requires : tie.Need-numbers-line-requires
 numbers-line-requires c κs =
     let operation = c .before .before .before in
     (subst (Chosen _ _) (operation .operation .given .1) (operation .before .before .operation-line .ensures)) .inside
-
-enum-known-entries : tie.Need-enum-known-entries
-enum-known-entries c = search needs
-
-enum-told-2 : tie.Need-enum-told-2
-enum-told-2 c = search needs
-
-same-length : tie.Need-same-length
-same-length c = search needs
 
 returns-2 : tie.Need-returns-2
 returns-2 c =
@@ -43,9 +25,6 @@ returns-2 c =
     no-curve _ _ _ _ (subst (Chosen _ _) (operation .operation .given .1) (operation .before .before .operation-line .ensures))
     (subst (Listed _ _ _ _) (c .enum-told2 .given .1) (line .numbers-line .ensures))
 
-same-length-2 : tie.Need-same-length-2
-same-length-2 c = search needs
-
 returns-3 : tie.Need-returns-3
 returns-3 c =
     let curve = c .before .before in
@@ -53,9 +32,6 @@ returns-3 c =
     let operation = line .before .before .before .before in
     no-end _ _ _ _ (subst (Chosen _ _) (operation .operation .given .1) (operation .before .before .operation-line .ensures))
     _ _ _ _ (subst (Listed _ _ _ _) (curve .entries .given .1) (line .numbers-line .ensures)) (c .if1 .taken)
-
-same-length-3 : tie.Need-same-length-3
-same-length-3 c = search needs
 
 returns-4 : tie.Need-returns-4
 returns-4 c =
@@ -69,5 +45,5 @@ pub job-end-spec : {M : Type 1} → statement M
 job-end-spec =
     tie.close
     (tie.spec
-    operation-line-requires enum-known-operation enum-told returns slice-aggregate-numbers-line numbers-line-requires enum-known-entries
-    enum-told-2 same-length returns-2 same-length-2 returns-3 same-length-3 returns-4)
+    (search needs) (search needs) enum-told returns (search needs) numbers-line-requires (search needs) (search needs) (search needs)
+    returns-2 (search needs) returns-3 (search needs) returns-4)

@@ -6,23 +6,8 @@ use Rattle.form.specs.JobForm.{Formed, no-family, job-formed}
 use Rattle.form.proofs.job_form.Statement.{statement}
 use Rattle.form.proofs.job_form.Tie as tie
 
-family-lines-requires : tie.Need-family-lines-requires
-family-lines-requires c κs = search needs
-
-enum-known-modulus : tie.Need-enum-known-modulus
-enum-known-modulus c = search needs
-
 enum-told : tie.Need-enum-told
 enum-told c = search needs
-
-same-length : tie.Need-same-length
-same-length c = search needs
-
-same-length-2 : tie.Need-same-length-2
-same-length-2 c = search needs
-
-same-length-3 : tie.Need-same-length-3
-same-length-3 c = search needs
 
 returns : tie.Need-returns
 returns c =
@@ -34,21 +19,6 @@ job-end-requires c κs =
     let family = c .before .before in
     let lines = family .before .before .before .before .before .before .before .before in
     (subst (FamilyRead _ _ _ _ _ _ _ _) (family .modulus .given .1) (lines .family-lines .ensures)) .inside
-
-with-family-requires : tie.Need-with-family-requires
-with-family-requires c κs = search needs
-
-same-length-4 : tie.Need-same-length-4
-same-length-4 c = search needs
-
-same-length-5 : tie.Need-same-length-5
-same-length-5 c = search needs
-
-same-length-6 : tie.Need-same-length-6
-same-length-6 c = search needs
-
-same-length-7 : tie.Need-same-length-7
-same-length-7 c = search needs
 
 returns-2 : tie.Need-returns-2
 returns-2 c =
@@ -64,5 +34,5 @@ pub job-form-spec : {M : Type 1} → statement M
 job-form-spec =
     tie.close
     (tie.spec
-    family-lines-requires enum-known-modulus enum-told same-length same-length-2 same-length-3 returns job-end-requires
-    with-family-requires same-length-4 same-length-5 same-length-6 same-length-7 returns-2)
+    (search needs) (search needs) enum-told (search needs) (search needs) (search needs) returns job-end-requires (search needs)
+    (search needs) (search needs) (search needs) (search needs) returns-2)

@@ -3,12 +3,6 @@ use borrow.Author.Needs.{needs}
 use Rattle.form.proofs.with_family.Statement.{statement}
 use Rattle.form.proofs.with_family.Tie as tie
 
-enum-known-end : tie.Need-enum-known-end
-enum-known-end c = search needs
-
-enum-told : tie.Need-enum-told
-enum-told c = search needs
-
 returns : tie.Need-returns
 returns c = rw (c .before .end .given .1)
 
@@ -16,4 +10,4 @@ returns-2 : tie.Need-returns-2
 returns-2 c = search needs
 
 pub with-family-spec : {M : Type 1} → statement M
-with-family-spec = tie.close (tie.spec enum-known-end enum-told returns returns-2)
+with-family-spec = tie.close (tie.spec (search needs) (search needs) returns returns-2)

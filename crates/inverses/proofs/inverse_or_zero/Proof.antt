@@ -5,12 +5,6 @@ use borrow.Author.Needs.{needs}
 use Rattle.inverses.proofs.inverse_or_zero.Statement.{statement}
 use Rattle.inverses.proofs.inverse_or_zero.Tie as tie
 
-invert-requires : tie.Need-invert-requires
-invert-requires c κs = search needs
-
-enum-known-answer : tie.Need-enum-known-answer
-enum-known-answer c = search needs
-
 enum-told : tie.Need-enum-told
 enum-told c = search needs
 
@@ -22,4 +16,4 @@ returns-2 c = absent-zero _ _ _ (inverted-absent _ _ (c .before .before .invert 
 
 pub inverse-or-zero-spec : {M : Type 1} → statement M
 inverse-or-zero-spec =
-    tie.close (tie.spec invert-requires enum-known-answer enum-told returns returns-2)
+    tie.close (tie.spec (search needs) (search needs) enum-told returns returns-2)

@@ -13,12 +13,6 @@ Inv-loop m a x c y reciprocal pairs p₀ q₀ s₀ t₀ k₀ p q s t k = (k ≤ 
 abbrev μ-loop : tie.MeasureT-loop
 μ-loop m a x c y reciprocal pairs p₀ q₀ s₀ t₀ k₀ p q s t k = pairs - k
 
-reciprocal-requires : tie.Need-reciprocal-requires Inv-loop μ-loop
-reciprocal-requires c κs = search needs
-
-pair-count-requires : tie.Need-pair-count-requires Inv-loop μ-loop
-pair-count-requires c κs = search needs
-
 loop-holds : tie.Need-loop-holds Inv-loop μ-loop
 loop-holds c = (omega arith, shared-starts _ _ _, shared-starts _ _ _)
 
@@ -37,17 +31,11 @@ mul-product-by c = omega arith
 shared-slice-read-product-by : tie.Need-shared-slice-read-product-by Inv-loop μ-loop
 shared-slice-read-product-by c = omega arith
 
-product-by-requires : tie.Need-product-by-requires Inv-loop μ-loop
-product-by-requires c κs = search needs
-
 mul-product-by-2 : tie.Need-mul-product-by-2 Inv-loop μ-loop
 mul-product-by-2 c = omega arith
 
 shared-slice-read-product-by-2 : tie.Need-shared-slice-read-product-by-2 Inv-loop μ-loop
 shared-slice-read-product-by-2 c = omega arith
-
-product-by-requires-2 : tie.Need-product-by-requires-2 Inv-loop μ-loop
-product-by-requires-2 c κs = search needs
 
 mul-product-by-3 : tie.Need-mul-product-by-3 Inv-loop μ-loop
 mul-product-by-3 c = omega arith
@@ -55,17 +43,11 @@ mul-product-by-3 c = omega arith
 shared-slice-read-product-by-3 : tie.Need-shared-slice-read-product-by-3 Inv-loop μ-loop
 shared-slice-read-product-by-3 c = omega arith
 
-product-by-requires-3 : tie.Need-product-by-requires-3 Inv-loop μ-loop
-product-by-requires-3 c κs = search needs
-
 mul-product-by-4 : tie.Need-mul-product-by-4 Inv-loop μ-loop
 mul-product-by-4 c = omega arith
 
 shared-slice-read-product-by-4 : tie.Need-shared-slice-read-product-by-4 Inv-loop μ-loop
 shared-slice-read-product-by-4 c = omega arith
-
-product-by-requires-4 : tie.Need-product-by-requires-4 Inv-loop μ-loop
-product-by-requires-4 c κs = search needs
 
 add-k : tie.Need-add-k Inv-loop μ-loop
 add-k c = omega arith
@@ -84,9 +66,6 @@ loop-again c = let loop = c .before .before .before .before .before .before .bef
 mul-rest : tie.Need-mul-rest Inv-loop μ-loop
 mul-rest c = omega arith
 
-product-by-requires-5 : tie.Need-product-by-requires-5 Inv-loop μ-loop
-product-by-requires-5 c κs = search needs
-
 mul-running-product : tie.Need-mul-running-product Inv-loop μ-loop
 mul-running-product c = omega arith
 
@@ -99,15 +78,6 @@ part-running-product-start c = omega arith
 part-running-product-end : tie.Need-part-running-product-end Inv-loop μ-loop
 part-running-product-end c = omega arith
 
-running-product-requires : tie.Need-running-product-requires Inv-loop μ-loop
-running-product-requires c κs = search needs
-
-product-by-requires-6 : tie.Need-product-by-requires-6 Inv-loop μ-loop
-product-by-requires-6 c κs = search needs
-
-product-by-requires-7 : tie.Need-product-by-requires-7 Inv-loop μ-loop
-product-by-requires-7 c κs = search needs
-
 mul-running-product-2 : tie.Need-mul-running-product-2 Inv-loop μ-loop
 mul-running-product-2 c = omega arith
 
@@ -119,15 +89,6 @@ part-running-product-start-2 c = omega arith
 
 part-running-product-end-2 : tie.Need-part-running-product-end-2 Inv-loop μ-loop
 part-running-product-end-2 c = omega arith
-
-running-product-requires-2 : tie.Need-running-product-requires-2 Inv-loop μ-loop
-running-product-requires-2 c κs = search needs
-
-product-by-requires-8 : tie.Need-product-by-requires-8 Inv-loop μ-loop
-product-by-requires-8 c κs = search needs
-
-product-by-requires-9 : tie.Need-product-by-requires-9 Inv-loop μ-loop
-product-by-requires-9 c κs = search needs
 
 returns : tie.Need-returns Inv-loop μ-loop
 returns c =
@@ -146,10 +107,9 @@ pub joint-product-spec : {M : Type 1} → statement M
 joint-product-spec =
     tie.close
     (tie.spec
-    Inv-loop μ-loop reciprocal-requires pair-count-requires loop-holds mul-i mul-j add-j mul-product-by shared-slice-read-product-by
-    product-by-requires mul-product-by-2 shared-slice-read-product-by-2 product-by-requires-2 mul-product-by-3
-    shared-slice-read-product-by-3 product-by-requires-3 mul-product-by-4 shared-slice-read-product-by-4 product-by-requires-4 add-k
-    loop-less loop-again mul-rest product-by-requires-5 mul-running-product sub-running-product part-running-product-start
-    part-running-product-end running-product-requires product-by-requires-6 product-by-requires-7 mul-running-product-2
-    sub-running-product-2 part-running-product-start-2 part-running-product-end-2 running-product-requires-2 product-by-requires-8
-    product-by-requires-9 returns)
+    Inv-loop μ-loop (search needs) (search needs) loop-holds mul-i mul-j add-j mul-product-by shared-slice-read-product-by (search needs)
+    mul-product-by-2 shared-slice-read-product-by-2 (search needs) mul-product-by-3 shared-slice-read-product-by-3 (search needs)
+    mul-product-by-4 shared-slice-read-product-by-4 (search needs) add-k loop-less loop-again mul-rest (search needs) mul-running-product
+    sub-running-product part-running-product-start part-running-product-end (search needs) (search needs) (search needs)
+    mul-running-product-2 sub-running-product-2 part-running-product-start-2 part-running-product-end-2 (search needs) (search needs)
+    (search needs) returns)

@@ -15,9 +15,6 @@ Inv-loop m list first n output₀ count start i₀ output i = (i ≤ start) × F
 abbrev μ-loop : tie.MeasureT-loop
 μ-loop m list first n output₀ count start i₀ output i = start - i
 
-excess-requires : tie.Need-excess-requires Inv-loop μ-loop
-excess-requires c κs = search needs
-
 sub-start : tie.Need-sub-start Inv-loop μ-loop
 sub-start c = omega arith
 
@@ -63,12 +60,6 @@ part-all-inverses-start-2 c = omega arith
 part-all-inverses-end-2 : tie.Need-part-all-inverses-end-2 Inv-loop μ-loop
 part-all-inverses-end-2 c = omega arith
 
-all-inverses-requires : tie.Need-all-inverses-requires Inv-loop μ-loop
-all-inverses-requires c κs = search needs
-
-same-length : tie.Need-same-length Inv-loop μ-loop
-same-length c = search needs
-
 returns : tie.Need-returns Inv-loop μ-loop
 returns c = let looped = c .before .before .before .before .before .before in
     let start = looped .before .before .before .before in
@@ -79,6 +70,6 @@ pub of-list-spec : {M : Type 1} → statement M
 of-list-spec =
     tie.close
     (tie.spec
-    Inv-loop μ-loop excess-requires sub-start loop-holds mul-output slice-write-output add-i loop-less loop-again mul-all-inverses
+    Inv-loop μ-loop (search needs) sub-start loop-holds mul-output slice-write-output add-i loop-less loop-again mul-all-inverses
     sub-all-inverses part-all-inverses-start part-all-inverses-end mul-all-inverses-2 sub-all-inverses-2 part-all-inverses-start-2
-    part-all-inverses-end-2 all-inverses-requires same-length returns)
+    part-all-inverses-end-2 (search needs) (search needs) returns)

@@ -24,9 +24,6 @@ mul-inverse-or-zero c = omega arith
 shared-slice-read-inverse-or-zero : tie.Need-shared-slice-read-inverse-or-zero Inv-loop μ-loop
 shared-slice-read-inverse-or-zero c = omega arith
 
-inverse-or-zero-requires : tie.Need-inverse-or-zero-requires Inv-loop μ-loop
-inverse-or-zero-requires c κs = search needs
-
 mul-output : tie.Need-mul-output Inv-loop μ-loop
 mul-output c = omega arith
 
@@ -52,5 +49,5 @@ pub one-by-one-spec : {M : Type 1} → statement M
 one-by-one-spec =
     tie.close
     (tie.spec
-    Inv-loop μ-loop loop-holds mul-inverse-or-zero shared-slice-read-inverse-or-zero inverse-or-zero-requires mul-output
-    slice-write-output add-i loop-less loop-again same-length returns)
+    Inv-loop μ-loop loop-holds mul-inverse-or-zero shared-slice-read-inverse-or-zero (search needs) mul-output slice-write-output add-i
+    loop-less loop-again same-length returns)

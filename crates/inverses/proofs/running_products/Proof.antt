@@ -17,9 +17,6 @@ Inv-loop m list n output₀ reciprocal whole₀ i₀ output whole i =
 abbrev μ-loop : tie.MeasureT-loop
 μ-loop m list n output₀ reciprocal whole₀ i₀ output whole i = n - i
 
-reciprocal-requires : tie.Need-reciprocal-requires Inv-loop μ-loop
-reciprocal-requires c κs = search needs
-
 loop-holds : tie.Need-loop-holds Inv-loop μ-loop
 loop-holds c = (omega arith, running-none _ _, filling-start)
 
@@ -34,9 +31,6 @@ mul-product-by c = omega arith
 
 shared-slice-read-product-by : tie.Need-shared-slice-read-product-by Inv-loop μ-loop
 shared-slice-read-product-by c = omega arith
-
-product-by-requires : tie.Need-product-by-requires Inv-loop μ-loop
-product-by-requires c κs = search needs
 
 add-i : tie.Need-add-i Inv-loop μ-loop
 add-i c = omega arith
@@ -61,5 +55,5 @@ pub running-products-spec : {M : Type 1} → statement M
 running-products-spec =
     tie.close
     (tie.spec
-    Inv-loop μ-loop reciprocal-requires loop-holds mul-output slice-write-output mul-product-by shared-slice-read-product-by
-    product-by-requires add-i loop-less loop-again same-length returns)
+    Inv-loop μ-loop (search needs) loop-holds mul-output slice-write-output mul-product-by shared-slice-read-product-by (search needs)
+    add-i loop-less loop-again same-length returns)

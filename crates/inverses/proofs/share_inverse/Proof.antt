@@ -29,9 +29,6 @@ slice-read-product-by c =
     let loop = c .before .before in
     omega (arith, loop .before .before .before .before .pre .room, loop .loop .inv .within, loop .loop .inv .long)
 
-product-by-requires : tie.Need-product-by-requires Inv-loop μ-loop
-product-by-requires c κs = search needs
-
 mul-output : tie.Need-mul-output Inv-loop μ-loop
 mul-output c = omega arith
 
@@ -47,9 +44,6 @@ shared-slice-read-product-by : tie.Need-shared-slice-read-product-by Inv-loop μ
 shared-slice-read-product-by c =
     let loop = c .before .before .before .before in
     omega (arith, loop .before .before .before .before .pre .entries, loop .loop .inv .within)
-
-product-by-requires-2 : tie.Need-product-by-requires-2 Inv-loop μ-loop
-product-by-requires-2 c κs = search needs
 
 loop-less : tie.Need-loop-less Inv-loop μ-loop
 loop-less c = omega arith
@@ -73,5 +67,5 @@ pub share-inverse-spec : {M : Type 1} → statement M
 share-inverse-spec =
     tie.close
     (tie.spec
-    Inv-loop μ-loop reciprocal-requires loop-holds sub-i mul-product-by slice-read-product-by product-by-requires mul-output
-    slice-write-output mul-product-by-2 shared-slice-read-product-by product-by-requires-2 loop-less loop-again same-length returns)
+    Inv-loop μ-loop reciprocal-requires loop-holds sub-i mul-product-by slice-read-product-by (search needs) mul-output slice-write-output
+    mul-product-by-2 shared-slice-read-product-by (search needs) loop-less loop-again same-length returns)

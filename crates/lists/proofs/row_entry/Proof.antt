@@ -4,12 +4,6 @@ use Rattle.lists.specs.Entries.{entry-inside, entry-past}
 use Rattle.lists.proofs.row_entry.Statement.{statement}
 use Rattle.lists.proofs.row_entry.Tie as tie
 
-mul-result : tie.Need-mul-result
-mul-result c = search needs
-
-shared-slice-read-result : tie.Need-shared-slice-read-result
-shared-slice-read-result c = search needs
-
 returns : tie.Need-returns
 returns c = entry-inside _ _ (c .before .before .pre) _ _ (c .before .if1 .taken)
 
@@ -17,4 +11,4 @@ returns-2 : tie.Need-returns-2
 returns-2 c = entry-past _ _ (c .before .pre) _ _ (c .if1 .left)
 
 pub row-entry-spec : {M : Type 1} → statement M
-row-entry-spec = tie.close (tie.spec mul-result shared-slice-read-result returns returns-2)
+row-entry-spec = tie.close (tie.spec (search needs) (search needs) returns returns-2)

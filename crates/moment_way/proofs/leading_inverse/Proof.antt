@@ -25,9 +25,6 @@ loop-holds c = multiplied-starts
 row-entry-requires : tie.Need-row-entry-requires Inv-loop μ-loop
 row-entry-requires c κs = omega arith
 
-product-by-requires : tie.Need-product-by-requires Inv-loop μ-loop
-product-by-requires c κs = search needs
-
 add-i : tie.Need-add-i Inv-loop μ-loop
 add-i c = omega arith
 
@@ -46,4 +43,4 @@ pub leading-inverse-spec : {M : Type 1} → statement M
 leading-inverse-spec =
     tie.close
     (tie.spec
-    Inv-loop μ-loop sub-rows reciprocal-requires loop-holds row-entry-requires product-by-requires add-i loop-less loop-again returns)
+    Inv-loop μ-loop sub-rows reciprocal-requires loop-holds row-entry-requires (search needs) add-i loop-less loop-again returns)

@@ -21,12 +21,6 @@ abbrev μ-loop : tie.MeasureT-loop
 sub-rows : tie.Need-sub-rows Inv-loop μ-loop
 sub-rows c = omega arith
 
-zeros-requires : tie.Need-zeros-requires Inv-loop μ-loop
-zeros-requires c κs = search needs
-
-zeros-requires-2 : tie.Need-zeros-requires-2 Inv-loop μ-loop
-zeros-requires-2 c κs = search needs
-
 slice-aggregate-copy : tie.Need-slice-aggregate-copy Inv-loop μ-loop
 slice-aggregate-copy c = omega arith
 
@@ -102,6 +96,6 @@ pub adjoint-spec : {M : Type 1} → statement M
 adjoint-spec =
     tie.close
     (tie.spec
-    Inv-loop μ-loop sub-rows zeros-requires zeros-requires-2 slice-aggregate-copy copy-requires loop-holds array-read-output mul-output
+    Inv-loop μ-loop sub-rows (search needs) (search needs) slice-aggregate-copy copy-requires loop-holds array-read-output mul-output
     slice-write-output row-entry-requires row-entry-requires-2 row-entry-requires-3 slice-aggregate-adjoint-row
     slice-aggregate-adjoint-row-2 sub-adjoint-row adjoint-row-requires add-j loop-less loop-again same-length returns)

@@ -20,18 +20,6 @@ abbrev μ-loop : tie.MeasureT-loop
 sub-rows : tie.Need-sub-rows Inv-loop μ-loop
 sub-rows c = omega arith
 
-zeros-requires : tie.Need-zeros-requires Inv-loop μ-loop
-zeros-requires c κs = search needs
-
-zeros-requires-2 : tie.Need-zeros-requires-2 Inv-loop μ-loop
-zeros-requires-2 c κs = search needs
-
-zeros-requires-3 : tie.Need-zeros-requires-3 Inv-loop μ-loop
-zeros-requires-3 c κs = search needs
-
-zeros-requires-4 : tie.Need-zeros-requires-4 Inv-loop μ-loop
-zeros-requires-4 c κs = search needs
-
 slice-aggregate-copy : tie.Need-slice-aggregate-copy Inv-loop μ-loop
 slice-aggregate-copy c = omega arith
 
@@ -135,7 +123,7 @@ pub decompose-spec : {M : Type 1} → statement M
 decompose-spec =
     tie.close
     (tie.spec
-    Inv-loop μ-loop sub-rows zeros-requires zeros-requires-2 zeros-requires-3 zeros-requires-4 slice-aggregate-copy copy-requires
+    Inv-loop μ-loop sub-rows (search needs) (search needs) (search needs) (search needs) slice-aggregate-copy copy-requires
     slice-aggregate-negative-products negative-products-requires slice-aggregate-negative-products-2 negative-products-requires-2
     loop-holds sub-decompose-row mul-decompose-row shared-slice-read-decompose-row slice-aggregate-decompose-row
     slice-aggregate-decompose-row-2 slice-aggregate-decompose-row-3 slice-aggregate-decompose-row-4 add-decompose-row

@@ -20,12 +20,6 @@ abbrev μ-loop : tie.MeasureT-loop
 sub-rows : tie.Need-sub-rows Inv-loop μ-loop
 sub-rows c = omega arith
 
-zeros-requires : tie.Need-zeros-requires Inv-loop μ-loop
-zeros-requires c κs = search needs
-
-zeros-requires-2 : tie.Need-zeros-requires-2 Inv-loop μ-loop
-zeros-requires-2 c κs = search needs
-
 loop-holds : tie.Need-loop-holds Inv-loop μ-loop
 loop-holds c = expanding-starts _ _ _ _ _ (c .before .zeros .ensures) (c .zeros2 .ensures)
 
@@ -101,6 +95,6 @@ pub expand-spec : {M : Type 1} → statement M
 expand-spec =
     tie.close
     (tie.spec
-    Inv-loop μ-loop sub-rows zeros-requires zeros-requires-2 loop-holds sub-k mul-x shared-slice-read-x row-entry-requires
+    Inv-loop μ-loop sub-rows (search needs) (search needs) loop-holds sub-k mul-x shared-slice-read-x row-entry-requires
     row-entry-requires-2 add-row-entry row-entry-requires-3 slice-aggregate-expand-row slice-aggregate-expand-row-2 add-expand-row
     expand-row-requires add-i loop-less loop-again slice-aggregate-copy copy-requires same-length returns)

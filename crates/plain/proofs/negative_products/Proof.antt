@@ -28,17 +28,11 @@ mul-negative c = omega arith
 shared-slice-read-negative : tie.Need-shared-slice-read-negative Inv-loop μ-loop
 shared-slice-read-negative c = omega arith
 
-negative-requires : tie.Need-negative-requires Inv-loop μ-loop
-negative-requires c κs = search needs
-
 mul-product-by : tie.Need-mul-product-by Inv-loop μ-loop
 mul-product-by c = omega arith
 
 shared-slice-read-product-by : tie.Need-shared-slice-read-product-by Inv-loop μ-loop
 shared-slice-read-product-by c = omega arith
-
-product-by-requires : tie.Need-product-by-requires Inv-loop μ-loop
-product-by-requires c κs = search needs
 
 mul-output : tie.Need-mul-output Inv-loop μ-loop
 mul-output c = omega arith
@@ -73,5 +67,5 @@ pub negative-products-spec : {M : Type 1} → statement M
 negative-products-spec =
     tie.close
     (tie.spec
-    Inv-loop μ-loop reciprocal-requires loop-holds mul-negative shared-slice-read-negative negative-requires mul-product-by
-    shared-slice-read-product-by product-by-requires mul-output slice-write-output add-i loop-less loop-again same-length returns)
+    Inv-loop μ-loop reciprocal-requires loop-holds mul-negative shared-slice-read-negative (search needs) mul-product-by
+    shared-slice-read-product-by (search needs) mul-output slice-write-output add-i loop-less loop-again same-length returns)

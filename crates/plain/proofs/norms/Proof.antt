@@ -26,9 +26,6 @@ loop-holds c = norming-starts
 row-entry-requires : tie.Need-row-entry-requires Inv-loop μ-loop
 row-entry-requires c κs = omega arith
 
-product-by-requires : tie.Need-product-by-requires Inv-loop μ-loop
-product-by-requires c κs = search needs
-
 mul-output : tie.Need-mul-output Inv-loop μ-loop
 mul-output c = omega arith
 
@@ -40,12 +37,6 @@ add-row-entry c = omega arith
 
 row-entry-requires-2 : tie.Need-row-entry-requires-2 Inv-loop μ-loop
 row-entry-requires-2 c κs = omega arith
-
-negative-requires : tie.Need-negative-requires Inv-loop μ-loop
-negative-requires c κs = search needs
-
-product-by-requires-2 : tie.Need-product-by-requires-2 Inv-loop μ-loop
-product-by-requires-2 c κs = search needs
 
 add-i : tie.Need-add-i Inv-loop μ-loop
 add-i c = omega arith
@@ -71,5 +62,5 @@ pub norms-spec : {M : Type 1} → statement M
 norms-spec =
     tie.close
     (tie.spec
-    Inv-loop μ-loop sub-rows reciprocal-requires loop-holds row-entry-requires product-by-requires mul-output slice-write-output
-    add-row-entry row-entry-requires-2 negative-requires product-by-requires-2 add-i loop-less loop-again same-length returns)
+    Inv-loop μ-loop sub-rows reciprocal-requires loop-holds row-entry-requires (search needs) mul-output slice-write-output add-row-entry
+    row-entry-requires-2 (search needs) (search needs) add-i loop-less loop-again same-length returns)

@@ -8,35 +8,17 @@ use borrow.Author.Needs.{needs}
 use Rattle.plain_calls.proofs.norms.Statement.{statement}
 use Rattle.plain_calls.proofs.norms.Tie as tie
 
-norms-requires : tie.Need-norms-requires
-norms-requires c κs = search needs
-
 enum-told : tie.Need-enum-told
 enum-told c = search needs
 
-enum-told-2 : tie.Need-enum-told-2
-enum-told-2 c = search needs
-
 returns : tie.Need-returns
 returns c = tests-refuse _ _ (c .before .before .norms .ensures) _ (c .enum-told2 .given .1)
-
-zeros-requires : tie.Need-zeros-requires
-zeros-requires c κs = search needs
-
-slice-aggregate-of-list : tie.Need-slice-aggregate-of-list
-slice-aggregate-of-list c = search needs
 
 of-list-requires : tie.Need-of-list-requires
 of-list-requires c κs =
     let passed = c .before .before in
     let input = norms-input _ (passed .before .before .norms .ensures) (passed .enum-told .given .1) in
     a-room (input .accepted) (c .before .zeros .ensures)
-
-slice-aggregate-norms : tie.Need-slice-aggregate-norms
-slice-aggregate-norms c = search needs
-
-add-norms : tie.Need-add-norms
-add-norms c = search needs
 
 norms-requires-2 : tie.Need-norms-requires-2
 norms-requires-2 c κs =
@@ -45,9 +27,6 @@ norms-requires-2 c κs =
     let passed = zeros .before in
     let input = norms-input _ (passed .before .before .norms .ensures) (passed .enum-told .given .1) in
     norms-core _ input (a-array (input .accepted) (zeros .zeros .ensures) (filled .of-list .ensures))
-
-same-length : tie.Need-same-length
-same-length c = search needs
 
 returns-2 : tie.Need-returns-2
 returns-2 c =
@@ -66,5 +45,5 @@ pub norms-spec : {M : Type 1} → statement M
 norms-spec =
     tie.close
     (tie.spec
-    norms-requires enum-told enum-told-2 returns zeros-requires slice-aggregate-of-list of-list-requires slice-aggregate-norms add-norms
-    norms-requires-2 same-length returns-2)
+    (search needs) enum-told (search needs) returns (search needs) (search needs) of-list-requires (search needs) (search needs)
+    norms-requires-2 (search needs) returns-2)

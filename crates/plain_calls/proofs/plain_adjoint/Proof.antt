@@ -7,26 +7,14 @@ use borrow.Author.Needs.{needs}
 use Rattle.plain_calls.proofs.plain_adjoint.Statement.{statement}
 use Rattle.plain_calls.proofs.plain_adjoint.Tie as tie
 
-plain-requires : tie.Need-plain-requires
-plain-requires c κs = search needs
-
 enum-told : tie.Need-enum-told
 enum-told c = search needs
-
-enum-told-2 : tie.Need-enum-told-2
-enum-told-2 c = search needs
 
 returns : tie.Need-returns
 returns c = tests-refuse _ _ (c .before .before .plain .ensures) _ (c .enum-told2 .given .1)
 
-add-adjoint : tie.Need-add-adjoint
-add-adjoint c = search needs
-
 adjoint-requires : tie.Need-adjoint-requires
 adjoint-requires c κs = plain-core _ (plain-input _ (c .before .before .before .plain .ensures) (c .before .enum-told .given .1))
-
-same-length : tie.Need-same-length
-same-length c = search needs
 
 returns-2 : tie.Need-returns-2
 returns-2 c =
@@ -41,4 +29,4 @@ pub plain-adjoint-spec : {M : Type 1} → statement M
 plain-adjoint-spec =
     tie.close
     (tie.spec
-    plain-requires enum-told enum-told-2 returns add-adjoint adjoint-requires same-length returns-2)
+    (search needs) enum-told (search needs) returns (search needs) adjoint-requires (search needs) returns-2)

@@ -9,35 +9,17 @@ use borrow.Author.Needs.{needs}
 use Rattle.plain_calls.proofs.plain_decompose.Statement.{statement}
 use Rattle.plain_calls.proofs.plain_decompose.Tie as tie
 
-plain-requires : tie.Need-plain-requires
-plain-requires c κs = search needs
-
 enum-told : tie.Need-enum-told
 enum-told c = search needs
 
-enum-told-2 : tie.Need-enum-told-2
-enum-told-2 c = search needs
-
 returns : tie.Need-returns
 returns c = tests-refuse _ _ (c .before .before .plain .ensures) _ (c .enum-told2 .given .1)
-
-zeros-requires : tie.Need-zeros-requires
-zeros-requires c κs = search needs
-
-slice-aggregate-of-list : tie.Need-slice-aggregate-of-list
-slice-aggregate-of-list c = search needs
 
 of-list-requires : tie.Need-of-list-requires
 of-list-requires c κs =
     let passed = c .before .before in
     let input = plain-input _ (passed .before .before .plain .ensures) (passed .enum-told .given .1) in
     a-room (input .accepted) (c .before .zeros .ensures)
-
-slice-aggregate-decompose : tie.Need-slice-aggregate-decompose
-slice-aggregate-decompose c = search needs
-
-add-decompose : tie.Need-add-decompose
-add-decompose c = search needs
 
 decompose-requires : tie.Need-decompose-requires
 decompose-requires c κs =
@@ -46,9 +28,6 @@ decompose-requires c κs =
     let passed = zeros .before in
     let input = plain-input _ (passed .before .before .plain .ensures) (passed .enum-told .given .1) in
     decompose-core _ input (a-array (input .accepted) (zeros .zeros .ensures) (filled .of-list .ensures))
-
-same-length : tie.Need-same-length
-same-length c = search needs
 
 returns-2 : tie.Need-returns-2
 returns-2 c =
@@ -67,5 +46,5 @@ pub plain-decompose-spec : {M : Type 1} → statement M
 plain-decompose-spec =
     tie.close
     (tie.spec
-    plain-requires enum-told enum-told-2 returns zeros-requires slice-aggregate-of-list of-list-requires slice-aggregate-decompose
-    add-decompose decompose-requires same-length returns-2)
+    (search needs) enum-told (search needs) returns (search needs) (search needs) of-list-requires (search needs) (search needs)
+    decompose-requires (search needs) returns-2)

@@ -5,15 +5,6 @@ use borrow.Author.Needs.{needs}
 use Rattle.products.proofs.entry.Statement.{statement}
 use Rattle.products.proofs.entry.Tie as tie
 
-add-place : tie.Need-add-place
-add-place c = search needs
-
-mul-result : tie.Need-mul-result
-mul-result c = search needs
-
-shared-slice-read-result : tie.Need-shared-slice-read-result
-shared-slice-read-result c = search needs
-
 returns : tie.Need-returns
 returns c = sym (part-entry _ _ _ _ (c .before .if1 .taken))
 
@@ -21,4 +12,4 @@ returns-2 : tie.Need-returns-2
 returns-2 c = sym (part-past _ _ _ _ (c .if1 .left))
 
 pub entry-spec : {M : Type 1} → statement M
-entry-spec = tie.close (tie.spec add-place mul-result shared-slice-read-result returns returns-2)
+entry-spec = tie.close (tie.spec (search needs) (search needs) (search needs) returns returns-2)

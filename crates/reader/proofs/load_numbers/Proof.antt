@@ -34,9 +34,6 @@ loop-holds c = loading-starts _ _ _ (c .before .before .if1 .left) (c .if2 .left
 read-number-requires : tie.Need-read-number-requires Inv-loop μ-loop
 read-number-requires c κs = tt
 
-enum-known-x : tie.Need-enum-known-x Inv-loop μ-loop
-enum-known-x c = search needs
-
 enum-told : tie.Need-enum-told Inv-loop μ-loop
 enum-told c = search needs
 
@@ -94,9 +91,6 @@ loop-again c =
 add-t22 : tie.Need-add-t22 Inv-loop μ-loop
 add-t22 c = omega arith
 
-same-length-3 : tie.Need-same-length-3 Inv-loop μ-loop
-same-length-3 c = search needs
-
 returns-5 : tie.Need-returns-5 Inv-loop μ-loop
 returns-5 c =
     let stored = c .before .before .before .before in
@@ -106,9 +100,6 @@ returns-5 c =
     loading-ends _ _ _ _ _ _ (loop .loop .inv)
     _ _ (number-found _ _ _ (number .before .before .read-number .ensures) _ _ (number .x .given .1))
     (more .if3 .left) _ (stored .store .ensures) (c .match2 .keys2)
-
-same-length-4 : tie.Need-same-length-4 Inv-loop μ-loop
-same-length-4 c = search needs
 
 returns-6 : tie.Need-returns-6 Inv-loop μ-loop
 returns-6 c =
@@ -129,6 +120,6 @@ pub load-numbers-spec : {M : Type 1} → statement M
 load-numbers-spec =
     tie.close
     (tie.spec
-    Inv-loop μ-loop returns shared-slice-read-if2 add-t13 returns-2 loop-holds read-number-requires enum-known-x enum-told same-length
-    returns-3 same-length-2 returns-4 store-requires add-count shared-slice-read-b add-i loop-less loop-again add-t22 same-length-3
-    returns-5 same-length-4 returns-6 same-length-5 returns-7)
+    Inv-loop μ-loop returns shared-slice-read-if2 add-t13 returns-2 loop-holds read-number-requires (search needs) enum-told same-length
+    returns-3 same-length-2 returns-4 store-requires add-count shared-slice-read-b add-i loop-less loop-again add-t22 (search needs)
+    returns-5 (search needs) returns-6 same-length-5 returns-7)

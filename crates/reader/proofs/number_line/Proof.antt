@@ -6,23 +6,11 @@ use Rattle.reader.specs.Lines.{number-none, number-wrong, number-inside,
 use Rattle.reader.proofs.number_line.Statement.{statement}
 use Rattle.reader.proofs.number_line.Tie as tie
 
-has-key-requires : tie.Need-has-key-requires
-has-key-requires c κs = search needs
-
 returns : tie.Need-returns
 returns c =
     let start = c .before .before .before .before in
     number-none (start .args .text .now) (start .args .at) _ (start .pre)
     _ (c .before .has-key .ensures) (not-true _ (c .if1 .taken))
-
-add-read-number : tie.Need-add-read-number
-add-read-number c = search needs
-
-read-number-requires : tie.Need-read-number-requires
-read-number-requires c κs = search needs
-
-enum-known-x : tie.Need-enum-known-x
-enum-known-x c = search needs
 
 enum-told : tie.Need-enum-told
 enum-told c = search needs
@@ -34,9 +22,6 @@ returns-2 c =
     number-wrong (start .args .text .now) (start .args .at) _ (start .pre)
     _ (key .before .has-key .ensures) (not-false _ (key .if1 .left))
     _ (c .before .before .read-number .ensures) (c .enum-told .given .1)
-
-slice-aggregate-has-key : tie.Need-slice-aggregate-has-key
-slice-aggregate-has-key c = search needs
 
 has-key-requires-2 : tie.Need-has-key-requires-2
 has-key-requires-2 c κs =
@@ -74,5 +59,5 @@ pub number-line-spec : {M : Type 1} → statement M
 number-line-spec =
     tie.close
     (tie.spec
-    has-key-requires returns add-read-number read-number-requires enum-known-x enum-told returns-2 slice-aggregate-has-key
-    has-key-requires-2 returns-3 add-t11 returns-4)
+    (search needs) returns (search needs) (search needs) (search needs) enum-told returns-2 (search needs) has-key-requires-2 returns-3
+    add-t11 returns-4)

@@ -8,9 +8,6 @@ use Rattle.reader.specs.Lines.{line-listed}
 use Rattle.reader.proofs.numbers_line.Statement.{statement}
 use Rattle.reader.proofs.numbers_line.Tie as tie
 
-has-key-requires : tie.Need-has-key-requires
-has-key-requires c κs = search needs
-
 returns : tie.Need-returns
 returns c =
     let start = c .before .before .before .before .before in
@@ -18,15 +15,6 @@ returns c =
     let key = start .args .key .now in
     line-none key readNumbers (drop (start .args .at) text)
     (key-missed text (start .args .at) key _ (c .before .has-key .ensures) (not-true _ (c .if1 .taken)))
-
-add-load-numbers : tie.Need-add-load-numbers
-add-load-numbers c = search needs
-
-load-numbers-requires : tie.Need-load-numbers-requires
-load-numbers-requires c κs = search needs
-
-same-length : tie.Need-same-length
-same-length c = search needs
 
 returns-2 : tie.Need-returns-2
 returns-2 c =
@@ -41,4 +29,4 @@ returns-2 c =
 pub numbers-line-spec : {M : Type 1} → statement M
 numbers-line-spec =
     tie.close
-    (tie.spec has-key-requires returns add-load-numbers load-numbers-requires same-length returns-2)
+    (tie.spec (search needs) returns (search needs) (search needs) (search needs) returns-2)

@@ -8,30 +8,12 @@ use Rattle.reader.specs.Lines.{operationLine, operation-found, operation
 use Rattle.reader.proofs.operation_line.Statement.{statement}
 use Rattle.reader.proofs.operation_line.Tie as tie
 
-slice-aggregate-has-key : tie.Need-slice-aggregate-has-key
-slice-aggregate-has-key c = search needs
-
-has-key-requires : tie.Need-has-key-requires
-has-key-requires c κs = search needs
-
-add-t12 : tie.Need-add-t12
-add-t12 c = search needs
-
 returns : tie.Need-returns
 unfolding line name
 returns c =
     let start = c .before .before .before .before in
     operation-found (start .args .text .now) (start .args .at) Operation.Expand
     (key-found _ _ (operationLine Operation.Expand) _ (c .before .has-key .ensures) (start .pre) (c .if1 .taken))
-
-slice-aggregate-has-key-2 : tie.Need-slice-aggregate-has-key-2
-slice-aggregate-has-key-2 c = search needs
-
-has-key-requires-2 : tie.Need-has-key-requires-2
-has-key-requires-2 c κs = search needs
-
-add-t17 : tie.Need-add-t17
-add-t17 c = search needs
 
 returns-2 : tie.Need-returns-2
 unfolding line name
@@ -40,30 +22,12 @@ returns-2 c =
     operation-found (start .args .text .now) (start .args .at) Operation.Adjoint
     (key-found _ _ (operationLine Operation.Adjoint) _ (c .before .has-key2 .ensures) (start .pre) (c .if2 .taken))
 
-slice-aggregate-has-key-3 : tie.Need-slice-aggregate-has-key-3
-slice-aggregate-has-key-3 c = search needs
-
-has-key-requires-3 : tie.Need-has-key-requires-3
-has-key-requires-3 c κs = search needs
-
-add-t22 : tie.Need-add-t22
-add-t22 c = search needs
-
 returns-3 : tie.Need-returns-3
 unfolding line name
 returns-3 c =
     let start = c .before .before .before .before .before .before .before .before .before .before in
     operation-found (start .args .text .now) (start .args .at) Operation.Decompose
     (key-found _ _ (operationLine Operation.Decompose) _ (c .before .has-key3 .ensures) (start .pre) (c .if3 .taken))
-
-slice-aggregate-has-key-4 : tie.Need-slice-aggregate-has-key-4
-slice-aggregate-has-key-4 c = search needs
-
-has-key-requires-4 : tie.Need-has-key-requires-4
-has-key-requires-4 c κs = search needs
-
-add-t27 : tie.Need-add-t27
-add-t27 c = search needs
 
 returns-4 : tie.Need-returns-4
 unfolding line name
@@ -72,15 +36,6 @@ returns-4 c =
     let start = third .before .before .before .before .before .before .before .before .before .before in
     operation-found (start .args .text .now) (start .args .at) Operation.Moments
     (key-found _ _ (operationLine Operation.Moments) _ (c .before .has-key4 .ensures) (start .pre) (c .if4 .taken))
-
-slice-aggregate-has-key-5 : tie.Need-slice-aggregate-has-key-5
-slice-aggregate-has-key-5 c = search needs
-
-has-key-requires-5 : tie.Need-has-key-requires-5
-has-key-requires-5 c κs = search needs
-
-add-t32 : tie.Need-add-t32
-add-t32 c = search needs
 
 returns-5 : tie.Need-returns-5
 unfolding line name
@@ -111,6 +66,6 @@ pub operation-line-spec : {M : Type 1} → statement M
 operation-line-spec =
     tie.close
     (tie.spec
-    slice-aggregate-has-key has-key-requires add-t12 returns slice-aggregate-has-key-2 has-key-requires-2 add-t17 returns-2
-    slice-aggregate-has-key-3 has-key-requires-3 add-t22 returns-3 slice-aggregate-has-key-4 has-key-requires-4 add-t27 returns-4
-    slice-aggregate-has-key-5 has-key-requires-5 add-t32 returns-5 returns-6)
+    (search needs) (search needs) (search needs) returns (search needs) (search needs) (search needs) returns-2 (search needs)
+    (search needs) (search needs) returns-3 (search needs) (search needs) (search needs) returns-4 (search needs) (search needs)
+    (search needs) returns-5 returns-6)

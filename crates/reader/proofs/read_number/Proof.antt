@@ -11,21 +11,6 @@ use Rattle.reader.proofs.read_number.Tie as tie
 returns : tie.Need-returns
 returns c = sym (ap (placed _) (number-past _ _ (c .if1 .taken)))
 
-shared-slice-read-b : tie.Need-shared-slice-read-b
-shared-slice-read-b c = search needs
-
-add-t9 : tie.Need-add-t9
-add-t9 c = search needs
-
-add-read-digits : tie.Need-add-read-digits
-add-read-digits c = search needs
-
-cast-read-digits : tie.Need-cast-read-digits
-cast-read-digits c = search needs
-
-read-digits-requires : tie.Need-read-digits-requires
-read-digits-requires c κs = search needs
-
 returns-2 : tie.Need-returns-2
 returns-2 c = number-nought _ _ (c .before .before .if1 .left) (c .match .keys1)
 
@@ -46,4 +31,4 @@ pub read-number-spec : {M : Type 1} → statement M
 read-number-spec =
     tie.close
     (tie.spec
-    returns shared-slice-read-b add-t9 add-read-digits cast-read-digits read-digits-requires returns-2 returns-3 returns-4 returns-5)
+    returns (search needs) (search needs) (search needs) (search needs) (search needs) returns-2 returns-3 returns-4 returns-5)

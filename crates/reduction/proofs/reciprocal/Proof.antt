@@ -4,11 +4,8 @@ use borrow.Author.Needs.{needs}
 use Rattle.reduction.proofs.reciprocal.Statement.{statement}
 use Rattle.reduction.proofs.reciprocal.Tie as tie
 
-div-result : tie.Need-div-result
-div-result c = search needs
-
 returns : tie.Need-returns
 returns c = reciprocal-is _ (c .pre)
 
 pub reciprocal-spec : {M : Type 1} → statement M
-reciprocal-spec = tie.close (tie.spec div-result returns)
+reciprocal-spec = tie.close (tie.spec (search needs) returns)

@@ -10,9 +10,6 @@ use Rattle.reduction.proofs.remainder.Tie as tie
 within : {x y n : ℕ} → x ≤ y → y < n → x < n
 within p q = omega arith
 
-high-product-requires : tie.Need-high-product-requires
-high-product-requires c κs = search needs
-
 mul-rest : tie.Need-mul-rest
 mul-rest c =
     record {
@@ -23,12 +20,6 @@ mul-rest c =
 
 sub-rest : tie.Need-sub-rest
 sub-rest c = quotient-bounds _ _ _ _ (c .before .pre) (c .before .fits .x .fits) (c .high-product .ensures) .most
-
-wrapping-sub-u64-requires : tie.Need-wrapping-sub-u64-requires
-wrapping-sub-u64-requires c κs = search needs
-
-lesser-requires : tie.Need-lesser-requires
-lesser-requires c κs = search needs
 
 returns : tie.Need-returns
 returns c =
@@ -45,5 +36,4 @@ cast-result c =
 pub remainder-spec : {M : Type 1} → statement M
 remainder-spec =
     tie.close
-    (tie.spec
-    high-product-requires mul-rest sub-rest wrapping-sub-u64-requires lesser-requires cast-result returns)
+    (tie.spec (search needs) mul-rest sub-rest (search needs) (search needs) cast-result returns)

@@ -10,29 +10,11 @@ use Rattle.reduction.proofs.remainder_of_sum.Tie as tie
 first-fits : (x y n : ℕ) → x + y < n → x < n
 first-fits x y n h = omega arith
 
-mul-spare : tie.Need-mul-spare
-mul-spare c = search needs
-
-sub-spare : tie.Need-sub-spare
-sub-spare c = search needs
-
-add-spare : tie.Need-add-spare
-add-spare c = search needs
-
-shortened-requires : tie.Need-shortened-requires
-shortened-requires c κs = search needs
-
 mul-more : tie.Need-mul-more
 mul-more c = record { fits = first-fits _ _ _ (more-fits _ _ (c .before .pre) _ _ (c .shortened .ensures)) }
 
-wrapping-add-u64-requires : tie.Need-wrapping-add-u64-requires
-wrapping-add-u64-requires c κs = search needs
-
 unwrapped-requires : tie.Need-unwrapped-requires
 unwrapped-requires c κs = more-fits _ _ (c .before .before .pre) _ _ (c .before .shortened .ensures)
-
-remainder-requires : tie.Need-remainder-requires
-remainder-requires c κs = search needs
 
 returns : tie.Need-returns
 returns c =
@@ -44,4 +26,4 @@ pub remainder-of-sum-spec : {M : Type 1} → statement M
 remainder-of-sum-spec =
     tie.close
     (tie.spec
-    mul-spare sub-spare add-spare shortened-requires mul-more wrapping-add-u64-requires unwrapped-requires remainder-requires returns)
+    (search needs) (search needs) (search needs) (search needs) mul-more (search needs) unwrapped-requires (search needs) returns)

@@ -4,17 +4,8 @@ use Rattle.reduction.specs.Wrapping.{shortened-remainder}
 use Rattle.reduction.proofs.shortened.Statement.{statement}
 use Rattle.reduction.proofs.shortened.Tie as tie
 
-remainder-requires : tie.Need-remainder-requires
-remainder-requires c κs = search needs
-
-cast-result : tie.Need-cast-result
-cast-result c = search needs
-
-returns : tie.Need-returns
-returns c = search needs
-
 returns-2 : tie.Need-returns-2
 returns-2 c = shortened-remainder _ _ _ _ (c .before .before .pre) (c .remainder .ensures)
 
 pub shortened-spec : {M : Type 1} → statement M
-shortened-spec = tie.close (tie.spec remainder-requires cast-result returns returns-2)
+shortened-spec = tie.close (tie.spec (search needs) (search needs) (search needs) returns-2)

@@ -23,14 +23,8 @@ mul-remainder-3 c = let small = products-small _ _ _ _ _ _ _ _ (c .pre .0) in om
 add-remainder-3 : tie.Need-add-remainder-3
 add-remainder-3 c = let small = products-small _ _ _ _ _ _ _ _ (c .pre .0) in omega arith
 
-remainder-requires : tie.Need-remainder-requires
-remainder-requires c κs = search needs
-
-returns : tie.Need-returns
-returns c = search needs
-
 pub combine-spec : {M : Type 1} → statement M
 combine-spec =
     tie.close
     (tie.spec
-    mul-remainder add-remainder mul-remainder-2 add-remainder-2 mul-remainder-3 add-remainder-3 remainder-requires returns)
+    mul-remainder add-remainder mul-remainder-2 add-remainder-2 mul-remainder-3 add-remainder-3 (search needs) (search needs))

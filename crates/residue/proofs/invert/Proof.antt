@@ -48,9 +48,6 @@ returns-2 c = rw (c .if2 .taken) (shares-one _)
 loop-holds : tie.Need-loop-holds Inv-loop μ-loop
 loop-holds c = turning-starts _ _ (omega arith)
 
-div-t : tie.Need-div-t Inv-loop μ-loop
-div-t c = search needs
-
 mul-t : tie.Need-mul-t Inv-loop μ-loop
 mul-t c =
     let amounts = first-fits _ _ (omega arith) _ _ _ _ (c .before .loop .inv) (c .loop-test .taken) in
@@ -60,9 +57,6 @@ add-t : tie.Need-add-t Inv-loop μ-loop
 add-t c =
     let amounts = first-fits _ _ (omega arith) _ _ _ _ (c .before .loop .inv) (c .loop-test .taken) in
     record { fits = within amounts (c .before .before .before .before .fits .m .fits) }
-
-rem-r : tie.Need-rem-r Inv-loop μ-loop
-rem-r c = search needs
 
 returns-3 : tie.Need-returns-3 Inv-loop μ-loop
 returns-3 c =
@@ -115,5 +109,5 @@ pub invert-spec : {M : Type 1} → statement M
 invert-spec =
     tie.close
     (tie.spec
-    Inv-loop μ-loop returns returns-2 loop-holds div-t mul-t add-t rem-r returns-3 returns-4 div-u mul-u add-u rem-s loop-less loop-again
-    sub-t13 returns-5 returns-6)
+    Inv-loop μ-loop returns returns-2 loop-holds (search needs) mul-t add-t (search needs) returns-3 returns-4 div-u mul-u add-u rem-s
+    loop-less loop-again sub-t13 returns-5 returns-6)

@@ -9,9 +9,6 @@ use Rattle.definitions.specs.Number.{negative}
 use Rattle.residue.proofs.negative.Statement.{statement}
 use Rattle.residue.proofs.negative.Tie as tie
 
-remainder-requires : tie.Need-remainder-requires
-remainder-requires c κs = search needs
-
 sub-result : tie.Need-sub-result
 sub-result c = omega (arith, mod-lt (c .before .args .x) (c .before .pre .positive), c .remainder .ensures)
 
@@ -20,4 +17,4 @@ unfolding negative
 returns c = ap (λ r. c .before .args .m - r) (c .remainder .ensures)
 
 pub negative-spec : {M : Type 1} → statement M
-negative-spec = tie.close (tie.spec remainder-requires sub-result returns)
+negative-spec = tie.close (tie.spec (search needs) sub-result returns)

@@ -16,11 +16,5 @@ product-fits {x} {y} hx hy =
 mul-remainder : tie.Need-mul-remainder
 mul-remainder c = record { fits = product-fits (c .fits .x .fits) (c .fits .y .fits) }
 
-remainder-requires : tie.Need-remainder-requires
-remainder-requires c κs = search needs
-
-returns : tie.Need-returns
-returns c = search needs
-
 pub product-spec : {M : Type 1} → statement M
-product-spec = tie.close (tie.spec mul-remainder remainder-requires returns)
+product-spec = tie.close (tie.spec mul-remainder (search needs) (search needs))

@@ -14,11 +14,5 @@ fits {x} {y} p q =
 mul-remainder : tie.Need-mul-remainder
 mul-remainder c = record { fits = fits (c .fits .x .fits) (c .fits .y .fits) }
 
-remainder-requires : tie.Need-remainder-requires
-remainder-requires c κs = search needs
-
-returns : tie.Need-returns
-returns c = search needs
-
 pub product-by-spec : {M : Type 1} → statement M
-product-by-spec = tie.close (tie.spec mul-remainder remainder-requires returns)
+product-by-spec = tie.close (tie.spec mul-remainder (search needs) (search needs))

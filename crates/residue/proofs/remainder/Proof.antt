@@ -7,14 +7,8 @@ use borrow.Author.Needs.{needs}
 use Rattle.residue.proofs.remainder.Statement.{statement}
 use Rattle.residue.proofs.remainder.Tie as tie
 
-rem-result : tie.Need-rem-result
-rem-result c = search needs
-
 cast-result : tie.Need-cast-result
 cast-result c = omega (arith, mod-lt (c .args .x) (c .pre))
 
-returns : tie.Need-returns
-returns c = search needs
-
 pub remainder-spec : {M : Type 1} → statement M
-remainder-spec = tie.close (tie.spec rem-result cast-result returns)
+remainder-spec = tie.close (tie.spec (search needs) cast-result (search needs))

@@ -14,9 +14,6 @@ Inv-loop m list reciprocal result₀ i₀ result i = (i ≤ length list) × (res
 abbrev μ-loop : tie.MeasureT-loop
 μ-loop m list reciprocal result₀ i₀ result i = length list - i
 
-reciprocal-requires : tie.Need-reciprocal-requires Inv-loop μ-loop
-reciprocal-requires c κs = search needs
-
 loop-holds : tie.Need-loop-holds Inv-loop μ-loop
 loop-holds c = (omega arith, running-none _ _)
 
@@ -25,9 +22,6 @@ mul-product-by c = omega arith
 
 shared-slice-read-product-by : tie.Need-shared-slice-read-product-by Inv-loop μ-loop
 shared-slice-read-product-by c = omega arith
-
-product-by-requires : tie.Need-product-by-requires Inv-loop μ-loop
-product-by-requires c κs = search needs
 
 add-i : tie.Need-add-i Inv-loop μ-loop
 add-i c = omega arith
@@ -45,5 +39,5 @@ pub running-product-spec : {M : Type 1} → statement M
 running-product-spec =
     tie.close
     (tie.spec
-    Inv-loop μ-loop reciprocal-requires loop-holds mul-product-by shared-slice-read-product-by product-by-requires add-i loop-less
-    loop-again returns)
+    Inv-loop μ-loop (search needs) loop-holds mul-product-by shared-slice-read-product-by (search needs) add-i loop-less loop-again
+    returns)

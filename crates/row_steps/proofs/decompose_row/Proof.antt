@@ -29,14 +29,8 @@ slice-read-here c = omega arith
 add-entry : tie.Need-add-entry Inv-loop μ-loop
 add-entry c = omega arith
 
-entry-requires : tie.Need-entry-requires Inv-loop μ-loop
-entry-requires c κs = search needs
-
 add-entry-2 : tie.Need-add-entry-2 Inv-loop μ-loop
 add-entry-2 c = omega arith
-
-entry-requires-2 : tie.Need-entry-requires-2 Inv-loop μ-loop
-entry-requires-2 c κs = search needs
 
 mul-combine : tie.Need-mul-combine Inv-loop μ-loop
 mul-combine c = omega arith
@@ -89,6 +83,6 @@ pub decompose-row-spec : {M : Type 1} → statement M
 decompose-row-spec =
     tie.close
     (tie.spec
-    Inv-loop μ-loop reciprocal-requires loop-holds mul-here slice-read-here add-entry entry-requires add-entry-2 entry-requires-2
+    Inv-loop μ-loop reciprocal-requires loop-holds mul-here slice-read-here add-entry (search needs) add-entry-2 (search needs)
     mul-combine shared-slice-read-combine combine-requires mul-current slice-write-current mul-lead shared-slice-read-lead add-i loop-less
     loop-again same-length returns)

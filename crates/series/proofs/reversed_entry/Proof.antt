@@ -5,18 +5,6 @@ use borrow.Author.Needs.{needs}
 use Rattle.series.proofs.reversed_entry.Statement.{statement}
 use Rattle.series.proofs.reversed_entry.Tie as tie
 
-sub-result : tie.Need-sub-result
-sub-result c = search needs
-
-sub-result-2 : tie.Need-sub-result-2
-sub-result-2 c = search needs
-
-mul-result : tie.Need-mul-result
-mul-result c = search needs
-
-shared-slice-read-result : tie.Need-shared-slice-read-result
-shared-slice-read-result c = search needs
-
 returns : tie.Need-returns
 returns c = reversed-inside _ _ _ (c .before .if1 .taken)
 
@@ -26,4 +14,4 @@ returns-2 c = reversed-past _ _ _ (c .if1 .left)
 pub reversed-entry-spec : {M : Type 1} → statement M
 reversed-entry-spec =
     tie.close
-    (tie.spec sub-result sub-result-2 mul-result shared-slice-read-result returns returns-2)
+    (tie.spec (search needs) (search needs) (search needs) (search needs) returns returns-2)

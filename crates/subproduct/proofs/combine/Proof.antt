@@ -18,16 +18,10 @@ mul-result-2 c = omega (arith, products-small (c .pre))
 add-result-2 : tie.Need-add-result-2
 add-result-2 c = omega (arith, products-small (c .pre))
 
-rem-result : tie.Need-rem-result
-rem-result c = search needs
-
 cast-result : tie.Need-cast-result
 cast-result c = omega (arith, products-small (c .pre) .remainder (c .args .s + c .args .x * c .args .y + c .args .u * c .args .v))
-
-returns : tie.Need-returns
-returns c = search needs
 
 pub combine-spec : {M : Type 1} → statement M
 combine-spec =
     tie.close
-    (tie.spec mul-result add-result mul-result-2 add-result-2 rem-result cast-result returns)
+    (tie.spec mul-result add-result mul-result-2 add-result-2 (search needs) cast-result (search needs))

@@ -8,9 +8,6 @@ use Rattle.subproduct.proofs.half_size.Tie as tie
 mul-result : tie.Need-mul-result
 mul-result c = omega (arith, half-value _ (c .pre .0) (c .pre .1))
 
-add-result : tie.Need-add-result
-add-result c = search needs
-
 mul-result-2 : tie.Need-mul-result-2
 mul-result-2 c = omega (arith, half-value _ (c .pre .0) (c .pre .1))
 
@@ -21,4 +18,4 @@ returns : tie.Need-returns
 returns c = halves _ (c .pre .0) (c .pre .1) (omega (arith, half-value _ (c .pre .0) (c .pre .1)))
 
 pub half-size-spec : {M : Type 1} → statement M
-half-size-spec = tie.close (tie.spec mul-result add-result mul-result-2 sub-result returns)
+half-size-spec = tie.close (tie.spec mul-result (search needs) mul-result-2 sub-result returns)

@@ -8,25 +8,10 @@ use Rattle.subproduct.proofs.join.Tie as tie
 expand-pair-requires : tie.Need-expand-pair-requires
 expand-pair-requires c κs = join-first (c .before .before .pre)
 
-add-expand-pair : tie.Need-add-expand-pair
-add-expand-pair c = search needs
-
-add-expand-pair-2 : tie.Need-add-expand-pair-2
-add-expand-pair-2 c = search needs
-
-add-expand-pair-3 : tie.Need-add-expand-pair-3
-add-expand-pair-3 c = search needs
-
-add-expand-pair-4 : tie.Need-add-expand-pair-4
-add-expand-pair-4 c = search needs
-
 expand-pair-requires-2 : tie.Need-expand-pair-requires-2
 expand-pair-requires-2 c κs =
     let first = c .before .before .before in
     join-second (first .before .before .before .pre) (first .expand-pair .ensures)
-
-same-length : tie.Need-same-length
-same-length c = search needs
 
 returns : tie.Need-returns
 returns c =
@@ -38,4 +23,4 @@ pub join-spec : {M : Type 1} → statement M
 join-spec =
     tie.close
     (tie.spec
-    expand-pair-requires add-expand-pair add-expand-pair-2 add-expand-pair-3 add-expand-pair-4 expand-pair-requires-2 same-length returns)
+    expand-pair-requires (search needs) (search needs) (search needs) (search needs) expand-pair-requires-2 (search needs) returns)

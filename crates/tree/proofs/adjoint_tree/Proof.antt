@@ -6,44 +6,11 @@ use borrow.Author.Needs.{needs}
 use Rattle.tree.proofs.adjoint_tree.Statement.{statement}
 use Rattle.tree.proofs.adjoint_tree.Tie as tie
 
-level-for-requires : tie.Need-level-for-requires
-level-for-requires c κs = search needs
-
-pairs-for-requires : tie.Need-pairs-for-requires
-pairs-for-requires c κs = search needs
-
-shared-slice-read-t15 : tie.Need-shared-slice-read-t15
-shared-slice-read-t15 c = search needs
-
-shared-slice-read-t17 : tie.Need-shared-slice-read-t17
-shared-slice-read-t17 c = search needs
-
-add-second : tie.Need-add-second
-add-second c = search needs
-
-add-second-2 : tie.Need-add-second-2
-add-second-2 c = search needs
-
-add-at : tie.Need-add-at
-add-at c = search needs
-
-add-at-2 : tie.Need-add-at-2
-add-at-2 c = search needs
-
-sub-build : tie.Need-sub-build
-sub-build c = search needs
-
 build-requires : tie.Need-build-requires
 build-requires c κs =
     let sized = c .before .before .before in
     let start = sized .before .before .before .before .before .before .before .before in
     core-build (start .pre .0) (start .pre .1) (sized .before .level-for .ensures) (sized .pairs-for .ensures)
-
-slice-aggregate-root-pair : tie.Need-slice-aggregate-root-pair
-slice-aggregate-root-pair c = search needs
-
-add-root-pair : tie.Need-add-root-pair
-add-root-pair c = search needs
 
 root-pair-requires : tie.Need-root-pair-requires
 root-pair-requires c κs =
@@ -60,9 +27,6 @@ descend-requires c κs =
     let start = sized .before .before .before .before .before .before .before .before in
     core-descend (start .pre .0) (start .pre .1) (sized .before .level-for .ensures) (sized .pairs-for .ensures)
     (built .build .ensures) (root .root-pair .ensures)
-
-mul-copy : tie.Need-mul-copy
-mul-copy c = search needs
 
 sub-copy : tie.Need-sub-copy
 sub-copy c =
@@ -90,9 +54,6 @@ part-copy-start c =
           (built .build .ensures) (root .root-pair .ensures) (descends .descend .ensures),
     )
 
-part-copy-end : tie.Need-part-copy-end
-part-copy-end c = search needs
-
 copy-requires : tie.Need-copy-requires
 copy-requires c κs =
     let descends = c .before .before .before .before .before in
@@ -102,12 +63,6 @@ copy-requires c κs =
     let start = sized .before .before .before .before .before .before .before .before in
     core-copy (start .pre .0) (start .pre .1) (sized .before .level-for .ensures) (sized .pairs-for .ensures)
     (built .build .ensures) (root .root-pair .ensures) (descends .descend .ensures)
-
-same-length : tie.Need-same-length
-same-length c = search needs
-
-same-length-2 : tie.Need-same-length-2
-same-length-2 c = search needs
 
 returns : tie.Need-returns
 returns c =
@@ -124,6 +79,6 @@ pub adjoint-tree-spec : {M : Type 1} → statement M
 adjoint-tree-spec =
     tie.close
     (tie.spec
-    level-for-requires pairs-for-requires shared-slice-read-t15 shared-slice-read-t17 add-second add-second-2 add-at add-at-2 sub-build
-    build-requires slice-aggregate-root-pair add-root-pair root-pair-requires descend-requires mul-copy sub-copy part-copy-start
-    part-copy-end copy-requires same-length same-length-2 returns)
+    (search needs) (search needs) (search needs) (search needs) (search needs) (search needs) (search needs) (search needs) (search needs)
+    build-requires (search needs) (search needs) root-pair-requires descend-requires (search needs) sub-copy part-copy-start
+    (search needs) copy-requires (search needs) (search needs) returns)

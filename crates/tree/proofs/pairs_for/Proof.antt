@@ -4,11 +4,8 @@ use borrow.Author.Needs.{needs}
 use Rattle.tree.proofs.pairs_for.Statement.{statement}
 use Rattle.tree.proofs.pairs_for.Tie as tie
 
-shl-result : tie.Need-shl-result
-shl-result c = search needs
-
 returns : tie.Need-returns
 returns c = pairs-level _ (c .pre)
 
 pub pairs-for-spec : {M : Type 1} → statement M
-pairs-for-spec = tie.close (tie.spec shl-result returns)
+pairs-for-spec = tie.close (tie.spec (search needs) returns)

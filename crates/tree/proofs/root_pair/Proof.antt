@@ -6,9 +6,6 @@ use borrow.Author.Needs.{needs}
 use Rattle.tree.proofs.root_pair.Statement.{statement}
 use Rattle.tree.proofs.root_pair.Tie as tie
 
-slice-aggregate-transposed : tie.Need-slice-aggregate-transposed
-slice-aggregate-transposed c = search needs
-
 slice-aggregate-transposed-2 : tie.Need-slice-aggregate-transposed-2
 slice-aggregate-transposed-2 c = sym (length-take-le _ _ (c .before .before .before .before .before .pre .curveHolds .long))
 
@@ -20,16 +17,10 @@ slice-aggregate-transposed-3 c =
     let first = c .before .before .before in
     sym (length-take-le _ _ (first .before .before .before .before .before .before .before .pre .curveHolds .long))
 
-add-transposed : tie.Need-add-transposed
-add-transposed c = search needs
-
 transposed-requires-2 : tie.Need-transposed-requires-2
 transposed-requires-2 c κs =
     let first = c .before .before .before .before in
     pair-second (first .before .before .before .before .before .before .before .pre) (first .transposed .ensures)
-
-same-length : tie.Need-same-length
-same-length c = search needs
 
 returns : tie.Need-returns
 returns c =
@@ -42,5 +33,5 @@ pub root-pair-spec : {M : Type 1} → statement M
 root-pair-spec =
     tie.close
     (tie.spec
-    slice-aggregate-transposed slice-aggregate-transposed-2 transposed-requires slice-aggregate-transposed-3 add-transposed
-    transposed-requires-2 same-length returns)
+    (search needs) slice-aggregate-transposed-2 transposed-requires slice-aggregate-transposed-3 (search needs) transposed-requires-2
+    (search needs) returns)

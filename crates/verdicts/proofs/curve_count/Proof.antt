@@ -8,27 +8,6 @@ use Rattle.verdicts.proofs.curve_count.Tie as tie
 enum-told : tie.Need-enum-told
 enum-told c = search needs
 
-add-result : tie.Need-add-result
-add-result c = search needs
-
-enum-told-2 : tie.Need-enum-told-2
-enum-told-2 c = search needs
-
-add-result-2 : tie.Need-add-result-2
-add-result-2 c = search needs
-
-enum-told-3 : tie.Need-enum-told-3
-enum-told-3 c = search needs
-
-add-result-3 : tie.Need-add-result-3
-add-result-3 c = search needs
-
-enum-told-4 : tie.Need-enum-told-4
-enum-told-4 c = search needs
-
-enum-told-5 : tie.Need-enum-told-5
-enum-told-5 c = search needs
-
 returns : tie.Need-returns
 unfolding curveCount
 returns c = rw (c .enum-told .given .1, add-one)
@@ -53,5 +32,5 @@ pub curve-count-spec : {M : Type 1} → statement M
 curve-count-spec =
     tie.close
     (tie.spec
-    enum-told add-result enum-told-2 add-result-2 enum-told-3 add-result-3 enum-told-4 enum-told-5 returns returns-2 returns-3 returns-4
-    returns-5)
+    enum-told (search needs) (search needs) (search needs) (search needs) (search needs) (search needs) (search needs) returns returns-2
+    returns-3 returns-4 returns-5)

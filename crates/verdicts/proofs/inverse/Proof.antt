@@ -12,12 +12,6 @@ use borrow.Author.Needs.{needs}
 use Rattle.verdicts.proofs.inverse.Statement.{statement}
 use Rattle.verdicts.proofs.inverse.Tie as tie
 
-modulus-requires : tie.Need-modulus-requires
-modulus-requires c κs = search needs
-
-enum-known-range : tie.Need-enum-known-range
-enum-known-range c = search needs
-
 returns : tie.Need-returns
 unfolding inverseTests
 returns c = stage-refuses-with _ _ all-remain _ (c .before .before .before .modulus .ensures) _ _ (c .before .range .given .1)
@@ -25,30 +19,12 @@ returns c = stage-refuses-with _ _ all-remain _ (c .before .before .before .modu
 enum-told : tie.Need-enum-told
 enum-told c = search needs
 
-number-below-requires : tie.Need-number-below-requires
-number-below-requires c κs = search needs
-
-enum-known-below : tie.Need-enum-known-below
-enum-known-below c = search needs
-
 returns-2 : tie.Need-returns-2
 unfolding inverseTests
 returns-2 c =
     let first = c .before .before .before .before in
     let after = stage-passes _ _ all-remain _ (first .before .before .modulus .ensures) (first .enum-told .given .1) in
     stage-refuses-with _ _ after _ (c .before .before .before .number-below .ensures) _ _ (c .before .below .given .1)
-
-enum-told-2 : tie.Need-enum-told-2
-enum-told-2 c = search needs
-
-invert-requires : tie.Need-invert-requires
-invert-requires c κs = search needs
-
-enum-known-y : tie.Need-enum-known-y
-enum-known-y c = search needs
-
-enum-told-3 : tie.Need-enum-told-3
-enum-told-3 c = search needs
 
 returns-3 : tie.Need-returns-3
 unfolding inverseTests numberInverseTest
@@ -79,5 +55,5 @@ pub inverse-spec : {M : Type 1} → statement M
 inverse-spec =
     tie.close
     (tie.spec
-    modulus-requires enum-known-range returns enum-told number-below-requires enum-known-below returns-2 enum-told-2 invert-requires
-    enum-known-y enum-told-3 returns-3 returns-4)
+    (search needs) (search needs) returns enum-told (search needs) (search needs) returns-2 (search needs) (search needs) (search needs)
+    (search needs) returns-3 returns-4)

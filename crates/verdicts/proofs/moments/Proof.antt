@@ -7,33 +7,12 @@ use borrow.Author.Needs.{needs}
 use Rattle.verdicts.proofs.moments.Statement.{statement}
 use Rattle.verdicts.proofs.moments.Tie as tie
 
-family-shape-requires : tie.Need-family-shape-requires
-family-shape-requires c κs = search needs
-
 enum-told : tie.Need-enum-told
 enum-told c = search needs
-
-enum-told-2 : tie.Need-enum-told-2
-enum-told-2 c = search needs
 
 returns : tie.Need-returns
 unfolding momentsTests
 returns c = stage-refuses _ _ all-remain _ (c .before .before .family-shape .ensures) _ (c .enum-told2 .given .1)
-
-mul-output-length : tie.Need-mul-output-length
-mul-output-length c = search needs
-
-add-output-length : tie.Need-add-output-length
-add-output-length c = search needs
-
-output-length-requires : tie.Need-output-length-requires
-output-length-requires c κs = search needs
-
-enum-told-3 : tie.Need-enum-told-3
-enum-told-3 c = search needs
-
-enum-told-4 : tie.Need-enum-told-4
-enum-told-4 c = search needs
 
 returns-2 : tie.Need-returns-2
 unfolding momentsTests
@@ -41,15 +20,6 @@ returns-2 c =
     let shape = c .before .before .before in
     let afterShape = stage-passes _ _ all-remain _ (shape .before .before .family-shape .ensures) (shape .enum-told .given .1) in
     stage-refuses _ _ afterShape _ (rw moments-of-rows at (c .before .before .output-length .ensures)) _ (c .enum-told4 .given .1)
-
-work-length-requires : tie.Need-work-length-requires
-work-length-requires c κs = search needs
-
-enum-told-5 : tie.Need-enum-told-5
-enum-told-5 c = search needs
-
-enum-told-6 : tie.Need-enum-told-6
-enum-told-6 c = search needs
 
 returns-3 : tie.Need-returns-3
 unfolding momentsTests
@@ -83,5 +53,5 @@ pub moments-spec : {M : Type 1} → statement M
 moments-spec =
     tie.close
     (tie.spec
-    family-shape-requires enum-told enum-told-2 returns mul-output-length add-output-length output-length-requires enum-told-3 enum-told-4
-    returns-2 work-length-requires enum-told-5 enum-told-6 returns-3 rows-requires returns-4)
+    (search needs) enum-told (search needs) returns (search needs) (search needs) (search needs) (search needs) (search needs) returns-2
+    (search needs) (search needs) (search needs) returns-3 rows-requires returns-4)

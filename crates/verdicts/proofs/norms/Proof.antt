@@ -7,30 +7,12 @@ use borrow.Author.Needs.{needs}
 use Rattle.verdicts.proofs.norms.Statement.{statement}
 use Rattle.verdicts.proofs.norms.Tie as tie
 
-family-shape-requires : tie.Need-family-shape-requires
-family-shape-requires c κs = search needs
-
 enum-told : tie.Need-enum-told
 enum-told c = search needs
-
-enum-told-2 : tie.Need-enum-told-2
-enum-told-2 c = search needs
 
 returns : tie.Need-returns
 unfolding normsTests
 returns c = stage-refuses _ _ all-remain _ (c .before .before .family-shape .ensures) _ (c .enum-told2 .given .1)
-
-add-output-length : tie.Need-add-output-length
-add-output-length c = search needs
-
-output-length-requires : tie.Need-output-length-requires
-output-length-requires c κs = search needs
-
-enum-told-3 : tie.Need-enum-told-3
-enum-told-3 c = search needs
-
-enum-told-4 : tie.Need-enum-told-4
-enum-told-4 c = search needs
 
 returns-2 : tie.Need-returns-2
 unfolding normsTests
@@ -58,5 +40,5 @@ pub norms-spec : {M : Type 1} → statement M
 norms-spec =
     tie.close
     (tie.spec
-    family-shape-requires enum-told enum-told-2 returns add-output-length output-length-requires enum-told-3 enum-told-4 returns-2
-    rows-requires returns-3)
+    (search needs) enum-told (search needs) returns (search needs) (search needs) (search needs) (search needs) returns-2 rows-requires
+    returns-3)

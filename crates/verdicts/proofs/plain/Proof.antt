@@ -8,30 +8,12 @@ use borrow.Author.Needs.{needs}
 use Rattle.verdicts.proofs.plain.Statement.{statement}
 use Rattle.verdicts.proofs.plain.Tie as tie
 
-family-shape-requires : tie.Need-family-shape-requires
-family-shape-requires c κs = search needs
-
 enum-told : tie.Need-enum-told
 enum-told c = search needs
-
-enum-told-2 : tie.Need-enum-told-2
-enum-told-2 c = search needs
 
 returns : tie.Need-returns
 unfolding plainTests
 returns c = stage-refuses _ _ all-remain _ (c .before .before .family-shape .ensures) _ (c .enum-told2 .given .1)
-
-add-curve-length : tie.Need-add-curve-length
-add-curve-length c = search needs
-
-curve-length-requires : tie.Need-curve-length-requires
-curve-length-requires c κs = search needs
-
-enum-told-3 : tie.Need-enum-told-3
-enum-told-3 c = search needs
-
-enum-told-4 : tie.Need-enum-told-4
-enum-told-4 c = search needs
 
 returns-2 : tie.Need-returns-2
 unfolding plainTests
@@ -39,18 +21,6 @@ returns-2 c =
     let shape = c .before .before .before in
     let afterShape = stage-passes _ _ all-remain _ (shape .before .before .family-shape .ensures) (shape .enum-told .given .1) in
     stage-refuses _ _ afterShape _ (rw add-one at (c .before .before .curve-length .ensures)) _ (c .enum-told4 .given .1)
-
-add-output-length : tie.Need-add-output-length
-add-output-length c = search needs
-
-output-length-requires : tie.Need-output-length-requires
-output-length-requires c κs = search needs
-
-enum-told-5 : tie.Need-enum-told-5
-enum-told-5 c = search needs
-
-enum-told-6 : tie.Need-enum-told-6
-enum-told-6 c = search needs
 
 returns-3 : tie.Need-returns-3
 unfolding plainTests
@@ -84,5 +54,5 @@ pub plain-spec : {M : Type 1} → statement M
 plain-spec =
     tie.close
     (tie.spec
-    family-shape-requires enum-told enum-told-2 returns add-curve-length curve-length-requires enum-told-3 enum-told-4 returns-2
-    add-output-length output-length-requires enum-told-5 enum-told-6 returns-3 values-requires returns-4)
+    (search needs) enum-told (search needs) returns (search needs) (search needs) (search needs) (search needs) returns-2 (search needs)
+    (search needs) (search needs) (search needs) returns-3 values-requires returns-4)

@@ -6,21 +6,12 @@ use borrow.Author.Needs.{needs}
 use Rattle.verdicts.proofs.values.Statement.{statement}
 use Rattle.verdicts.proofs.values.Tie as tie
 
-rows-requires : tie.Need-rows-requires
-rows-requires c κs = search needs
-
 enum-told : tie.Need-enum-told
 enum-told c = search needs
-
-enum-told-2 : tie.Need-enum-told-2
-enum-told-2 c = search needs
 
 returns : tie.Need-returns
 unfolding valueTests
 returns c = stage-refuses _ _ all-remain _ (c .before .before .rows .ensures) _ (c .enum-told2 .given .1)
-
-curve-entries-requires : tie.Need-curve-entries-requires
-curve-entries-requires c κs = search needs
 
 returns-2 : tie.Need-returns-2
 unfolding valueTests curveEntriesTest
@@ -32,4 +23,4 @@ returns-2 c =
 pub values-spec : {M : Type 1} → statement M
 values-spec =
     tie.close
-    (tie.spec rows-requires enum-told enum-told-2 returns curve-entries-requires returns-2)
+    (tie.spec (search needs) enum-told (search needs) returns (search needs) returns-2)

@@ -7,20 +7,8 @@ use Rattle.writer.specs.Entries.{put-first, put-later}
 use Rattle.writer.proofs.put_entry.Statement.{statement}
 use Rattle.writer.proofs.put_entry.Tie as tie
 
-put-number-requires : tie.Need-put-number-requires
-put-number-requires c κs = search needs
-
-same-length : tie.Need-same-length
-same-length c = search needs
-
 returns : tie.Need-returns
 returns c = put-first _ _ _ _ _ _ (c .before .before .before .before .if1 .taken) (c .before .before .put-number .ensures)
-
-slice-write-out : tie.Need-slice-write-out
-slice-write-out c = search needs
-
-add-put-number : tie.Need-add-put-number
-add-put-number c = search needs
 
 put-number-requires-2 : tie.Need-put-number-requires-2
 put-number-requires-2 c κs = simp length-set (omega arith)
@@ -37,4 +25,4 @@ pub put-entry-spec : {M : Type 1} → statement M
 put-entry-spec =
     tie.close
     (tie.spec
-    put-number-requires same-length returns slice-write-out add-put-number put-number-requires-2 same-length-2 returns-2)
+    (search needs) (search needs) returns (search needs) (search needs) put-number-requires-2 same-length-2 returns-2)
