@@ -27,7 +27,7 @@ subproduct::build            10  0  0
 tree::expand                  1  1  0
 tree::adjoint                 2  0  0
 moment_way::moments           1  0  0
-plain_calls::norms             1  0  0
+plain_calls::norms            1  0  0
 tree_calls::tree_decompose    2  0  0
 zahupnik_invert               0  2  0
 zahupnik_plain_adjoint        0  1  0

@@ -2,21 +2,23 @@
 --   PlainInput, TreeInput, MomentsInput, NormsInput, InverseInput
 --                 what a call of that kind accepts: of family, curve, number, output and working list
 -- Proved: none of a call's tests holds (`-passes`), and its verdict is finished (`-finished`), if and only if its input is of that
--- kind; each row of an accepted family passes, the rows past its end as well; an accepted family is convertible.
+-- kind; each row of an accepted family passes, the rows past its end as well; an accepted family is convertible; the greatest modulus is taken.
 -- Assumes nothing.
-use mathlib.Core.Path.{_≡_}
+use mathlib.Core.Path.{_≡_, refl}
 use mathlib.Core.List.{List, [], _∷_, _++_}
 use mathlib.Core.Logic.{_↔_, Iff·trans, by-cases}
-use Prim.Native.Nat.{ℕ, suc, _<_, _≤_}
+use Prim.Native.Nat.{ℕ, zero, suc, _<_, _≤_}
 use native.Mathlib.Decide.{decLt}
 use native.Mathlib.Omega.{arith}
-use lib.ListN.{length, List·getD-eq-default}
+use lib.ListN.{length, getD, List·getD-eq-default}
 use Rattle.definitions.specs.Number.{HasInverse}
-use Rattle.definitions.specs.Family.{Family, Modulus, RowBelow, Accepted, Convertible, Curve, firstC, rows, rowAt, size}
+use Rattle.definitions.specs.Family.{Family, Modulus, RowBelow, Accepted, Convertible, Curve}
+use Rattle.definitions.specs.Family.{greatestModulus, firstC, ones, family, rows, rowAt, size}
 use Rattle.definitions.specs.Orthogonality.{momentCount}
 use Rattle.definitions.specs.Refusals.{Test, finished, verdict, workLength, curveLengthTest, outputTest}
 use Rattle.definitions.specs.Refusals.{workTest, curveEntriesTest, shapeTests, familyShape, familyRows}
 use Rattle.definitions.specs.Refusals.{plainTests, treeTests, momentsTests, normsTests, inverseTests}
+use Rattle.numbers.specs.Inverse.{one-has-inverse}
 use Rattle.acceptance.specs.Verdicts.{None, none-append, verdict-finished, modulus-passes, lengths-pass, row-count-passes}
 use Rattle.acceptance.specs.Verdicts.{entries-pass, a-inverses-pass, c-inverses-pass, curve-length-passes}
 use Rattle.acceptance.specs.Verdicts.{curve-entries-pass, output-passes, work-passes, number-passes, number-inverse-passes}
@@ -196,3 +198,32 @@ inverse-passes m x = (to, from)
 
 pub inverse-finished : (m x : ℕ) (values : List ℕ) → (verdict (inverseTests m x) values ≡ finished values) ↔ InverseInput m x
 inverse-finished m x values = Iff·trans (verdict-finished (inverseTests m x) values) (inverse-passes m x)
+
+-- the greatest modulus is taken: no rows, closed by 1 1 1, and a curve of one entry
+rows-none : (m i : ℕ) → rowAt (family m [] [] []) i ≡ ones
+unfolding rowAt
+rows-none m i = refl
+
+greatest-curve : Curve (family greatestModulus [] [] []) (2147483646 ∷ [])
+greatest-curve = record { long = refl; below = entry }
+  where
+    entry : (i : ℕ) → i < 1 → getD (2147483646 ∷ []) i 0 < greatestModulus
+    entry zero h = omega arith
+    entry (suc i) h = absurd (omega arith)
+
+pub greatest-taken : verdict (plainTests (family greatestModulus [] [] []) (2147483646 ∷ []) 1) [] ≡ finished []
+greatest-taken =
+    let one = one-has-inverse greatestModulus (omega arith) in
+    plain-finished (family greatestModulus [] [] []) (2147483646 ∷ []) 1 [] .1 (record {
+      accepted = record {
+        modulus = record { least = omega arith; greatest = omega arith };
+        bLength = refl;
+        cLength = refl;
+        rowCount = omega arith;
+        below = λ i h. rw (rows-none greatestModulus i) (record { aBelow = omega arith; bBelow = omega arith; cBelow = omega arith });
+        aInverse = λ i h. rw (rows-none greatestModulus i) one;
+        cInverse = λ i l h. rw (rows-none greatestModulus i) one;
+      };
+      curve = greatest-curve;
+      outputLength = refl;
+    })

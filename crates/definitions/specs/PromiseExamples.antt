@@ -1,5 +1,5 @@
 -- What the promises of the calls say of the paper's R and of its job, by computation: the one outcome that each allows.
--- plain-outcome, tree-outcome and text-outcome: the answer, the list or the text with what the output held after it, and of a working list
+-- plain-outcome, tree-outcome, norms-outcome, moments-outcome and text-outcome: the answer, the list or the text with what the output held after it, and of a working list
 -- 16,384 zeros and then what it held. plain-refusal, tree-refusal and text-refusal: the number, and every list as it was. Each is allowed,
 -- and the claims that end in -only say that there is no other.
 -- Assumes nothing.
@@ -8,8 +8,9 @@ use mathlib.Core.List.{List, [], _∷_, _++_}
 use Prim.Native.Nat.{ℕ}
 use lib.ListN.{length, drop, replicate}
 use Rattle.definitions.specs.Conversion.{expand}
+use Rattle.definitions.specs.Orthogonality.{moments, norms}
 use Rattle.definitions.specs.Refusals.{finished, refused, treeTests}
-use Rattle.definitions.specs.Answers.{answered, valued, after, cleared, PlainCall, TreeCall}
+use Rattle.definitions.specs.Answers.{answered, valued, after, cleared, PlainCall, TreeCall, NormsCall, MomentsCall}
 use Rattle.definitions.specs.Figures.{handed, R}
 use Rattle.definitions.specs.Text.{bytes}
 use Rattle.definitions.specs.TextCall.{reply, TextConverted}
@@ -75,6 +76,32 @@ unfolding handed treeTests
 tree-refusal-only r output′ work′ p = (
   p .answer,
   p .written ∙ ap (λ v. after v (expand R past) output) (p .answer),
+  p .wiped ∙ ap (λ v. after v (cleared work) work) (p .answer),
+)
+
+pub norms-outcome : NormsCall R Answer.Finished output (1 ∷ 1 ∷ 5 ∷ [])
+unfolding handed
+norms-outcome = record { answer = refl; written = refl }
+
+pub norms-outcome-only : (r : Answer) (output′ : List ℕ) → NormsCall R r output output′
+    → (answered r ≡ finished []) × (output′ ≡ 1 ∷ 1 ∷ 5 ∷ [])
+unfolding handed
+norms-outcome-only r output′ p = (p .answer, p .written ∙ ap (λ v. after v (norms R) output) (p .answer))
+
+-- an output for the moments
+abbrev pub five : List ℕ
+five = 4 ∷ 5 ∷ 6 ∷ 7 ∷ 8 ∷ []
+
+pub moments-outcome : MomentsCall R Answer.Finished five (1 ∷ 0 ∷ 1 ∷ 2 ∷ 1 ∷ []) work wiped
+unfolding handed cleared
+moments-outcome = record { answer = refl; written = refl; wiped = refl }
+
+pub moments-outcome-only : (r : Answer) (output′ work′ : List ℕ) → MomentsCall R r five output′ work work′
+    → (answered r ≡ finished []) × (output′ ≡ 1 ∷ 0 ∷ 1 ∷ 2 ∷ 1 ∷ []) × (work′ ≡ wiped)
+unfolding handed cleared
+moments-outcome-only r output′ work′ p = (
+  p .answer,
+  p .written ∙ ap (λ v. after v (moments R) five) (p .answer),
   p .wiped ∙ ap (λ v. after v (cleared work) work) (p .answer),
 )
 

@@ -4,8 +4,9 @@
 --   familyShape f    the tests 3 4 5 of a family, and familyRows f its tests 9 10 11: each call on a family makes both
 --   plainTests       of Expand, Adjoint and Decompose by the plain way;  treeTests  by the tree way
 --   momentsTests, normsTests, inverseTests
--- So a number is given if its condition holds and none before it does, and otherwise not. The lengths of lists are numbers here, but for
--- those of the rows and of the curve. A call skips the tests on things that it is not lent.
+-- So a number is given if its condition holds and none before it does, and otherwise not. A test on
+-- lengths is one of numbers; a call is given its family and its curve, and the lengths of the other lists. It skips the tests on things that
+-- it is not lent.
 -- The scope paper, 'Who causes which refusal'. Assumes nothing.
 use mathlib.Core.Bool.{Bool, true, false, not, _||_}
 use mathlib.Core.List.{List, [], _∷_, _++_}

@@ -40,6 +40,7 @@ curveCount Operation.Decompose r = suc r
 curveCount Operation.Moments r = 0
 curveCount Operation.Norms r = 0
 
+-- the writer of the station's program
 unfoldable pub textOutputTest : ℕ → Test
 textOutputTest output = test 7 (ltb output textOutputLength)
 
