@@ -20,8 +20,7 @@ import sys
 TABLE = """
 products::add_products        1  0  0
 inverses::of_list             2  2  2
-checks::invertible            1  2  2
-checks::family_rows           1  2  0
+verdicts::rows                1  6  4
 subproduct::descend           1  0  0
 subproduct::build            10  0  0
 tree::expand                  1  1  0

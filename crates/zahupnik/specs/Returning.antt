@@ -66,6 +66,7 @@ module _ (t output output′ work work′ : List ℕ) (r : Valued) (converted : 
   pub text-returned : (k : ℕ) → k ≡ number (valued r) → ReturnedIn tests (reply t ++ drop (length (reply t)) output) k output output′ work work′
   text-returned k e = record {
     answer = e ∙ ap number settled ∙ number-values values (verdict tests []);
-    written = converted .written ∙ ap (λ v. after v (reply t ++ drop (length (reply t)) output) output) settled ∙ after-values values (verdict tests []) _ output;
+    written = converted .written ∙ ap (λ v. after v (reply t ++ drop (length (reply t)) output) output) settled
+        ∙ after-values values (verdict tests []) _ output;
     wiped = converted .wiped ∙ ap (λ v. after v (cleared work) work) settled ∙ after-values values (verdict tests []) _ work;
   }

@@ -50,7 +50,9 @@ part-convert-lists-end-5 : tie.Need-part-convert-lists-end-5
 part-convert-lists-end-5 c = search needs
 
 convert-lists-requires : tie.Need-convert-lists-requires
-convert-lists-requires c κs = parts-sized _ _ _ _ _ _ _ _ _ _ _ (c .before .before .before .before .before .before .before .before .before .before .before .before .pre)
+convert-lists-requires c κs =
+    let place = c .before .before .before .before .before .before in
+    parts-sized _ _ _ _ _ _ _ _ _ _ _ (place .before .before .before .before .before .before .pre)
 
 same-length : tie.Need-same-length
 same-length c = search needs
