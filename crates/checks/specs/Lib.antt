@@ -2,4 +2,4 @@
 pub mod Passes
 pub mod Settling
 pub mod Shape
-pub mod Rows
+pub mod RowTests

@@ -13,7 +13,7 @@ ghost use Rattle.definitions.specs.Refusals.{outputTest, workTest, entriesTest,
 ghost use Rattle.definitions.specs.TextCall.{mostBytes, textOutputTest};
 ghost use Rattle.lists.specs.Lent.{lent, Long};
 ghost use Rattle.checks.specs.Passes.{BelowAnswer, FactorAnswer};
-ghost use Rattle.checks.specs.Rows.{LackAnswer, inverseRows};
+ghost use Rattle.checks.specs.RowTests.{LackAnswer, inverseRows};
 use definitions::Answer;
 use residue::Inversion;
 use residue::invert;

@@ -1,7 +1,7 @@
 -- What the promises of the calls say of the paper's R and of its job, by computation: the one outcome that each allows.
--- plain-outcome, tree-outcome, norms-outcome, moments-outcome and text-outcome: the answer, the list or the text with what the output held after it, and of a working list
--- 16,384 zeros and then what it held. plain-refusal, tree-refusal and text-refusal: the number, and every list as it was. Each is allowed,
--- and the claims that end in -only say that there is no other.
+-- plain-outcome, tree-outcome, norms-outcome, moments-outcome and text-outcome: the answer, the list or the text with what the output held
+-- after it, and of a working list 16,384 zeros and then what it held. plain-refusal, tree-refusal and text-refusal: the number, and every list
+-- as it was. Each is allowed, and the claims that end in -only say that there is no other.
 -- Assumes nothing.
 use mathlib.Core.Path.{_≡_, refl, _∙_, ap}
 use mathlib.Core.List.{List, [], _∷_, _++_}

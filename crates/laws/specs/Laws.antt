@@ -9,7 +9,7 @@
 -- The promises, on every input: the answer is the verdict of the calls' tests in turn, each list is the definition's from a call that
 -- finished and what it held before from every other, and on the input above the law holds:
 --   Made               of one conversion by the way that is asked for
---   Returned, Agreed   of two conversions, back and forth or by both ways
+--   ThereAndBack, Agreed   of two conversions, back and forth or by both ways
 --   HandedOut          of Expand for u and for v, Moments and Norms;  Weighed  of these and the two totals
 -- The scope paper, 'The definitions'. Assumes nothing.
 use mathlib.Core.Path.{_≡_}
@@ -109,7 +109,7 @@ module _ (there back : Family → List ℕ → List ℕ) (first second : Way) (f
   abbrev pub backTests : (two work : List ℕ) → List Test
   backTests two work = wayTests second f (there f u) (length two) (length work)
 
-  pub record Returned (r : Answer) (one one′ two two′ work work′ : List ℕ) : Type 0 where
+  pub record ThereAndBack (r : Answer) (one one′ two two′ work work′ : List ℕ) : Type 0 where
     pub answer : answered r ≡ verdict (thereTests one work ++ backTests two work) []
     pub firstIs : one′ ≡ after (verdict (thereTests one work) []) (there f u) one
     pub secondIs : two′ ≡ after (answered r) (back f one′) two

@@ -1,6 +1,6 @@
 -- The round trips over the lists that the calls hand out, by either way each.
 --   Undoes there back   on an accepted family, `there` hands out a curve, and `back` makes of it the curve that it came from
--- Proved: Expand and Decompose undo one another; two calls, each with its own promise, come to Returned, whichever refuses.
+-- Proved: Expand and Decompose undo one another; two calls, each with its own promise, come to ThereAndBack, whichever refuses.
 -- Assumes nothing.
 use mathlib.Core.Path.{_≡_, sym, _∙_, ap}
 use mathlib.Core.List.{List, [], _++_}
@@ -18,7 +18,7 @@ use Rattle.theory.specs.RoundTrip.{Decomposable, convertible-decomposable, deco
 use Rattle.acceptance.specs.Verdicts.{None, verdict-finished, none-append}
 use Rattle.laws.specs.ByWay.{two-calls-pass, work-length}
 use Rattle.acceptance.specs.Stages.{all-remain, stage-refuses, stage-passes, stages-end, list-new}
-use Rattle.laws.specs.Laws.{TwoCallsInput, RoundTripHolds, wayTests, workLeft, Made, thereTests, backTests, Returned}
+use Rattle.laws.specs.Laws.{TwoCallsInput, RoundTripHolds, wayTests, workLeft, Made, thereTests, backTests, ThereAndBack}
 use Rattle.laws.specs.declared.Way.{Way}
 
 -- ---- what undoes what
@@ -68,7 +68,7 @@ module _ {there back : Family → List ℕ → List ℕ} (undoes : Undoes there 
         law = w ∙ ap (λ v. after v (back f one′) two) done ∙ ap (back f) new ∙ undoes .undone f (input .accepted) u (input .curve);
       }
 
-  pub first-refused : (k : ℕ) → s ≡ Answer.Refused k → Returned there back first second f u s one one′ two two work w₁
+  pub first-refused : (k : ℕ) → s ≡ Answer.Refused k → ThereAndBack there back first second f u s one one′ two two work w₁
   first-refused k q =
       let e = stage-refuses T₁ later all-remain s (made₁ .answer) k q in
       let stays = sym (ap (λ x. after (answered x) (back f one′) two) q) in
@@ -95,7 +95,7 @@ module _ {there back : Family → List ℕ → List ℕ} (undoes : Undoes there 
     tests-are = ap (λ v. wayTests second f v (length two) (length w₁)) handed
         ∙ ap (λ k. wayTests second f (there f u) (length two) k) length-left
 
-    pub both-made : Returned there back first second f u r one one′ two two′ work w₂
+    pub both-made : ThereAndBack there back first second f u r one one′ two two′ work w₂
     both-made =
         let e = stages-end later (stage-passes T₁ later all-remain s (made₁ .answer) q) r (made₂ .answer ∙ ap (λ ts. verdict ts []) tests-are) in
         record {

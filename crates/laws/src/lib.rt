@@ -4,7 +4,7 @@
 // They are evidence and no library calls: public is what the program `weighing` runs.
 ghost use Rattle.definitions.specs.Conversion.{expand, adjoint, decompose};
 ghost use Rattle.definitions.specs.Family.{family};
-ghost use Rattle.laws.specs.Laws.{lists, Made, Returned, Agreed, HandedOut, Weighed};
+ghost use Rattle.laws.specs.Laws.{lists, Made, ThereAndBack, Agreed, HandedOut, Weighed};
 use definitions::Answer;
 
 // A way of Expand and of Decompose.
@@ -72,7 +72,7 @@ fn decompose_after_expand(
     returned: &mut [u32],
     work: &mut [u32],
 ) -> Answer
-    ensures { λ r. ⌜ Returned expand decompose first second (family m (now (a .entry)) (now (b .entry)) (now (c .entry))) (now (curve .entry)) r
+    ensures { λ r. ⌜ ThereAndBack expand decompose first second (family m (now (a .entry)) (now (b .entry)) (now (c .entry))) (now (curve .entry)) r
         (now (expanded .entry)) (now (expanded .exit)) (now (returned .entry)) (now (returned .exit)) (now (work .entry)) (now (work .exit)) ⌝ }
 {
     let answer = expand_by(first, m, a, b, c, curve, expanded, work);
@@ -95,7 +95,7 @@ fn expand_after_decompose(
     returned: &mut [u32],
     work: &mut [u32],
 ) -> Answer
-    ensures { λ r. ⌜ Returned decompose expand first second (family m (now (a .entry)) (now (b .entry)) (now (c .entry))) (now (coefficients .entry)) r
+    ensures { λ r. ⌜ ThereAndBack decompose expand first second (family m (now (a .entry)) (now (b .entry)) (now (c .entry))) (now (coefficients .entry)) r
         (now (decomposed .entry)) (now (decomposed .exit)) (now (returned .entry)) (now (returned .exit)) (now (work .entry)) (now (work .exit)) ⌝ }
 {
     let answer = decompose_by(first, m, a, b, c, coefficients, decomposed, work);

@@ -1,24 +1,15 @@
 -- The leaf of two rows.
---   Residues, LeafInput   what is handed to a sum of two products, and to the leaf
--- Proved: a sum of two products of residues fits 64 bits; the leaf's lists are written one after the other. Assumes nothing.
+--   LeafInput   what is handed to the leaf
+-- Proved: the leaf's lists are written one after the other. Assumes nothing.
 use mathlib.Core.Path.{_≡_, refl, _∙_, ap}
 use mathlib.Core.List.{List, [], _∷_, _++_}
 use Prim.Native.Nat.{ℕ, _+_, _*_, _%_, _≤_, _<_}
-use native.Mathlib.Nat.{add-zero, zero-add, mul-le-mul, mod-lt}
 use native.Mathlib.Omega.{arith}
 use lib.ListN.{length, set}
 use Rattle.definitions.specs.Family.{greatestModulus, rowOf}
 use Rattle.numbers.specs.Regions.{written, written-one, written-more, written-then}
 use Rattle.tree_model.specs.Tree.{leaf}
 use Rattle.subproduct.specs.Layout.{matrixList}
-
-pub record Residues (m s x y u v : ℕ) : Type 0 where
-  pub most : m ≤ greatestModulus
-  pub sBelow : s < m
-  pub xBelow : x < m
-  pub yBelow : y < m
-  pub uBelow : u < m
-  pub vBelow : v < m
 
 pub record LeafInput (m : ℕ) (w : List ℕ) (at pa pb pc qa qb qc : ℕ) : Type 0 where
   pub most : m ≤ greatestModulus
@@ -29,22 +20,6 @@ pub record LeafInput (m : ℕ) (w : List ℕ) (at pa pb pc qa qb qc : ℕ) : Typ
   pub qaBelow : qa < m
   pub qbBelow : qb < m
   pub qcBelow : qc < m
-
--- ---- sums
-pub product-small : (m x y : ℕ) → m ≤ greatestModulus → x < m → y < m → x * y ≤ 4611686009837453316
-product-small m x y h p q = mul-le-mul {n₂ = 2147483646} {m₂ = 2147483646} (omega arith) (omega arith)
-
-pub record SmallProducts (m s x y u v : ℕ) : Type 0 where
-  pub first : x * y ≤ 4611686009837453316
-  pub second : u * v ≤ 4611686009837453316
-  pub remainder : (t : ℕ) → t % m < m
-
-pub products-small : {m s x y u v : ℕ} → Residues m s x y u v → SmallProducts m s x y u v
-products-small {m} {s} {x} {y} {u} {v} h = record {
-  first = product-small m x y (h .most) (h .xBelow) (h .yBelow);
-  second = product-small m u v (h .most) (h .uBelow) (h .vBelow);
-  remainder = λ t. mod-lt t (omega (arith, h .sBelow));
-}
 
 -- ---- a leaf
 pub three-written : (w : List ℕ) (at x y z : ℕ) → at + 3 ≤ length w
@@ -57,8 +32,8 @@ three-written w at x y z h =
 -- four lists of three numbers, one after the other
 module _ {m : ℕ} {w : List ℕ} {at pa pb pc qa qb qc : ℕ} (input : LeafInput m w at pa pb pc qa qb qc) where
   pub leaf-written : {b0 b1 c0 c1 c2 : ℕ} {w₁ w₂ w₃ w₄ : List ℕ}
-      → b0 ≡ (0 + qb * pc + 0 * 0) % m → b1 ≡ (0 + qa * pc + 0 * 0) % m
-      → c0 ≡ (qc + qb * pb + 0 * 0) % m → c1 ≡ (0 + qb * pa + qa * pb) % m → c2 ≡ (0 + qa * pa + 0 * 0) % m
+      → b0 ≡ (0 + qb * pc + 0 * 0 + 0 * 0) % m → b1 ≡ (0 + qa * pc + 0 * 0 + 0 * 0) % m
+      → c0 ≡ (qc + qb * pb + 0 * 0 + 0 * 0) % m → c1 ≡ (0 + qb * pa + qa * pb + 0 * 0) % m → c2 ≡ (0 + qa * pa + 0 * 0 + 0 * 0) % m
       → w₁ ≡ written w at (pc ∷ 0 ∷ 0 ∷ []) → w₂ ≡ written w₁ (at + 3) (pb ∷ pa ∷ 0 ∷ [])
       → w₃ ≡ written w₂ (at + 6) (b0 ∷ b1 ∷ 0 ∷ []) → w₄ ≡ written w₃ (at + 9) (c0 ∷ c1 ∷ c2 ∷ [])
       → w₄ ≡ written w at (matrixList (leaf m (rowOf pa pb pc) (rowOf qa qb qc)))
@@ -81,9 +56,15 @@ module _ {m : ℕ} {w : List ℕ} {at pa pb pc qa qb qc : ℕ} (input : LeafInpu
         alone (qb * pc),
         alone (qa * pc),
         alone (qa * pa),
-        add-zero (qc + qb * pb),
-        zero-add (qb * pa),
+        ended (qc + qb * pb),
+        both (qb * pa) (qa * pb),
       )
     where
-      alone : (x : ℕ) → 0 + x + 0 * 0 ≡ x
+      alone : (x : ℕ) → 0 + x + 0 * 0 + 0 * 0 ≡ x
       alone x = omega arith
+
+      ended : (x : ℕ) → x + 0 * 0 + 0 * 0 ≡ x
+      ended x = omega arith
+
+      both : (x y : ℕ) → 0 + x + y + 0 * 0 ≡ x + y
+      both x y = omega arith

@@ -9,7 +9,7 @@ ghost use Rattle.lists.specs.Lent.{lent};
 ghost use Rattle.numbers.specs.Regions.{written};
 ghost use Rattle.tree_model.specs.Tree.{padded, leaf, join, expandPair, adjointPair};
 ghost use Rattle.subproduct.specs.Layout.{Level, Halved, treeList, matrixList, pairList, matrixAt, pairAt, listsAt};
-ghost use Rattle.subproduct.specs.Leaf.{Residues, LeafInput};
+ghost use Rattle.subproduct.specs.Leaf.{LeafInput};
 ghost use Rattle.subproduct.specs.Join.{ExpandPlaces, JoinPlaces};
 ghost use Rattle.subproduct.specs.Build.{BuildInput};
 ghost use Rattle.subproduct.specs.Climb.{ClimbInput, ClimbOutput};
@@ -18,6 +18,7 @@ ghost use Rattle.subproduct.specs.AdjointPair.{AdjointPlaces};
 use lists::row_entry;
 use products::add_products;
 use products::transposed_sum;
+use residue::combine;
 
 // The numbers that each half of the stored tree over pairs pairs of rows takes, where there are two pairs at least.
 fn half_size(level: usize, pairs: usize) -> usize
@@ -25,14 +26,6 @@ fn half_size(level: usize, pairs: usize) -> usize
     ensures { λ r. ⌜ Halved level pairs r ⌝ }
 {
     4 * pairs * (level + 1) - 4
-}
-
-// s + x y + u v modulo m.
-fn combine(m: u32, s: u32, x: u32, y: u32, u: u32, v: u32) -> u32
-    requires { ⌜ Residues m s x y u v ⌝ }
-    ensures { λ r. ⌜ r ≡ (s + x * y + u * v) % m ⌝ }
-{
-    (((s as u64) + (x as u64) * (y as u64) + (u as u64) * (v as u64)) % (m as u64)) as u32
 }
 
 fn store_three(w: &mut [u32], at: usize, x: u32, y: u32, z: u32)
@@ -61,11 +54,12 @@ fn write_leaf(
     requires { ⌜ LeafInput m (now w) at pa pb pc qa qb qc ⌝ }
     ensures { λ _. ⌜ now (w .exit) ≡ written (now (w .entry)) at (matrixList (leaf m (rowOf pa pb pc) (rowOf qa qb qc))) ⌝ }
 {
-    let b0 = combine(m, 0, qb, pc, 0, 0);
-    let b1 = combine(m, 0, qa, pc, 0, 0);
-    let c0 = combine(m, qc, qb, pb, 0, 0);
-    let c1 = combine(m, 0, qb, pa, qa, pb);
-    let c2 = combine(m, 0, qa, pa, 0, 0);
+    let reciprocal = reduction::reciprocal(m);
+    let b0 = combine(m, reciprocal, 0, qb, pc, 0, 0, 0, 0);
+    let b1 = combine(m, reciprocal, 0, qa, pc, 0, 0, 0, 0);
+    let c0 = combine(m, reciprocal, qc, qb, pb, 0, 0, 0, 0);
+    let c1 = combine(m, reciprocal, 0, qb, pa, qa, pb, 0, 0);
+    let c2 = combine(m, reciprocal, 0, qa, pa, 0, 0, 0, 0);
     store_three(w, at, pc, 0, 0);
     store_three(w, at + 3, pb, pa, 0);
     store_three(w, at + 6, b0, b1, 0);

@@ -1,7 +1,7 @@
 -- `curve_entries` answers the verdict of test 12 of a curve. Assumes nothing.
 use mathlib.Core.Logic.{Iff·rfl}
 use Rattle.checks.specs.Settling.{refuses-alone, finishes}
-use Rattle.checks.specs.Rows.{all-below, one-not-below}
+use Rattle.checks.specs.RowTests.{all-below, one-not-below}
 use borrow.Author.Needs.{needs}
 use Rattle.checks.proofs.curve_entries.Statement.{statement}
 use Rattle.checks.proofs.curve_entries.Tie as tie

@@ -1,7 +1,7 @@
 -- `family_rows` answers the verdict of tests 9, 10 and 11, the c from place 0 on. Assumes nothing.
 use Rattle.definitions.specs.Refusals.{familyRows}
 use Rattle.acceptance.specs.Stages.{all-remain, stage-refuses, stage-passes, stages-end}
-use Rattle.checks.specs.Rows.{inverseRows}
+use Rattle.checks.specs.RowTests.{inverseRows}
 use borrow.Author.Needs.{needs}
 use Rattle.checks.proofs.family_rows.Statement.{statement}
 use Rattle.checks.proofs.family_rows.Tie as tie

@@ -1,7 +1,7 @@
 -- `lacks_inverse` finds whether a number of the column has no inverse: a pass over the list, then the closing number. Assumes nothing.
 use native.Mathlib.Omega.{arith}
 use Rattle.residue.specs.Inversion.{inverted-found, inverted-absent, found-has}
-use Rattle.checks.specs.Rows.{all-invertible, one-without, lacks, column-inverted}
+use Rattle.checks.specs.RowTests.{all-invertible, one-without, lacks, column-inverted}
 use borrow.Author.Needs.{needs}
 use Rattle.checks.proofs.lacks_inverse.Statement.{statement}
 use Rattle.checks.proofs.lacks_inverse.Tie as tie

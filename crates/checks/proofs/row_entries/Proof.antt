@@ -4,7 +4,7 @@ use native.Mathlib.Omega.{arith}
 use lib.Seq.{length-take-le}
 use Rattle.definitions.specs.Refusals.{entriesTest}
 use Rattle.checks.specs.Settling.{refuses-alone, finishes}
-use Rattle.checks.specs.Rows.{all-below, one-not-below, entered-passes}
+use Rattle.checks.specs.RowTests.{all-below, one-not-below, entered-passes}
 use borrow.Author.Needs.{needs}
 use Rattle.checks.proofs.row_entries.Statement.{statement}
 use Rattle.checks.proofs.row_entries.Tie as tie

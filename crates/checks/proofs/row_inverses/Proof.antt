@@ -4,7 +4,7 @@ use mathlib.Core.Logic.{⊎-elim}
 use native.Mathlib.Omega.{arith}
 use lib.Seq.{length-take-le}
 use Rattle.residue.specs.Inversion.{inverted-found, found-has}
-use Rattle.checks.specs.Rows.{LackAnswer, a-refused, c-refused, inverses-pass, joint-passes}
+use Rattle.checks.specs.RowTests.{LackAnswer, a-refused, c-refused, inverses-pass, joint-passes}
 use borrow.Author.Needs.{needs}
 use Rattle.checks.proofs.row_inverses.Statement.{statement}
 use Rattle.checks.proofs.row_inverses.Tie as tie

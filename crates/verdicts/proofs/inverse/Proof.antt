@@ -7,7 +7,7 @@ use Rattle.acceptance.specs.Verdicts.{number-inverse-passes}
 use Rattle.residue.specs.Inversion.{inverted-found, inverted-absent, found-has}
 use Rattle.checks.specs.Settling.{refuses, finishes}
 use Rattle.checks.specs.Shape.{modulus-positive}
-use Rattle.checks.specs.Rows.{lacks}
+use Rattle.checks.specs.RowTests.{lacks}
 use borrow.Author.Needs.{needs}
 use Rattle.verdicts.proofs.inverse.Statement.{statement}
 use Rattle.verdicts.proofs.inverse.Tie as tie

@@ -2,7 +2,7 @@
 use Rattle.definitions.specs.Refusals.{momentsTests}
 use Rattle.acceptance.specs.Stages.{all-remain, stage-refuses, stage-passes, stages-end}
 use Rattle.checks.specs.Shape.{shaped}
-use Rattle.verdicts.specs.Whole.{moments-of-rows}
+use Rattle.verdicts.specs.WholeLists.{moments-of-rows}
 use borrow.Author.Needs.{needs}
 use Rattle.verdicts.proofs.moments.Statement.{statement}
 use Rattle.verdicts.proofs.moments.Tie as tie
