@@ -22,7 +22,7 @@ products::add_products        1  0  0
 inverses::of_list             2  2  2
 verdicts::rows                1  6  4
 subproduct::descend           1  0  0
-subproduct::build             2  0  0
+subproduct::build             1  0  0
 tree::expand                  1  1  0
 tree::adjoint                 2  0  0
 moment_way::moments           1  0  0
