@@ -2,17 +2,16 @@
 --   PlainInput, TreeInput, MomentsInput, NormsInput, InverseInput
 --                 what a call of that kind accepts: of family, curve, number, output and working list
 -- Proved: none of a call's tests holds (`-passes`), and its verdict is finished (`-finished`), if and only if its input is of that
--- kind; each row of an accepted family passes, the rows past its end as well; an accepted family is convertible; the greatest modulus is taken.
+-- kind; an accepted family is convertible; the greatest modulus is taken.
 -- Assumes nothing.
 use mathlib.Core.Path.{_≡_, refl}
 use mathlib.Core.List.{List, [], _∷_, _++_}
-use mathlib.Core.Logic.{_↔_, Iff·trans, by-cases}
+use mathlib.Core.Logic.{_↔_, Iff·trans}
 use Prim.Native.Nat.{ℕ, zero, suc, _<_, _≤_}
-use native.Mathlib.Decide.{decLt}
 use native.Mathlib.Omega.{arith}
-use lib.ListN.{length, getD, List·getD-eq-default}
+use lib.ListN.{length, getD}
 use Rattle.definitions.specs.Number.{HasInverse}
-use Rattle.definitions.specs.Family.{Family, Modulus, RowBelow, Accepted, Convertible, Curve}
+use Rattle.definitions.specs.Family.{Family, Modulus, Accepted, Convertible, Curve}
 use Rattle.definitions.specs.Family.{greatestModulus, firstC, ones, family, rows, rowAt, size}
 use Rattle.definitions.specs.Orthogonality.{momentCount}
 use Rattle.definitions.specs.Refusals.{Test, finished, verdict, workLength, curveLengthTest, outputTest}
@@ -23,30 +22,12 @@ use Rattle.acceptance.specs.Verdicts.{None, none-append, verdict-finishe
 use Rattle.acceptance.specs.Verdicts.{entries-pass, a-inverses-pass, c-inverses-pass, curve-length-passes}
 use Rattle.acceptance.specs.Verdicts.{curve-entries-pass, output-passes, work-passes, number-passes, number-inverse-passes}
 
--- rows past the end are the closing row, which is row n
-module _ (f : Family) (acc : Accepted f) where
-  pub row-closing : (i : ℕ) → rows f ≤ i → rowAt f i ≡ f .close
-  unfolding rowAt
-  row-closing i h =
-      let lb : length (f .b) ≡ rows f = acc .bLength in
-      let lc : length (f .c) ≡ rows f = acc .cLength in
-      rw (
-        List·getD-eq-default (f .a) (f .close .a) {n = i} h,
-        List·getD-eq-default (f .b) (f .close .b) {n = i} (omega arith),
-        List·getD-eq-default (f .c) (f .close .c) {n = i} (omega arith),
-      )
-
-  pub row-below : (i : ℕ) → RowBelow (f .m) (rowAt f i)
-  row-below i = by-cases (decLt i (size f)) (acc .below i)
-      (λ n. rw (row-closing i (omega arith), ← row-closing (rows f) (omega arith)) (acc .below (rows f) (omega arith)))
-
-  pub accepted-convertible : Convertible f
-  accepted-convertible =
-      record {
-        modulus = acc .modulus .least;
-        aInverse = acc .aInverse;
-        cInverse = λ i h. acc .cInverse (suc i) (omega arith) (omega arith);
-      }
+pub accepted-convertible : (f : Family) → Accepted f → Convertible f
+accepted-convertible f acc = record {
+  modulus = acc .modulus .least;
+  aInverse = acc .aInverse;
+  cInverse = λ i h. acc .cInverse (suc i) (omega arith) (omega arith);
+}
 
 pub curve-accepted : (f : Family) (u : List ℕ) → None (curveLengthTest (size f) (length u) ∷ curveEntriesTest f u ∷ []) ↔ Curve f u
 curve-accepted f u = (

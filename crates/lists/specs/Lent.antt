@@ -4,6 +4,7 @@
 --   LentRows m r a b c     the first r rows are there and below m, and m is a modulus
 -- Proved: it has r rows, each that of the lists, and from place r on the closing row; the family of three lists of one length is all their rows
 -- closed by 1 1 1; where the family is accepted, its rows are lent as they must be, and which of its numbers have inverses.
+-- That the closing row's a and c have inverses is for calls that are lent one.
 -- Assumes nothing.
 use mathlib.Core.Path.{_≡_, ap}
 use mathlib.Core.List.{List}
