@@ -34,6 +34,7 @@
  *     zahupnik_tree_decompose   11264
  *     zahupnik_moments           8704
  *     zahupnik_convert_text     15360
+ *     zahupnik_write_job          512
  *
  * Build the library with `rt staticlib zahupnik` and link target/staticlib/libzahupnik.a; it is for x86-64 Linux. The functions
  * are proved to do this on every input (crates/zahupnik); that these declarations fit them is tested (tests/library).
@@ -53,15 +54,24 @@ extern "C" {
 #define ZAHUPNIK_LEAST_WORK 16384
 #define ZAHUPNIK_MOST_TEXT 8192
 #define ZAHUPNIK_LEAST_TEXT_OUTPUT 4096
+#define ZAHUPNIK_LEAST_JOB_OUTPUT 8192
+
+/* The operations of a job, as zahupnik_write_job is told them. */
+#define ZAHUPNIK_EXPAND 0
+#define ZAHUPNIK_ADJOINT 1
+#define ZAHUPNIK_DECOMPOSE 2
+#define ZAHUPNIK_MOMENTS 3
+#define ZAHUPNIK_NORMS 4
 
 #define ZAHUPNIK_FINISHED 0
 #define ZAHUPNIK_TEXT_TOO_LONG 1  /* the job text has more than ZAHUPNIK_MOST_TEXT bytes */
-#define ZAHUPNIK_TEXT_FORM 2      /* the job text is not of the form */
+#define ZAHUPNIK_TEXT_FORM 2      /* the job text is not of the form; or no job text has this operation */
 #define ZAHUPNIK_MODULUS 3        /* m is below 2 or above ZAHUPNIK_GREATEST_MODULUS */
 #define ZAHUPNIK_LENGTHS 4        /* the lists a, b and c are not equally long */
 #define ZAHUPNIK_ROWS 5           /* there are more than ZAHUPNIK_MOST_ROWS rows */
 #define ZAHUPNIK_CURVE_LENGTH 6   /* the curve, or the list of coefficients, is not n long; or not empty in a job for moments or norms */
-#define ZAHUPNIK_OUTPUT_LENGTH 7  /* the output is not as long as the result, or shorter than ZAHUPNIK_LEAST_TEXT_OUTPUT bytes for a text */
+#define ZAHUPNIK_OUTPUT_LENGTH 7  /* the output is not as long as the result; or shorter than ZAHUPNIK_LEAST_TEXT_OUTPUT bytes for an
+                                   * answer text, than ZAHUPNIK_LEAST_JOB_OUTPUT for a job text */
 #define ZAHUPNIK_WORK_TOO_SHORT 8 /* the working list is shorter than ZAHUPNIK_LEAST_WORK */
 #define ZAHUPNIK_ENTRY 9          /* an entry of a, b or c is not below m */
 #define ZAHUPNIK_A_INVERSE 10     /* some a has no inverse modulo m */
@@ -135,6 +145,16 @@ uint32_t zahupnik_moments(uint32_t m, const uint32_t *a, size_t a_length, const 
  * Refuses with 1 2 3 4 5 6 7 8 9 10 11 12. */
 uint32_t zahupnik_convert_text(const uint8_t *text, size_t text_length, uint8_t *output, size_t output_length, uint32_t *work,
                                size_t work_length, uint32_t *length);
+
+/* Writes a job: output becomes the job text that says m, the rows, the operation (one of ZAHUPNIK_EXPAND to ZAHUPNIK_NORMS) and the
+ * curve, in the form that zahupnik_convert_text takes, and *length its length, 5635 at most. What output holds past the text is
+ * untouched. A job that is written is carried out: zahupnik_convert_text, lent what it asks for, finishes on the text, and its
+ * answer is that operation's result on these very lists. The text has no zero byte at its end.
+ * Lengths: a, b, c r; curve n, and 0 for ZAHUPNIK_MOMENTS and ZAHUPNIK_NORMS; output ZAHUPNIK_LEAST_JOB_OUTPUT or more.
+ * Refuses with 2 3 4 5 6 7 9 10 11 12. It is 2 if the operation is none of the five. */
+uint32_t zahupnik_write_job(uint32_t m, const uint32_t *a, size_t a_length, const uint32_t *b, size_t b_length,
+                            const uint32_t *c, size_t c_length, uint32_t operation, const uint32_t *curve, size_t curve_length,
+                            uint8_t *output, size_t output_length, uint32_t *length);
 
 #ifdef __cplusplus
 }
