@@ -10,6 +10,7 @@
 --   Text          the job text, the answer text and the refusal text, each by its writer; the job that a written job means
 --   Reading       how a job text is read
 --   TextCall      the tests of the text call in their order, what it hands out, and its promise
+--   JobWriting    the tests of the call that writes a job text in their order, and its promise
 --   Printing      what the program prints for the bytes that it reads
 --   TextExamples  the paper's job and its answer byte for byte, texts that are refused, and what is printed for each, computed
 --   RefusalExamples  every fault at once, and then one after another mended, computed
@@ -25,6 +26,7 @@ pub mod Figures
 pub mod Text
 pub mod Reading
 pub mod TextCall
+pub mod JobWriting
 pub mod Printing
 pub mod TextExamples
 pub mod RefusalExamples

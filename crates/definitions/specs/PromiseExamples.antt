@@ -1,7 +1,7 @@
 -- What the promises of the calls say of the paper's R and of its job, by computation: the one outcome that each allows.
--- plain-outcome, tree-outcome, norms-outcome, moments-outcome and text-outcome: the answer, the list or the text with what the output held
--- after it, and of a working list 16,384 zeros and then what it held. plain-refusal, tree-refusal and text-refusal: the number, and every list
--- as it was. Each is allowed, and the claims that end in -only say that there is no other.
+-- plain-outcome, tree-outcome, norms-outcome, moments-outcome, text-outcome and job-outcome: the answer, the list or the text with what the
+-- output held after it, and of a working list 16,384 zeros and then what it held. plain-refusal, tree-refusal, text-refusal and job-refusal:
+-- the number, and every list as it was. Each is allowed, and the claims that end in -only say that there is no other.
 -- Assumes nothing.
 use mathlib.Core.Path.{_≡_, refl, _∙_, ap}
 use mathlib.Core.List.{List, [], _∷_, _++_}
@@ -12,9 +12,11 @@ use Rattle.definitions.specs.Orthogonality.{moments, norms}
 use Rattle.definitions.specs.Refusals.{finished, refused, treeTests}
 use Rattle.definitions.specs.Answers.{answered, valued, after, cleared, PlainCall, TreeCall, NormsCall, MomentsCall}
 use Rattle.definitions.specs.Figures.{handed, R}
-use Rattle.definitions.specs.Text.{bytes}
+use Rattle.definitions.specs.Text.{bytes, jobText}
 use Rattle.definitions.specs.TextCall.{reply, TextConverted}
-use Rattle.definitions.specs.TextExamples.{verdictOn, paperText}
+use Rattle.definitions.specs.JobWriting.{writingTests, JobWritten}
+use Rattle.definitions.specs.TextExamples.{verdictOn, paperJob, paperJobWith, paperText}
+use Rattle.definitions.specs.declared.Operation.{Operation}
 use Rattle.definitions.specs.declared.Answer.{Answer}
 use Rattle.definitions.specs.declared.Valued.{Valued}
 
@@ -134,3 +136,32 @@ text-outcome-only r output′ work′ p = (
   p .written ∙ ap (λ v. after v (reply (bytes paperText) ++ drop (length (reply (bytes paperText))) page) page) (p .answer),
   p .wiped ∙ ap (λ v. after v (cleared work) work) (p .answer),
 )
+
+-- an output for a job text that is one byte longer than it must be, and the paper's job written into it
+abbrev pub sheet : List ℕ
+sheet = replicate 8193 120
+
+abbrev pub filled : List ℕ
+filled = bytes paperText ++ replicate 8151 120
+
+pub job-outcome : JobWritten paperJob (Valued.Value 42) sheet filled
+unfolding verdictOn jobText writingTests
+job-outcome = record { answer = refl; written = refl }
+
+pub job-outcome-only : (r : Valued) (output′ : List ℕ) → JobWritten paperJob r sheet output′
+    → (valued r ≡ finished (42 ∷ [])) × (output′ ≡ filled)
+unfolding verdictOn jobText writingTests
+job-outcome-only r output′ p =
+    (p .answer, p .written ∙ ap (λ v. after v (jobText paperJob ++ drop (length (jobText paperJob)) sheet) sheet) (p .answer))
+
+-- the same with an entry that is not below 7
+pub job-refusal : JobWritten (paperJobWith Operation.Expand past) (Valued.Refused 12) sheet sheet
+unfolding verdictOn jobText writingTests
+job-refusal = record { answer = refl; written = refl }
+
+pub job-refusal-only : (r : Valued) (output′ : List ℕ) → JobWritten (paperJobWith Operation.Expand past) r sheet output′
+    → (valued r ≡ refused 12) × (output′ ≡ sheet)
+unfolding verdictOn jobText writingTests
+job-refusal-only r output′ p =
+    let text = jobText (paperJobWith Operation.Expand past) in
+    (p .answer, p .written ∙ ap (λ v. after v (text ++ drop (length text) sheet) sheet) (p .answer))

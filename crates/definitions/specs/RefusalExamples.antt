@@ -2,10 +2,11 @@
 --   Lent            what a call is lent: a family, a curve, and how long its output and its working list are
 --   mended output   inputs whose faults are all from 3 on, then from 4 on, and so on to none; the output must be as long as stated
 --   number v        the number of a verdict, and 0 for a finished one
--- plain-order, tree-order, moments-order, norms-order and text-order: the number that each input gives. So no test of a call is left out,
+-- plain-order, tree-order, moments-order, norms-order, text-order and writing-order: the number that each input gives. So no test of a call is left out,
 -- none stands before one of a lower number, and each condition holds where it must; a test that a call skips gives way to the next.
 -- closing-order: the tests on rows look at the closing row. c-from: from which row on 11 looks at the c.
 -- curves-asked: which operations of a job take a curve, and which none. greatest-written: the greatest modulus in a text, and one more.
+-- outputs-asked: the outputs that the call that writes a job takes.
 -- Assumes nothing.
 use mathlib.Core.Path.{_≡_, refl}
 use mathlib.Core.Bool.{true, false}
@@ -17,8 +18,9 @@ use Rattle.definitions.specs.Family.{Row, Family, family, rowOf}
 use Rattle.definitions.specs.Refusals.{Test, Verdict, finished, refused, verdict, workLength, cInverseTest, familyRows}
 use Rattle.definitions.specs.Refusals.{plainTests, treeTests, momentsTests, normsTests}
 use Rattle.definitions.specs.Figures.{handed, R}
-use Rattle.definitions.specs.Text.{bytes, WrittenJob, jobText}
+use Rattle.definitions.specs.Text.{bytes, WrittenJob, meant, jobText}
 use Rattle.definitions.specs.TextCall.{textOutputLength, textTests}
+use Rattle.definitions.specs.JobWriting.{jobOutputLength, writtenJob, writingTests}
 use Rattle.definitions.specs.TextExamples.{verdictOn}
 use Rattle.definitions.specs.declared.Operation.{Operation}
 
@@ -102,7 +104,7 @@ unfolding handed
 c-from = refl
 
 abbrev pub written : Operation → Family → List ℕ → WrittenJob
-written operation f u = record { modulus = f .m; a = f .a; b = f .b; c = f .c; operation = operation; curve = u }
+written operation f u = writtenJob (f .m) (f .a) (f .b) (f .c) operation u
 
 -- a longer output is taken
 pub text-order : numbers (λ x. textTests (jobText (written Operation.Expand (x .family) (x .curve))) (x .output) (x .work)) textOutputLength
@@ -110,16 +112,31 @@ pub text-order : numbers (λ x. textTests (jobText (written Operation.Expand (x 
 unfolding verdictOn jobText
 text-order = refl
 
--- each operation on R, without a curve and with one
+-- the same of the call that writes the job
+pub writing-order : numbers (λ x. writingTests (meant (written Operation.Expand (x .family) (x .curve))) (x .output)) jobOutputLength
+    ≡ 3 ∷ 4 ∷ 4 ∷ 4 ∷ 5 ∷ 6 ∷ 6 ∷ 7 ∷ 9 ∷ 9 ∷ 9 ∷ 9 ∷ 9 ∷ 10 ∷ 11 ∷ 12 ∷ 0 ∷ []
+unfolding verdictOn writingTests
+writing-order = refl
+
+pub outputs-asked : map (λ output. number (verdict (writingTests (meant (written Operation.Norms R [])) output) []))
+    (0 ∷ 4096 ∷ 8191 ∷ 8192 ∷ 8193 ∷ []) ≡ 7 ∷ 7 ∷ 7 ∷ 0 ∷ 0 ∷ []
+unfolding verdictOn writingTests
+outputs-asked = refl
+
+-- each operation on R, without a curve and with one: of its text, and of the call that writes it
 abbrev pub operations : List Operation
 operations = Operation.Expand ∷ Operation.Adjoint ∷ Operation.Decompose ∷ Operation.Moments ∷ Operation.Norms ∷ []
 
 abbrev pub askedOf : List ℕ → List ℕ
 askedOf u = map (λ o. number (verdict (textTests (jobText (written o R u)) textOutputLength workLength) [])) operations
 
+abbrev pub askedToWrite : List ℕ → List ℕ
+askedToWrite u = map (λ o. number (verdict (writingTests (meant (written o R u)) jobOutputLength) [])) operations
+
 pub curves-asked : (askedOf [] ≡ 6 ∷ 6 ∷ 6 ∷ 0 ∷ 0 ∷ []) × (askedOf (3 ∷ 0 ∷ 1 ∷ []) ≡ 0 ∷ 0 ∷ 0 ∷ 6 ∷ 6 ∷ [])
-unfolding verdictOn jobText
-curves-asked = (refl, refl)
+    × (askedToWrite [] ≡ 6 ∷ 6 ∷ 6 ∷ 0 ∷ 0 ∷ []) × (askedToWrite (3 ∷ 0 ∷ 1 ∷ []) ≡ 0 ∷ 0 ∷ 0 ∷ 6 ∷ 6 ∷ [])
+unfolding verdictOn jobText writingTests
+curves-asked = (refl, refl, refl, refl)
 
 -- no curve, so that 6 is given before an inverse is searched for
 abbrev pub ofModulus : String → List ℕ

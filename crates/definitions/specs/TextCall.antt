@@ -40,14 +40,14 @@ curveCount Operation.Decompose r = suc r
 curveCount Operation.Moments r = 0
 curveCount Operation.Norms r = 0
 
--- the writer of the station's program
-unfoldable pub textOutputTest : ℕ → Test
-textOutputTest output = test 7 (ltb output textOutputLength)
+-- the writer of the station's program: a text is lent so many bytes at least
+unfoldable pub textOutputTest : ℕ → ℕ → Test
+textOutputTest least output = test 7 (ltb output least)
 
 unfoldable pub jobTests : Job → ℕ → ℕ → List Test
 jobTests j output work =
     familyShape (j .family)
-    ++ (curveLengthTest (curveCount (j .operation) (rows (j .family))) (length (j .curve)) ∷ textOutputTest output ∷ workTest work
+    ++ (curveLengthTest (curveCount (j .operation) (rows (j .family))) (length (j .curve)) ∷ textOutputTest textOutputLength output ∷ workTest work
     ∷ (familyRows (j .family)
     ++ (curveEntriesTest (j .family) (j .curve) ∷ [])))
 

@@ -2,8 +2,9 @@
 --   verdictOn   what the text call hands out on a text and two lengths: its verdict, with the answer text's bytes as the values
 --   samples     each text, with the lengths of output and working list, beside what it must hand out
 --   printouts   texts beside what the program must print for them, each number that it can give once
--- samples-hold and printouts-hold: every row of the table is right. job-written and job-read: the paper's job is written and read so.
--- bytes-counted and rows-counted: where 1 and 5 begin.
+--   jobs        jobs beside their texts, of each operation and of no rows
+-- samples-hold, printouts-hold and jobs-written: every row of the table is right. job-written and job-read: the paper's job is written
+-- and read so. bytes-counted and rows-counted: where 1 and 5 begin.
 -- Assumes nothing.
 use mathlib.Core.Path.{_≡_, refl}
 use mathlib.Core.List.{List, [], _∷_, map}
@@ -18,11 +19,16 @@ use Rattle.definitions.specs.Reading.{found, readKey, isDigit, readDigit
 use Rattle.definitions.specs.Reading.{readNumbers, readName, ended, readLine, readLines, readJob}
 use Rattle.definitions.specs.TextCall.{textOutputLength, textLengthTest, curveCount, textOutputTest, jobTests}
 use Rattle.definitions.specs.TextCall.{formTests, textTests, converted, result, replyTo, reply}
+use Rattle.definitions.specs.JobWriting.{writtenJob}
 use Rattle.definitions.specs.Printing.{shown, printed}
 use Rattle.definitions.specs.declared.Operation.{Operation}
 
+-- the paper's job, and the same with another operation and another curve
+abbrev pub paperJobWith : Operation → List ℕ → WrittenJob
+paperJobWith operation u = writtenJob 7 (1 ∷ 2 ∷ []) (0 ∷ 3 ∷ []) (1 ∷ 5 ∷ []) operation u
+
 abbrev pub paperJob : WrittenJob
-paperJob = record { modulus = 7; a = 1 ∷ 2 ∷ []; b = 0 ∷ 3 ∷ []; c = 1 ∷ 5 ∷ []; operation = Operation.Expand; curve = 3 ∷ 0 ∷ 1 ∷ [] }
+paperJob = paperJobWith Operation.Expand (3 ∷ 0 ∷ 1 ∷ [])
 
 abbrev pub paperText : String
 paperText = "mod=7\na=1 2\nb=0 3\nc=1 5\nop=expand\nv=3 0 1\n"
@@ -35,6 +41,30 @@ pub job-read : readJob (bytes paperText) ≡ found paperJob
 unfolding name readKey isDigit readDigits readNumber readOn readSome readNumbers readName ended readLine readLines readJob
 job-read = refl
 
+-- ---- what is written
+pub record Written : Type 0 where
+  pub job : WrittenJob
+  pub text : String
+
+infix 80 _reads_
+abbrev _reads_ : WrittenJob → String → Written
+job reads text = record { job = job; text = text }
+
+abbrev pub jobs : List Written
+jobs =
+    paperJobWith Operation.Adjoint (1 ∷ 3 ∷ 2 ∷ []) reads "mod=7\na=1 2\nb=0 3\nc=1 5\nop=adjoint\nv=1 3 2\n"
+    ∷ paperJobWith Operation.Decompose (1 ∷ 3 ∷ 2 ∷ []) reads "mod=7\na=1 2\nb=0 3\nc=1 5\nop=decompose\nv=1 3 2\n"
+    ∷ paperJobWith Operation.Moments [] reads "mod=7\na=1 2\nb=0 3\nc=1 5\nop=moments\nv=\n"
+    ∷ paperJobWith Operation.Norms [] reads "mod=7\na=1 2\nb=0 3\nc=1 5\nop=norms\nv=\n"
+    ∷ writtenJob 2147483647 [] [] [] Operation.Expand (2147483646 ∷ []) reads "mod=2147483647\na=\nb=\nc=\nop=expand\nv=2147483646\n"
+    ∷ writtenJob 1001 (100 ∷ []) (0 ∷ []) (10 ∷ []) Operation.Adjoint (9 ∷ 1000 ∷ []) reads "mod=1001\na=100\nb=0\nc=10\nop=adjoint\nv=9 1000\n"
+    ∷ []
+
+pub jobs-written : map (λ j. jobText (j .job)) jobs ≡ map (λ j. bytes (j .text)) jobs
+unfolding decimalWithin decimal spaced numbers line name jobText
+jobs-written = refl
+
+-- ---- what is answered
 pub record Sample : Type 0 where
   pub text : String
   pub output : ℕ
@@ -89,7 +119,7 @@ samples-hold = refl
 
 -- 8,192 bytes are looked at and 8,193 are not; 127 rows pass test 5, so that the missing curve gives 6, and 128 do not
 abbrev pub rowsOf : ℕ → WrittenJob
-rowsOf r = record { modulus = 7; a = replicate r 1; b = replicate r 0; c = replicate r 1; operation = Operation.Expand; curve = [] }
+rowsOf r = writtenJob 7 (replicate r 1) (replicate r 0) (replicate r 1) Operation.Expand []
 
 pub bytes-counted : (verdictOn (replicate 8192 48) textOutputLength workLength ≡ refused 2)
     × (verdictOn (replicate 8193 48) textOutputLength workLength ≡ refused 1)

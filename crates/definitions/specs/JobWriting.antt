@@ -1,0 +1,36 @@
+-- Writing a job text from a modulus, lists and an operation: the tests in their order, and what the call promises on every input.
+--   writtenJob             what is to stand in the text
+--   writingTests j output  the tests over the job that is meant and the length of the output
+--   JobWritten             the promise: the answer is the length of the text written, or a refusal
+-- The tests are those that the text call makes of a job, but for its working list, which is not lent here, and for the output, which is
+-- longer: so what is written is carried out. Request 1 of the change requests. Assumes nothing.
+use mathlib.Core.Path.{_≡_}
+use mathlib.Core.List.{List, [], _∷_, _++_}
+use Prim.Native.Nat.{ℕ}
+use lib.ListN.{length, drop}
+use Rattle.definitions.specs.Family.{rows}
+use Rattle.definitions.specs.Refusals.{Test, verdict, curveLengthTest, curveEntriesTest, familyShape, familyRows}
+use Rattle.definitions.specs.Answers.{valued, after}
+use Rattle.definitions.specs.Text.{WrittenJob, Job, meant, jobText}
+use Rattle.definitions.specs.TextCall.{curveCount, textOutputTest}
+use Rattle.definitions.specs.declared.Operation.{Operation}
+use Rattle.definitions.specs.declared.Valued.{Valued}
+
+abbrev pub jobOutputLength : ℕ
+jobOutputLength = 8192
+
+abbrev pub writtenJob : ℕ → List ℕ → List ℕ → List ℕ → Operation → List ℕ → WrittenJob
+writtenJob m a b c operation u = record { modulus = m; a = a; b = b; c = c; operation = operation; curve = u }
+
+unfoldable pub writingTests : Job → ℕ → List Test
+writingTests j output =
+    familyShape (j .family)
+    ++ (curveLengthTest (curveCount (j .operation) (rows (j .family))) (length (j .curve))
+    ∷ textOutputTest jobOutputLength output
+    ∷ (familyRows (j .family)
+    ++ (curveEntriesTest (j .family) (j .curve) ∷ [])))
+
+-- w: what is to be written; r: the answer; output and output′: the output before and after
+pub record JobWritten (w : WrittenJob) (r : Valued) (output output′ : List ℕ) : Type 0 where
+  pub answer : valued r ≡ verdict (writingTests (meant w) (length output)) (length (jobText w) ∷ [])
+  pub written : output′ ≡ after (valued r) (jobText w ++ drop (length (jobText w)) output) output
