@@ -3,8 +3,10 @@
 --   Stages       how a call makes its tests stage by stage
 --   Given        which numbers its tests can give
 --   Acceptance   what a call that finishes has been lent
+--   Jobs         what a job says that is written, or carried out
 -- Assumes nothing.
 pub mod Verdicts
 pub mod Stages
 pub mod Given
 pub mod Acceptance
+pub mod Jobs

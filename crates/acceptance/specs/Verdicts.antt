@@ -20,6 +20,7 @@ use Rattle.definitions.specs.Family.{Row, Family, Modulus, RowBelow, mostRows, 
 use Rattle.definitions.specs.Refusals.{Test, Verdict, finished, refused, verdict, some, someFrom, someRow, differ, notBelow, noInverse}
 use Rattle.definitions.specs.Refusals.{workLength, modulusTest, lengthsTest, rowCountTest, curveLengthTest, outputTest, workTest}
 use Rattle.definitions.specs.Refusals.{entriesTest, aInverseTest, cInverseTest, curveEntriesTest, numberTest, numberInverseTest}
+use Rattle.definitions.specs.TextCall.{textOutputTest}
 use Rattle.numbers.specs.Inverse.{inverse-right}
 use Rattle.numbers.specs.Lists.{Each}
 
@@ -195,6 +196,10 @@ modulus-passes m = simp (or-false, ltb-fails)
 pub output-passes : (wanted output : ℕ) → (outputTest wanted output .holds ≡ false) ↔ (output ≡ wanted)
 unfolding outputTest
 output-passes wanted output = differ-false output wanted
+
+pub text-output-passes : (least output : ℕ) → (textOutputTest least output .holds ≡ false) ↔ (least ≤ output)
+unfolding textOutputTest
+text-output-passes least output = ltb-fails output least
 
 pub work-passes : (work : ℕ) → (workTest work .holds ≡ false) ↔ (workLength ≤ work)
 unfolding workTest

@@ -174,11 +174,11 @@ pub fn output_length(wanted: usize, output: usize) -> Answer
     Answer::Finished
 }
 
-// 7 of a text: the length of its output.
-pub fn text_output_length(output: usize) -> Answer
-    ensures { λ r. ⌜ answered r ≡ verdict (textOutputTest output ∷ []) [] ⌝ }
+// 7 of a text: its output has so many bytes at least.
+pub fn text_output_length(least: usize, output: usize) -> Answer
+    ensures { λ r. ⌜ answered r ≡ verdict (textOutputTest least output ∷ []) [] ⌝ }
 {
-    if output < 4096 {
+    if output < least {
         return Answer::Refused(7);
     }
     Answer::Finished

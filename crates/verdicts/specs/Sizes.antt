@@ -8,16 +8,15 @@ use mathlib.Core.List.{List, [], _∷_, _++_}
 use Prim.Native.Nat.{ℕ, suc, _≤_}
 use native.Mathlib.Omega.{arith}
 use lib.ListN.{length}
-use borrow.Author.Tests.{ltb-false}
 use Rattle.definitions.specs.Family.{Family, mostRows}
 use Rattle.definitions.specs.Refusals.{Test, workLength, curveLengthTest, workTest, curveEntriesTest, shapeTests, familyRows}
 use Rattle.definitions.specs.TextCall.{textOutputLength, curveCount, textOutputTest, jobTests}
 use Rattle.definitions.specs.declared.Operation.{Operation}
-use Rattle.acceptance.specs.Verdicts.{None, none-append, curve-length-passes, work-passes}
+use Rattle.acceptance.specs.Verdicts.{None, none-append, curve-length-passes, text-output-passes, work-passes}
 use Rattle.checks.specs.Shape.{shape-passes}
 
 abbrev pub lentTests : Operation → ℕ → ℕ → ℕ → ℕ → List Test
-lentTests operation r u output work = curveLengthTest (curveCount operation r) u ∷ textOutputTest output ∷ workTest work ∷ []
+lentTests operation r u output work = curveLengthTest (curveCount operation r) u ∷ textOutputTest textOutputLength output ∷ workTest work ∷ []
 
 -- a, b, c and u: how many numbers each list has
 unfoldable pub sizeTests : ℕ → Operation → ℕ → ℕ → ℕ → ℕ → ℕ → ℕ → List Test
@@ -44,7 +43,7 @@ pub record Fits (operation : Operation) (a b c u output work : ℕ) : Type 0 whe
 
 pub sizes-fit : (m : ℕ) (operation : Operation) (a b c u output work : ℕ) → None (sizeTests m operation a b c u output work)
     → Fits operation a b c u output work
-unfolding sizeTests textOutputTest
+unfolding sizeTests
 sizes-fit m operation a b c u output work n =
     let parts = none-append (shapeTests m a b c) (lentTests operation a u output work) .0 n in
     let shaped = shape-passes m a b c (parts .0) in
@@ -53,7 +52,7 @@ sizes-fit m operation a b c u output work n =
       cRows = shaped .cLength;
       few = shaped .few;
       curve = curve-length-passes (curveCount operation a) u .0 (parts .1 .0);
-      text = ltb-false output textOutputLength (parts .1 .1 .0);
+      text = text-output-passes textOutputLength output .0 (parts .1 .1 .0);
       room = work-passes work .0 (parts .1 .1 .1 .0);
     }
 

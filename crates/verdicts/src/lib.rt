@@ -7,7 +7,9 @@ ghost use Rattle.definitions.specs.Answers.{answered, valued};
 ghost use Rattle.definitions.specs.Family.{family};
 ghost use Rattle.definitions.specs.Number as Number;
 ghost use Rattle.definitions.specs.Refusals.{verdict, familyRows, plainTests, treeTests, momentsTests, normsTests, inverseTests};
+ghost use Rattle.definitions.specs.Text.{meant};
 ghost use Rattle.definitions.specs.TextCall.{curveCount};
+ghost use Rattle.definitions.specs.JobWriting.{writtenJob, writingTests};
 ghost use Rattle.checks.specs.Shape.{Shaped};
 ghost use Rattle.verdicts.specs.Sizes.{sizeTests, valueTests};
 use definitions::Answer;
@@ -159,11 +161,39 @@ pub fn sizes(
     let Answer::Finished = entries else {
         return entries;
     };
-    let place = checks::text_output_length(output);
+    let place = checks::text_output_length(4096, output);
     let Answer::Finished = place else {
         return place;
     };
     checks::work_length(work)
+}
+
+// The call that writes a job: 3 4 5 6 7 9 10 11 12.
+pub fn writing(
+    m: u32,
+    a: &[u32],
+    b: &[u32],
+    c: &[u32],
+    operation: Operation,
+    curve: &[u32],
+    output: usize,
+) -> Answer
+    ensures { λ r. ⌜ answered r ≡ verdict
+        (writingTests (meant (writtenJob m (now (a .entry)) (now (b .entry)) (now (c .entry)) operation (now (curve .entry)))) output) [] ⌝ }
+{
+    let shape = checks::family_shape(m, a.len(), b.len(), c.len());
+    let Answer::Finished = shape else {
+        return shape;
+    };
+    let entries = checks::curve_length(curve_count(operation, a.len()), curve.len());
+    let Answer::Finished = entries else {
+        return entries;
+    };
+    let place = checks::text_output_length(8192, output);
+    let Answer::Finished = place else {
+        return place;
+    };
+    values(m, a, b, c, curve)
 }
 
 // Inverse: 3 12 13, with the inverse where none of them holds.
