@@ -1,10 +1,10 @@
 -- How long an answer text is.
--- Proved: a list whose entries are 32-bit numbers can be written; its text has at most 11 bytes for each number; an answer text
+-- Proved: a list whose entries are 32-bit numbers can be written; its text has at most 11 bytes for each number, less one; an answer text
 -- of at most 255 such numbers has at most 4,096 bytes (length-answer), so the least output has room for every answer.
 -- Assumes nothing.
 use mathlib.Core.Path.{_≡_, _∙_, ap}
 use mathlib.Core.List.{List, [], _∷_, _++_}
-use Prim.Native.Nat.{ℕ, suc, _+_, _*_, _<_, _≤_}
+use Prim.Native.Nat.{ℕ, suc, _+_, _*_, _-_, _<_, _≤_}
 use native.Mathlib.Omega.{arith}
 use lib.ListN.{length, getD, length-append}
 use Rattle.definitions.specs.Text.{greatestNumber, newline, decimal, spaced, numbers, line, operationKey, resultKey, name, answerText}
@@ -22,7 +22,7 @@ unfolding spaced
 length-spaced [] h = omega arith
 length-spaced (x ∷ xs) h = omega (arith, length-append (decimal x) (spaced xs), length-decimal x (h .0), length-spaced xs (h .1))
 
-length-numbers : (xs : List ℕ) → AllWritable xs → length (numbers xs) ≤ 11 * length xs
+pub length-numbers : (xs : List ℕ) → AllWritable xs → length (numbers xs) ≤ 11 * length xs - 1
 unfolding numbers
 length-numbers [] h = omega arith
 length-numbers (x ∷ xs) h = omega (arith, length-append (decimal x) (spaced xs), length-decimal x (h .0), length-spaced xs (h .1))

@@ -2,7 +2,7 @@
 --   NumberLine t key x rest     t begins with a line of that key and the 32-bit number x
 --   NumbersLine t key xs rest   t begins with a line of that key and the 32-bit numbers xs
 -- Proved of each layer: what is written is read back (read-), and what is read stood there so written (-read); what follows a line
--- is put after it (line-then).
+-- is put after it (line-then), or after it and other lines (lines-then).
 -- Assumes nothing.
 use mathlib.Core.Path.{_≡_, refl, _∙_, ap}
 use mathlib.Core.Bool.{Bool, true, false}
@@ -36,10 +36,13 @@ key-read (k ∷ key) (b ∷ t) u rest e = split (eqb b k) refl (key-read key t u
     split false s next e = absurd (got-not-bad e)
 
 -- ---- a line, whatever its content
-pub line-then : (key content rest : List ℕ) → line key content [] ++ rest ≡ line key content rest
+pub lines-then : (key content lines rest : List ℕ) → line key content lines ++ rest ≡ line key content (lines ++ rest)
 unfolding line
-line-then key content rest =
-    append-assoc key (content ++ newline ∷ []) rest ∙ ap (λ q. key ++ q) (append-assoc content (newline ∷ []) rest)
+lines-then key content lines rest =
+    append-assoc key (content ++ newline ∷ lines) rest ∙ ap (λ q. key ++ q) (append-assoc content (newline ∷ lines) rest)
+
+pub line-then : (key content rest : List ℕ) → line key content [] ++ rest ≡ line key content rest
+line-then key content rest = lines-then key content [] rest
 
 ended-got : {A : Type 0} (r : Front A) (x : A) (rest : List ℕ) → ended r ≡ got x rest → r ≡ got x (newline ∷ rest)
 unfolding ended

@@ -3,25 +3,22 @@
 --   AnswerWritten operation xs r old new     r is the length of the answer text, at most 4,096, and new is that text and then what old
 --                                            held
 -- Proved: the whole text from its two lines. Assumes nothing.
-use mathlib.Core.Path.{_≡_}
-use mathlib.Core.List.{List, [], _++_}
+use mathlib.Core.List.{List, []}
 use Prim.Native.Nat.{ℕ, _*_, _≤_}
 use native.Mathlib.Omega.{arith}
-use lib.ListN.{length, drop}
+use lib.ListN.{length}
 use Rattle.definitions.specs.Text.{numbers, line, operationKey, resultKey, name, answerText}
 use Rattle.definitions.specs.TextCall.{textOutputLength}
 use Rattle.definitions.specs.declared.Operation.{Operation}
-use Rattle.writer.specs.Putting.{Put, put-front}
+use Rattle.writer.specs.Putting.{Put, Written, put-front}
 use Rattle.writer.specs.Lines.{lineRoom, put-line-then}
 
 pub record Room (out xs : List ℕ) : Type 0 where
   pub long : textOutputLength ≤ length out
   pub few : length xs ≤ 255
 
-pub record AnswerWritten (operation : Operation) (xs : List ℕ) (r : ℕ) (old new : List ℕ) : Type 0 where
-  pub answer : r ≡ length (answerText operation xs)
-  pub short : r ≤ textOutputLength
-  pub written : new ≡ answerText operation xs ++ drop r old
+abbrev pub AnswerWritten : Operation → List ℕ → ℕ → List ℕ → List ℕ → Type 0
+AnswerWritten operation xs r old new = Written (answerText operation xs) textOutputLength r old new
 
 pub answer-written : (old : List ℕ) (operation : Operation) (xs : List ℕ) → Room old xs
     → (mid : List ℕ) (next : ℕ) → Put old 0 (line operationKey (name operation) []) (lineRoom operationKey 9) mid next
@@ -29,9 +26,5 @@ pub answer-written : (old : List ℕ) (operation : Operation) (xs : List ℕ) �
     → AnswerWritten operation xs r old new
 unfolding answerText
 answer-written old operation xs room mid next p new r q =
-    let whole = put-line-then old 0 _ _ _ mid next p (omega (arith, room .long)) _ _ new r q in
-    record {
-      answer = omega (arith, whole .place);
-      short = omega (arith, whole .place, whole .short, room .few);
-      written = put-front old _ _ new r whole;
-    }
+    put-front old _ _ new r (put-line-then old 0 _ _ _ mid next p (omega (arith, room .long)) _ _ new r q) textOutputLength
+    (omega (arith, room .few))

@@ -1,8 +1,9 @@
 -- Bytes put over a part of a list.
 --   Put old at xs most new next   new is old with xs from place at on, at most `most` of them, and next is the place after them
 --   Copying old at xs out k       a copy in progress: the first k entries of xs are put
--- Proved: the length stays; one entry; a second part right after the first; what is put at the front; how a copy begins, goes on and
--- ends.
+--   Written text most r old new   r is the length of a text, at most `most`, and new is that text and then what old held
+-- Proved: the length stays; one entry; a second part right after the first; what is put at the front is written so; how a copy begins,
+-- goes on and ends.
 -- Assumes nothing.
 use mathlib.Core.Path.{_≡_, refl, sym, _∙_, ap}
 use mathlib.Core.List.{List, [], _∷_, _++_}
@@ -41,10 +42,20 @@ module _ (old : List ℕ) (at : ℕ) (xs : List ℕ) (most : ℕ) (new : List �
     stored = p .stored ∙ ap (over old at) e;
   }
 
-pub put-front : (old xs : List ℕ) (most : ℕ) (new : List ℕ) (next : ℕ) → Put old 0 xs most new next → new ≡ xs ++ drop next old
-put-front old xs most new next p =
-    let place : next ≡ length xs = omega (arith, p .place) in
-    p .stored ∙ over-front old xs ∙ ap (λ n. xs ++ drop n old) (sym place)
+pub record Written (text : List ℕ) (most r : ℕ) (old new : List ℕ) : Type 0 where
+  pub answer : r ≡ length text
+  pub short : r ≤ most
+  pub written : new ≡ text ++ drop r old
+
+pub put-front : (old text : List ℕ) (room : ℕ) (new : List ℕ) (r : ℕ) → Put old 0 text room new r → (most : ℕ) → room ≤ most
+    → Written text most r old new
+put-front old text room new r p most h =
+    let place : r ≡ length text = omega (arith, p .place) in
+    record {
+      answer = place;
+      short = omega (arith, p .short);
+      written = p .stored ∙ over-front old text ∙ ap (λ n. text ++ drop n old) (sym place);
+    }
 
 -- ---- a copy, entry by entry
 pub record Copying (old : List ℕ) (at : ℕ) (xs out : List ℕ) (k : ℕ) : Type 0 where
