@@ -1,9 +1,11 @@
-// The text call: a job text in, its answer text out. The lists are read by `form`, converted by `operations` and written by `writer`.
-// Nothing is written before every test has passed, and it has no 'requires'.
+// The calls on job texts. The text call: a job text in, its answer text out; the lists are read by `form`, converted by `operations` and
+// written by `writer`. And the call that writes a job text, by `job_text`. Nothing is written before every test has passed, and neither has
+// a 'requires'.
 ghost use mathlib.Core.Path.{_≡_};
 ghost use lib.ListN.{take};
 ghost use Rattle.definitions.specs.Family.{ones};
 ghost use Rattle.definitions.specs.TextCall.{TextConverted};
+ghost use Rattle.definitions.specs.JobWriting.{writtenJob, JobWritten};
 ghost use Rattle.lists.specs.Lent.{lent};
 ghost use Rattle.job.specs.Replies.{withLength, Ready, Replied};
 use definitions::Answer;
@@ -103,4 +105,28 @@ pub fn convert_text(text: &[u8], output: &mut [u8], work: &mut [u32]) -> Valued
         output,
         work,
     )
+}
+
+// Writes the text of a job from a modulus, the lists of a family, an operation and a curve, with the text's length as the answer: only a
+// job that the text call carries out, in the one form that it takes. What the output holds past the text stays.
+// Refused with 3 to 6 and 7: the output has less than 8,192 bytes (the station's program); with 9 to 11 (the maker of the element); with
+// 12 (the sender of the curve).
+pub fn write_job(
+    m: u32,
+    a: &[u32],
+    b: &[u32],
+    c: &[u32],
+    operation: Operation,
+    curve: &[u32],
+    output: &mut [u8],
+) -> Valued
+    ensures { λ r. ⌜ JobWritten (writtenJob m (now (a .entry)) (now (b .entry)) (now (c .entry)) operation (now (curve .entry))) r
+        (now (output .entry)) (now (output .exit)) ⌝ }
+{
+    let tested = verdicts::writing(m, a, b, c, operation, curve, output.len());
+    let Answer::Finished = tested else {
+        return with_length(tested, 0);
+    };
+    let length = job_text::write_text(output, m, a, b, c, operation, curve) as u32;
+    Valued::Value(length)
 }

@@ -1,0 +1,2 @@
+-- The job text in the parts in which it is put. Assumes nothing.
+pub mod Parts
