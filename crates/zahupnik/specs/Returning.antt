@@ -1,17 +1,24 @@
 -- From the answer of a public call to what its exported function returns and leaves.
 -- Proved: a call that writes a list keeps its promise when its answer is turned into a number, with a working list or without;
--- so do Inverse, whether it finishes or refuses, and the text call. Assumes nothing.
+-- so do Inverse, whether it finishes or refuses, the text call, and the call that writes a job, whether its number names an operation
+-- or not. Assumes nothing.
 use mathlib.Core.Path.{_≡_, refl, sym, _∙_, ap}
+use mathlib.Core.Bool.{false}
 use mathlib.Core.List.{List, [], _∷_, _++_}
-use Prim.Native.Nat.{ℕ}
+use Prim.Native.Nat.{ℕ, zero, suc, _≤_}
+use native.Mathlib.Omega.{arith}
 use lib.ListN.{length, drop}
 use Rattle.definitions.specs.Answers.{answered, valued, after, cleared, Converted, ConvertedIn}
-use Rattle.definitions.specs.Refusals.{Test, Verdict, finished, refused, verdict}
+use Rattle.definitions.specs.Refusals.{Test, Verdict, finished, refused, verdict, test}
+use Rattle.definitions.specs.Text.{WrittenJob, meant, jobText}
 use Rattle.definitions.specs.TextCall.{textTests, reply, TextConverted}
+use Rattle.definitions.specs.JobWriting.{writingTests, JobWritten}
 use Rattle.definitions.specs.declared.Answer.{Answer}
+use Rattle.definitions.specs.declared.Operation.{Operation}
 use Rattle.definitions.specs.declared.Valued.{Valued}
-use Rattle.acceptance.specs.Verdicts.{refused-not-finished, withValues, verdict-values}
-use Rattle.zahupnik.specs.Returned.{number, Returned, ReturnedIn}
+use Rattle.acceptance.specs.Verdicts.{refused-not-finished, verdict-next, withValues, verdict-values}
+use Rattle.zahupnik.specs.Returned.{number, Returned, ReturnedIn, operations, choiceOf, choice, chosenTests, chosenText, JobReturned}
+use Rattle.zahupnik.specs.declared.Choice.{Choice}
 
 pub list-returned : (tests : List Test) (result output output′ : List ℕ) (r : Answer) (k : ℕ)
     → Converted tests result r output output′ → k ≡ number (answered r) → Returned tests result k output output′
@@ -53,20 +60,76 @@ after-values : (values : List ℕ) (v : Verdict) (new old : List ℕ) → after 
 after-values values (finished none) new old = refl
 after-values values (refused k) new old = refl
 
-module _ (t output output′ work work′ : List ℕ) (r : Valued) (converted : TextConverted t r output output′ work work′) where
-  abbrev tests : List Test
-  tests = textTests t (length output) (length work)
-
-  abbrev values : List ℕ
-  values = length (reply t) ∷ []
-
+-- a call whose answer has a value
+module _ (tests : List Test) (values : List ℕ) (r : Valued) (is : valued r ≡ verdict tests values) where
   settled : valued r ≡ withValues values (verdict tests [])
-  settled = converted .answer ∙ verdict-values values tests
+  settled = is ∙ verdict-values values tests
 
-  pub text-returned : (k : ℕ) → k ≡ number (valued r) → ReturnedIn tests (reply t ++ drop (length (reply t)) output) k output output′ work work′
-  text-returned k e = record {
-    answer = e ∙ ap number settled ∙ number-values values (verdict tests []);
-    written = converted .written ∙ ap (λ v. after v (reply t ++ drop (length (reply t)) output) output) settled
-        ∙ after-values values (verdict tests []) _ output;
-    wiped = converted .wiped ∙ ap (λ v. after v (cleared work) work) settled ∙ after-values values (verdict tests []) _ work;
+  valued-number : (k : ℕ) → k ≡ number (valued r) → k ≡ number (verdict tests [])
+  valued-number k e = e ∙ ap number settled ∙ number-values values (verdict tests [])
+
+  valued-list : (new old list : List ℕ) → list ≡ after (valued r) new old → list ≡ after (verdict tests []) new old
+  valued-list new old list e = e ∙ ap (λ v. after v new old) settled ∙ after-values values (verdict tests []) new old
+
+  pub valued-returned : (k : ℕ) → k ≡ number (valued r) → (result output output′ : List ℕ) → output′ ≡ after (valued r) result output
+      → Returned tests result k output output′
+  valued-returned k e result output output′ w = record { answer = valued-number k e; written = valued-list result output output′ w }
+
+  pub valued-returned-in : (k : ℕ) → k ≡ number (valued r) → (result output output′ work work′ : List ℕ)
+      → output′ ≡ after (valued r) result output → work′ ≡ after (valued r) (cleared work) work
+      → ReturnedIn tests result k output output′ work work′
+  valued-returned-in k e result output output′ work work′ w q = record {
+    answer = valued-number k e;
+    written = valued-list result output output′ w;
+    wiped = valued-list (cleared work) work work′ q;
   }
+
+pub text-returned : (t output output′ work work′ : List ℕ) (r : Valued) → TextConverted t r output output′ work work′
+    → (k : ℕ) → k ≡ number (valued r)
+    → ReturnedIn (textTests t (length output) (length work)) (reply t ++ drop (length (reply t)) output) k output output′ work work′
+text-returned t output output′ work work′ r converted k e =
+    valued-returned-in _ _ r (converted .answer) k e _ output output′ work work′ (converted .written) (converted .wiped)
+
+-- the function that writes a job, once its number has named an operation or none
+choice-past-all : (others : List Operation) (k : ℕ) → length others ≤ k → choiceOf others k ≡ Choice.Nothing
+unfolding choiceOf
+choice-past-all [] k h = refl
+choice-past-all (operation ∷ others) zero h = absurd (omega arith)
+choice-past-all (operation ∷ others) (suc k) h = choice-past-all others k (omega arith)
+
+pub choice-past : (k : ℕ) → 5 ≤ k → Choice.Nothing ≡ choice k
+unfolding choice
+choice-past k h = sym (choice-past-all operations k h)
+
+module _ (job : Operation → WrittenJob) (k : ℕ) (output : List ℕ) (count : ℕ) where
+  pub nothing-returned : (chosen : Choice) → chosen ≡ choice k → chosen ≡ Choice.Nothing → JobReturned job k 2 output output count count
+  unfolding chosenTests verdict
+  nothing-returned chosen is e = record {
+    text = rw (sym is ∙ e) (record { answer = refl; written = refl });
+    counted = rw (sym is ∙ e) (record { answer = refl; written = refl });
+  }
+
+  module _ (chosen : Choice) (operation : Operation) (is : chosen ≡ choice k) (e : chosen ≡ Choice.Named operation)
+      (r : Valued) (output′ : List ℕ) (written : JobWritten (job operation) r output output′) where
+    named : choice k ≡ Choice.Named operation
+    named = sym is ∙ e
+
+    abbrev tests : List Test
+    tests = test 2 false ∷ writingTests (meant (job operation)) (length output)
+
+    passed : valued r ≡ verdict tests (length (jobText (job operation)) ∷ [])
+    passed = written .answer ∙ sym (verdict-next (test 2 false) _ _ refl)
+
+    pub length-returned : (n : ℕ) → r ≡ Valued.Value n → JobReturned job k 0 output output′ count n
+    unfolding chosenTests chosenText
+    length-returned n q = record {
+      text = rw named (valued-returned tests _ r passed 0 (sym (ap (λ v. number (valued v)) q)) _ output output′ (written .written));
+      counted = rw named (value-returned tests _ count n (sym (ap valued q) ∙ passed));
+    }
+
+    pub job-refusal-returned : (j : ℕ) → r ≡ Valued.Refused j → JobReturned job k j output output′ count count
+    unfolding chosenTests chosenText
+    job-refusal-returned j q = record {
+      text = rw named (valued-returned tests _ r passed j (sym (ap (λ v. number (valued v)) q)) _ output output′ (written .written));
+      counted = rw named (refusal-returned tests _ count j (sym (ap valued q) ∙ passed));
+    }

@@ -8,8 +8,16 @@ ghost use Rattle.definitions.specs.Family.{family};
 ghost use Rattle.definitions.specs.Number as Number;
 ghost use Rattle.definitions.specs.Refusals.{inverseTests};
 ghost use Rattle.zahupnik.specs.Returned.{number, Returned, PlainReturned, TreeReturned, NormsReturned, MomentsReturned, TextReturned};
+ghost use Rattle.zahupnik.specs.Returned.{choice, jobFor, JobReturned};
 use definitions::Answer;
+use definitions::Operation;
 use definitions::Valued;
+
+// What a number names: an operation of a job, or nothing.
+pub enum Choice {
+    Named(Operation),
+    Nothing,
+}
 
 // 0 for the finished kind, and a refusal's number.
 fn number(answer: Answer) -> u32
@@ -171,6 +179,49 @@ pub extern "C" fn zahupnik_convert_text(
         (now (output .entry)) (now (output .exit)) (now (work .entry)) (now (work .exit)) (now (count .entry)) (now (count .exit)) ⌝ }
 {
     match job::convert_text(text, output, work) {
+        Valued::Value(bytes) => {
+            *count = bytes;
+            0
+        }
+        Valued::Refused(k) => k,
+    }
+}
+
+// The operation that a number names: 0 to 4, in the scope paper's order.
+fn choose(k: u32) -> Choice
+    ensures { λ r. ⌜ r ≡ choice k ⌝ }
+{
+    match k {
+        0 => Choice::Named(Operation::Expand),
+        1 => Choice::Named(Operation::Adjoint),
+        2 => Choice::Named(Operation::Decompose),
+        3 => Choice::Named(Operation::Moments),
+        4 => Choice::Named(Operation::Norms),
+        _ => Choice::Nothing,
+    }
+}
+
+// Writes a job text, with its length written to the lent number. Refused with 2 if the number names no operation, and otherwise as
+// job::write_job is.
+#[no_mangle]
+pub extern "C" fn zahupnik_write_job(
+    m: u32,
+    a: &[u32],
+    b: &[u32],
+    c: &[u32],
+    operation: u32,
+    curve: &[u32],
+    output: &mut [u8],
+    count: &mut u32,
+) -> u32
+    ensures { λ r. ⌜ JobReturned (jobFor m (now (a .entry)) (now (b .entry)) (now (c .entry)) (now (curve .entry))) operation r
+        (now (output .entry)) (now (output .exit)) (now (count .entry)) (now (count .exit)) ⌝ }
+{
+    let choice = choose(operation);
+    let Choice::Named(named) = choice else {
+        return 2;
+    };
+    match job::write_job(m, a, b, c, named, curve, output) {
         Valued::Value(bytes) => {
             *count = bytes;
             0
