@@ -10,12 +10,15 @@ use Rattle.definitions.specs.Family.{Family}
 use Rattle.definitions.specs.Refusals.{Test, Verdict, finished, refused, verdict, modulusTest, curveLengthTest, outputTest, workTest}
 use Rattle.definitions.specs.Refusals.{curveEntriesTest, numberTest, numberInverseTest, familyShape, familyRows}
 use Rattle.definitions.specs.Refusals.{plainTests, treeTests, momentsTests, normsTests, inverseTests}
-use Rattle.definitions.specs.Text.{meant}
+use Rattle.definitions.specs.Text.{WrittenJob, meant}
 use Rattle.definitions.specs.Reading.{Read, found, malformed, readJob}
 use Rattle.definitions.specs.TextCall.{textLengthTest, textOutputTest, jobTests, formTests, textTests}
+use Rattle.definitions.specs.JobWriting.{writingTests}
+use Rattle.definitions.specs.declared.Operation.{Operation}
 use Rattle.acceptance.specs.Verdicts.{withValues}
 use Rattle.acceptance.specs.Given.{Given, revalued, refused-given, given-append, shape-given, rows-given}
-use Rattle.zahupnik.specs.Returned.{number}
+use Rattle.zahupnik.specs.Returned.{number, choice, chosenTests}
+use Rattle.zahupnik.specs.declared.Choice.{Choice}
 
 abbrev Positive : List Test → Type 0
 Positive ts = Given (λ k. 0 < k) ts
@@ -78,3 +81,14 @@ pub text-zero : (t : List ℕ) (output work : ℕ) → number (verdict (textTest
     → verdict (textTests t output work) [] ≡ finished []
 unfolding textTests textLengthTest
 text-zero t output work = zero-finished (textTests t output work) (λ e. omega arith, form-positive (readJob t) output work)
+
+chosen-positive : (choice : Choice) (job : Operation → WrittenJob) (output : ℕ) → Positive (chosenTests choice job output)
+unfolding chosenTests writingTests curveLengthTest textOutputTest
+chosen-positive Choice.Nothing job output = search needs
+chosen-positive (Choice.Named operation) job output =
+    let w = job operation in
+    (λ e. omega arith, family-positive (meant w .family) _ (λ e. omega arith, (λ e. omega arith, curve-positive (meant w .family) (w .curve))))
+
+pub job-zero : (k : ℕ) (job : Operation → WrittenJob) (output : ℕ) → number (verdict (chosenTests (choice k) job output) []) ≡ 0
+    → verdict (chosenTests (choice k) job output) [] ≡ finished []
+job-zero k job output = zero-finished (chosenTests (choice k) job output) (chosen-positive (choice k) job output)
