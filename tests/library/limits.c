@@ -13,7 +13,9 @@
 #include "zahupnik.h"
 
 enum { ROOM = ZAHUPNIK_MOST_ROWS + 3, OUTPUT_ROOM = 2 * ROOM, WORK_ROOM = ZAHUPNIK_LEAST_WORK + 3 };
+enum { JOB_ROOM = ZAHUPNIK_LEAST_JOB_OUTPUT + 3, LONGEST_JOB = 5635 };
 
+static const char paper_job[] = "mod=7\na=1 2\nb=0 3\nc=1 5\nop=expand\nv=3 0 1\n";
 static unsigned long cases;
 
 static void expect(const char *function, const char *with, const char *what, uint32_t given, uint32_t wanted) {
@@ -47,19 +49,21 @@ FUNCTION(tree_adjoint, FAMILY, CURVE, OUTPUT, WORK)
 FUNCTION(tree_decompose, FAMILY, CURVE, OUTPUT, WORK)
 FUNCTION(moments, FAMILY, OUTPUT, WORK)
 
-/* A function by its name, how many numbers its result has for each row besides the first one, and how many numbers at the front of
- * the working list are zero when it has finished. */
+/* A function by its name, whether it takes a curve, how long its output is with no rows and how much longer with each row, and how
+ * many numbers at the front of the working list are zero when it has finished. The function that writes a job stands here once for
+ * each operation, by the operation's number, and has nothing to run. */
 struct function {
     const char *name;
     uint32_t (*run)(const struct input *, uint32_t *, uint32_t *);
-    size_t each_row, cleared;
+    size_t takes_curve, output, each_row, cleared;
+    uint32_t operation;
 };
 
 /* An input that the function takes: rows 1 1 1 and a curve of ones, modulo 7. */
 static struct input accepted(const struct function *f, size_t rows) {
     struct input x = {.m = 7, .a_length = rows, .b_length = rows, .c_length = rows, .work_length = ZAHUPNIK_LEAST_WORK};
-    x.curve_length = rows + 1;
-    x.output_length = f->each_row * rows + 1;
+    x.curve_length = f->takes_curve ? rows + 1 : 0;
+    x.output_length = f->output + f->each_row * rows;
     for (size_t i = 0; i < ROOM; i++) x.a[i] = x.b[i] = x.c[i] = x.curve[i] = 1;
     return x;
 }
@@ -81,12 +85,37 @@ static void gives(const struct function *f, const char *with, const struct input
     cases++;
 }
 
+/* The text of the job that was written last. */
+static uint8_t job[JOB_ROOM];
+static uint32_t job_length;
+
+/* The job is written and the text call carries it out, or the number is returned. Nothing is written but the text and its length. */
+static void writes(const struct function *f, const char *with, const struct input *x, uint32_t number) {
+    static uint8_t answer[ZAHUPNIK_LEAST_TEXT_OUTPUT];
+    static uint32_t work[ZAHUPNIK_LEAST_WORK];
+    uint32_t length;
+    memset(job, UINT8_MAX, sizeof job);
+    job_length = UINT32_MAX;
+    expect(f->name, with, "the number returned",
+           zahupnik_write_job(FAMILY, f->operation, CURVE, job, x->output_length, &job_length), number);
+    if (number == ZAHUPNIK_FINISHED) {
+        expect(f->name, with, "that the length is at most 5635", job_length <= LONGEST_JOB, 1);
+        expect(f->name, with, "the number of the text call on the text",
+               zahupnik_convert_text(job, job_length, answer, sizeof answer, work, ZAHUPNIK_LEAST_WORK, &length), number);
+    } else {
+        expect(f->name, with, "the length", job_length, UINT32_MAX);
+    }
+    for (size_t i = number == ZAHUPNIK_FINISHED ? job_length : 0; i < sizeof job; i++)
+        expect(f->name, with, "a byte that is not to be written", job[i], UINT8_MAX);
+    cases++;
+}
+
 /* Changed in one thing, an accepted input of some rows gives the number. */
-#define GIVES(number, rows, change)                              \
-    do {                                                         \
-        struct input x = accepted(f, rows);                      \
-        change;                                                  \
-        gives(f, #rows " rows, " #change, &x, ZAHUPNIK_##number); \
+#define GIVES(number, rows, change)                                                   \
+    do {                                                                              \
+        struct input x = accepted(f, rows);                                           \
+        change;                                                                       \
+        (f->run ? gives : writes)(f, #rows " rows, " #change, &x, ZAHUPNIK_##number); \
     } while (0)
 
 static void on_family(const struct function *f) {
@@ -102,8 +131,8 @@ static void on_family(const struct function *f) {
     GIVES(FINISHED, 0, x.a[0] = x.b[0] = x.c[0] = 0);
     GIVES(FINISHED, ZAHUPNIK_MOST_ROWS, x.m = 2);
     GIVES(ROWS, ZAHUPNIK_MOST_ROWS + 1, x.m = 2);
+    GIVES(OUTPUT_LENGTH, 2, x.output_length = 0);
     GIVES(OUTPUT_LENGTH, 2, x.output_length--);
-    GIVES(OUTPUT_LENGTH, 2, x.output_length++);
     GIVES(FINISHED, 2, x.a[1] = x.b[1] = x.c[1] = 6);
     GIVES(ENTRY, 2, x.a[1] = 7);
     GIVES(ENTRY, 2, x.b[1] = 7);
@@ -129,6 +158,63 @@ static void on_work(const struct function *f) {
     GIVES(FINISHED, 2, x.work_length = ZAHUPNIK_LEAST_WORK);
     GIVES(FINISHED, 2, x.work_length = ZAHUPNIK_LEAST_WORK + 1);
     GIVES(FINISHED, ZAHUPNIK_MOST_ROWS, x.work_length = ZAHUPNIK_LEAST_WORK + 3);
+}
+
+static void on_result(const struct function *f) { GIVES(OUTPUT_LENGTH, 2, x.output_length++); }
+
+static void on_job(const struct function *f) {
+    GIVES(OUTPUT_LENGTH, 2, x.output_length = ZAHUPNIK_LEAST_TEXT_OUTPUT);
+    GIVES(OUTPUT_LENGTH, ZAHUPNIK_MOST_ROWS, x.output_length = LONGEST_JOB);
+    GIVES(FINISHED, 2, x.output_length++);
+    GIVES(FINISHED, ZAHUPNIK_MOST_ROWS, x.output_length = JOB_ROOM);
+    if (!f->takes_curve) {
+        GIVES(CURVE_LENGTH, 2, x.curve_length = 1);
+        GIVES(CURVE_LENGTH, 2, x.curve_length = 3);
+    }
+}
+
+/* A number that names no operation goes before all else that may be wrong. */
+static void on_no_operation(const struct function *f) {
+    GIVES(TEXT_FORM, 2, x.m = 7);
+    GIVES(TEXT_FORM, 2, x.m = 0);
+    GIVES(TEXT_FORM, ZAHUPNIK_MOST_ROWS + 1, x.c_length = 0);
+    GIVES(TEXT_FORM, 2, x.output_length = 0);
+}
+
+static const struct function jobs[] = {
+    [ZAHUPNIK_EXPAND] = {"write_job, expand", NULL, 1, ZAHUPNIK_LEAST_JOB_OUTPUT, 0, 0, ZAHUPNIK_EXPAND},
+    [ZAHUPNIK_ADJOINT] = {"write_job, adjoint", NULL, 1, ZAHUPNIK_LEAST_JOB_OUTPUT, 0, 0, ZAHUPNIK_ADJOINT},
+    [ZAHUPNIK_DECOMPOSE] = {"write_job, decompose", NULL, 1, ZAHUPNIK_LEAST_JOB_OUTPUT, 0, 0, ZAHUPNIK_DECOMPOSE},
+    [ZAHUPNIK_MOMENTS] = {"write_job, moments", NULL, 0, ZAHUPNIK_LEAST_JOB_OUTPUT, 0, 0, ZAHUPNIK_MOMENTS},
+    [ZAHUPNIK_NORMS] = {"write_job, norms", NULL, 0, ZAHUPNIK_LEAST_JOB_OUTPUT, 0, 0, ZAHUPNIK_NORMS},
+};
+
+/* The job's text is this one. */
+static void says(const struct function *f, const char *with, const struct input *x, const char *text) {
+    writes(f, with, x, ZAHUPNIK_FINISHED);
+    expect(f->name, with, "the length", job_length, (uint32_t)strlen(text));
+    for (size_t i = 0; i < job_length; i++) expect(f->name, with, "a byte of the text", job[i], (uint8_t)text[i]);
+}
+
+static void on_job_text(void) {
+    struct input x = {.m = 7, .a = {1, 2}, .b = {0, 3}, .c = {1, 5}, .curve = {3, 0, 1}};
+    x.a_length = x.b_length = x.c_length = 2;
+    x.curve_length = 3;
+    x.output_length = ZAHUPNIK_LEAST_JOB_OUTPUT;
+    says(&jobs[ZAHUPNIK_EXPAND], "the paper's job", &x, paper_job);
+    says(&jobs[ZAHUPNIK_ADJOINT], "the paper's lists", &x, "mod=7\na=1 2\nb=0 3\nc=1 5\nop=adjoint\nv=3 0 1\n");
+    says(&jobs[ZAHUPNIK_DECOMPOSE], "the paper's lists", &x, "mod=7\na=1 2\nb=0 3\nc=1 5\nop=decompose\nv=3 0 1\n");
+    x.curve_length = 0;
+    says(&jobs[ZAHUPNIK_MOMENTS], "the paper's lists", &x, "mod=7\na=1 2\nb=0 3\nc=1 5\nop=moments\nv=\n");
+    says(&jobs[ZAHUPNIK_NORMS], "the paper's lists", &x, "mod=7\na=1 2\nb=0 3\nc=1 5\nop=norms\nv=\n");
+
+    /* The longest text: most rows, numbers of ten digits, and the operation with the longest name. */
+    const struct function *decompose = &jobs[ZAHUPNIK_DECOMPOSE];
+    x = accepted(decompose, ZAHUPNIK_MOST_ROWS);
+    x.m = ZAHUPNIK_GREATEST_MODULUS;
+    for (size_t i = 0; i < ROOM; i++) x.a[i] = x.b[i] = x.c[i] = x.curve[i] = x.m - 1;
+    writes(decompose, "the longest job", &x, ZAHUPNIK_FINISHED);
+    expect(decompose->name, "the longest job", "the length", job_length, LONGEST_JOB);
 }
 
 static void inverts(const char *with, uint32_t m, uint32_t x, uint32_t number, uint32_t wanted) {
@@ -172,13 +258,13 @@ static void answers(const char *with, const char *text, size_t text_length, size
 
 static void on_text(void) {
     const size_t bytes = ZAHUPNIK_LEAST_TEXT_OUTPUT, work = ZAHUPNIK_LEAST_WORK, most = ZAHUPNIK_MOST_TEXT;
-    const char *job = "mod=7\na=1 2\nb=0 3\nc=1 5\nop=expand\nv=3 0 1\n", *answer = "op=expand\nout=1 3 2\n";
-    const size_t length = strlen(job);
-    answers("the paper's job", job, length, bytes, work, ZAHUPNIK_FINISHED, answer);
-    answers("more room", job, length, bytes + 3, work + 3, ZAHUPNIK_FINISHED, answer);
-    answers("too little room", job, length, bytes - 1, work - 1, ZAHUPNIK_OUTPUT_LENGTH, "");
-    answers("too short a working list", job, length, bytes, work - 1, ZAHUPNIK_WORK_TOO_SHORT, "");
-    answers("no byte 10 at the end", job, length - 1, bytes, work, ZAHUPNIK_TEXT_FORM, "");
+    const char *answer = "op=expand\nout=1 3 2\n";
+    const size_t length = strlen(paper_job);
+    answers("the paper's job", paper_job, length, bytes, work, ZAHUPNIK_FINISHED, answer);
+    answers("more room", paper_job, length, bytes + 3, work + 3, ZAHUPNIK_FINISHED, answer);
+    answers("too little room", paper_job, length, bytes - 1, work - 1, ZAHUPNIK_OUTPUT_LENGTH, "");
+    answers("too short a working list", paper_job, length, bytes, work - 1, ZAHUPNIK_WORK_TOO_SHORT, "");
+    answers("no byte 10 at the end", paper_job, length - 1, bytes, work, ZAHUPNIK_TEXT_FORM, "");
     answers("no text", NULL, 0, bytes, work, ZAHUPNIK_TEXT_FORM, "");
 
     /* Of the form, and with far too many numbers in v: as long as a text may be, and one byte longer. */
@@ -193,7 +279,7 @@ static void on_text(void) {
     answers("a byte more", text, most + 1, bytes, work, ZAHUPNIK_TEXT_TOO_LONG, "");
 }
 
-/* The call returns the number and leaves the entry in the output, which held UINT32_MAX. */
+/* The call returns the number and leaves the entry in what it is lent to write one to, which held UINT32_MAX. */
 #define NO_LIST NULL, 0
 #define NO_ROWS 7, NO_LIST, NO_LIST, NO_LIST
 #define LEAVES(call, number, entry)                                                     \
@@ -222,25 +308,46 @@ static void on_null(void) {
     LEAVES(zahupnik_tree_adjoint(NO_ROWS, curve, 1, output, 1, NO_LIST), ZAHUPNIK_WORK_TOO_SHORT, UINT32_MAX);
     LEAVES(zahupnik_tree_decompose(NO_ROWS, curve, 1, output, 1, NO_LIST), ZAHUPNIK_WORK_TOO_SHORT, UINT32_MAX);
     LEAVES(zahupnik_moments(NO_ROWS, output, 1, NO_LIST), ZAHUPNIK_WORK_TOO_SHORT, UINT32_MAX);
+
+    /* what a job leaves there is the length of its text */
+    static uint8_t text[ZAHUPNIK_LEAST_JOB_OUTPUT];
+    LEAVES(zahupnik_write_job(NO_ROWS, ZAHUPNIK_NORMS, NO_LIST, text, sizeof text, output), ZAHUPNIK_FINISHED, 27);
+    LEAVES(zahupnik_write_job(NO_ROWS, ZAHUPNIK_EXPAND, curve, 1, text, sizeof text, output), ZAHUPNIK_FINISHED, 29);
+    LEAVES(zahupnik_write_job(NO_ROWS, ZAHUPNIK_EXPAND, NO_LIST, text, sizeof text, output), ZAHUPNIK_CURVE_LENGTH, UINT32_MAX);
+    LEAVES(zahupnik_write_job(NO_ROWS, ZAHUPNIK_NORMS, NO_LIST, NO_LIST, output), ZAHUPNIK_OUTPUT_LENGTH, UINT32_MAX);
+    LEAVES(zahupnik_write_job(NO_ROWS, 5, NO_LIST, NO_LIST, output), ZAHUPNIK_TEXT_FORM, UINT32_MAX);
 }
 
 int main(void) {
     const struct function functions[] = {
-        {"plain_expand", plain_expand, 1, 0},
-        {"plain_adjoint", plain_adjoint, 1, 0},
-        {"plain_decompose", plain_decompose, 1, 0},
-        {"norms", norms, 1, 0},
-        {"tree_expand", tree_expand, 1, ZAHUPNIK_LEAST_WORK},
-        {"tree_adjoint", tree_adjoint, 1, ZAHUPNIK_LEAST_WORK},
-        {"tree_decompose", tree_decompose, 1, ZAHUPNIK_LEAST_WORK},
-        {"moments", moments, 2, ZAHUPNIK_LEAST_WORK},
+        {"plain_expand", plain_expand, 1, 1, 1, 0, 0},
+        {"plain_adjoint", plain_adjoint, 1, 1, 1, 0, 0},
+        {"plain_decompose", plain_decompose, 1, 1, 1, 0, 0},
+        {"norms", norms, 0, 1, 1, 0, 0},
+        {"tree_expand", tree_expand, 1, 1, 1, ZAHUPNIK_LEAST_WORK, 0},
+        {"tree_adjoint", tree_adjoint, 1, 1, 1, ZAHUPNIK_LEAST_WORK, 0},
+        {"tree_decompose", tree_decompose, 1, 1, 1, ZAHUPNIK_LEAST_WORK, 0},
+        {"moments", moments, 0, 1, 2, ZAHUPNIK_LEAST_WORK, 0},
+    };
+    const struct function none[] = {
+        {"write_job, operation 5", NULL, 1, ZAHUPNIK_LEAST_JOB_OUTPUT, 0, 0, 5},
+        {"write_job, operation 4294967295", NULL, 0, ZAHUPNIK_LEAST_JOB_OUTPUT, 0, 0, UINT32_MAX},
     };
     for (size_t i = 0; i < sizeof functions / sizeof *functions; i++) {
         const struct function *f = &functions[i];
         on_family(f);
-        if (f->run != norms && f->run != moments) on_curve(f);
+        on_result(f);
+        if (f->takes_curve) on_curve(f);
         if (f->cleared) on_work(f);
     }
+    for (size_t i = 0; i < sizeof jobs / sizeof *jobs; i++) {
+        const struct function *f = &jobs[i];
+        on_family(f);
+        on_job(f);
+        if (f->takes_curve) on_curve(f);
+    }
+    for (size_t i = 0; i < sizeof none / sizeof *none; i++) on_no_operation(&none[i]);
+    on_job_text();
     on_number();
     on_null();
     on_text();

@@ -6,17 +6,8 @@
  * give. Prints how many cases of each call agree and exits 0; shows the first case that differs and exits 1; exits 2 if a file
  * cannot be read or is not of the form.
  */
-#define _DEFAULT_SOURCE
-#include <inttypes.h>
-#include <stdio.h>
-#include <stdlib.h>
-#include <string.h>
-#include <sys/mman.h>
-#include <unistd.h>
-
-#include "zahupnik.h"
-
-enum { LONGEST_LINE = 1 << 16 };
+#define PROGRAM "vectors"
+#include "vector_files.h"
 
 /* The calls: the number in IN, the function's name, and what it is lent. From FIRST_WITH_WORK on they are lent a working list. */
 #define CALLS(CALL)                                      \
@@ -39,97 +30,10 @@ enum { INVERT = 5, FIRST_WITH_WORK = 6 };
 static const char *const NAMES[] = {CALLS(NAME)};
 enum { NUMBERS = sizeof NAMES / sizeof *NAMES };
 
-/* A file that is read line by line. */
-struct text {
-    FILE *file;
-    const char *name;
-    unsigned long line;
-    char words[LONGEST_LINE];
-    char *at;
-};
-
-static struct text in, out;
-
-static void unusable(const struct text *text, const char *why) {
-    fprintf(stderr, "vectors: %s, line %lu: %s\n", text->name, text->line, why);
-    exit(2);
-}
-
-static void open_text(struct text *text, const char *name) {
-    text->name = name;
-    text->file = fopen(name, "r");
-    if (!text->file) {
-        fprintf(stderr, "vectors: %s cannot be read\n", name);
-        exit(2);
-    }
-}
-
-/* 0 at the end of the file. */
-static int next_line(struct text *text) {
-    text->at = text->words;
-    if (!fgets(text->words, sizeof text->words, text->file)) return 0;
-    text->line++;
-    if (!strchr(text->words, '\n')) unusable(text, "too long, or without its end");
-    return 1;
-}
-
-static uint32_t next_number(struct text *text) {
-    char *end;
-    unsigned long long value = strtoull(text->at, &end, 10);
-    if (end == text->at || value > UINT32_MAX) unusable(text, "a number of 32 bits is missing");
-    text->at = end;
-    return (uint32_t)value;
-}
-
-static void end_line(struct text *text) {
-    if (strcmp(text->at, "\n")) unusable(text, "more stands there than the call takes or gives");
-}
-
-static void differs(const char *what, uint32_t given, uint32_t wanted) {
-    fprintf(stderr, "vectors: case %lu: %s is %" PRIu32 " and not %" PRIu32 "\n case %s wanted %s", in.line, what, given, wanted,
-            in.words, out.words);
-    exit(1);
-}
+static unsigned long agreed[NUMBERS];
 
 /* What the call gave is the next number of OUT. */
-static void expect(const char *what, uint32_t given) {
-    uint32_t wanted = next_number(&out);
-    if (given != wanted) differs(what, given, wanted);
-}
-
-struct list {
-    uint32_t *entries;
-    size_t length;
-};
-
-static size_t bytes(struct list list) { return list.length * sizeof *list.entries; }
-
-/* The bytes of the whole pages that a list takes. */
-static size_t room(struct list list) {
-    size_t page = (size_t)sysconf(_SC_PAGESIZE);
-    return (bytes(list) + page - 1) / page * page;
-}
-
-/* The library is compiled without a checker of memory, so each list ends at a page that nobody may touch: a step past its end
- * stops this program. */
-static struct list make_list(size_t length) {
-    struct list list = {NULL, length};
-    size_t page = (size_t)sysconf(_SC_PAGESIZE);
-    char *pages = mmap(NULL, room(list) + page, PROT_READ | PROT_WRITE, MAP_PRIVATE | MAP_ANONYMOUS, -1, 0);
-    if (pages == MAP_FAILED || mprotect(pages + room(list), page, PROT_NONE)) unusable(&in, "no memory for its lists");
-    list.entries = (uint32_t *)(void *)(pages + room(list) - bytes(list));
-    return list;
-}
-
-static void free_list(struct list list) {
-    munmap((char *)list.entries + bytes(list) - room(list), room(list) + (size_t)sysconf(_SC_PAGESIZE));
-}
-
-static struct list next_list(struct text *text) {
-    struct list list = make_list(next_number(text));
-    for (size_t i = 0; i < list.length; i++) list.entries[i] = next_number(text);
-    return list;
-}
+static void expect_next(const char *what, size_t place, uint32_t given) { expect(what, place, given, next_number(&out)); }
 
 /* What OUT says of a working list: how many of its numbers are zero, and their sum modulo 4294967291. */
 static void expect_work(struct list work) {
@@ -139,12 +43,12 @@ static void expect_work(struct list work) {
         zeros += work.entries[i] == 0;
         sum += work.entries[i];
     }
-    expect("the count of zeros in the working list", zeros);
-    expect("the sum of the working list", (uint32_t)(sum % 4294967291));
+    expect_next("the count of zeros in the working list", 0, zeros);
+    expect_next("the sum of the working list", 0, (uint32_t)(sum % 4294967291));
 }
 
-/* Runs the case of a line of IN, holds what it gives against the line of OUT, and returns the call's number. */
-static unsigned run_case(void) {
+/* Runs the case of a line of IN, and holds what it gives against the line of OUT. */
+static void run_case(void) {
     unsigned call = next_number(&in);
     uint32_t m = next_number(&in);
     struct list a = next_list(&in), b = next_list(&in), c = next_list(&in), v = next_list(&in);
@@ -156,8 +60,7 @@ static unsigned run_case(void) {
     /* the inverse is written to one number */
     struct list output = make_list(call == INVERT ? 1 : output_length);
     for (size_t i = 0; i < output.length; i++) output.entries[i] = (uint32_t)(UINT32_MAX - i);
-    struct list work = make_list(work_length);
-    for (size_t i = 0; i < work.length; i++) work.entries[i] = (uint32_t)(4000000000 + i % 1000);
+    struct list work = make_work(work_length);
     uint32_t returned = 0;
 #define RUN(number, name, ...) \
     case number: returned = zahupnik_##name(__VA_ARGS__); break;
@@ -166,13 +69,13 @@ static unsigned run_case(void) {
     default: unusable(&in, "a call that this program does not know");
     }
 
-    expect("the number returned", returned);
+    expect_next("the number returned", 0, returned);
     if (call == INVERT && returned != ZAHUPNIK_FINISHED) {
-        expect("the count of inverses", 0);
-        if (output.entries[0] != UINT32_MAX) differs("the number lent to a refused call", output.entries[0], UINT32_MAX);
+        expect_next("the count of inverses", 0, 0);
+        expect("the number lent to a refused call", 0, output.entries[0], UINT32_MAX);
     } else {
-        expect("the length of the output", (uint32_t)output.length);
-        for (size_t i = 0; i < output.length; i++) expect("an entry of the output", output.entries[i]);
+        expect_next("the length of the output", 0, (uint32_t)output.length);
+        for (size_t i = 0; i < output.length; i++) expect_next("the output", i, output.entries[i]);
     }
     if (call >= FIRST_WITH_WORK) expect_work(work);
     end_line(&out);
@@ -182,24 +85,12 @@ static unsigned run_case(void) {
     free_list(v);
     free_list(output);
     free_list(work);
-    return call;
+    agreed[call]++;
 }
 
 int main(int argc, char **argv) {
-    unsigned long agreed[NUMBERS] = {0};
-    if (argc != 3) {
-        fprintf(stderr, "usage: vectors IN OUT\n");
-        return 2;
-    }
-    open_text(&in, argv[1]);
-    open_text(&out, argv[2]);
-    while (next_line(&in)) {
-        if (!next_line(&out)) unusable(&out, "ends before IN does");
-        agreed[run_case()]++;
-    }
-    if (next_line(&out)) unusable(&out, "goes on after the end of IN");
-    if (!in.line) unusable(&in, "holds no case");
-    printf("vectors: %lu cases agree (", in.line);
+    unsigned long cases = run_files(argc, argv, run_case);
+    printf("vectors: %lu cases agree (", cases);
     for (unsigned call = 1; call < NUMBERS; call++) printf("%s%s %lu", call == 1 ? "" : ", ", NAMES[call], agreed[call]);
     printf(")\n");
     return 0;

@@ -16,6 +16,7 @@ import check_figures
 import check_identities
 import check_refusals
 import check_texts
+import check_written
 import check_wrong_variants
 from splitmix import WORD, SplitMix64
 from tally import Mismatch, Tally
@@ -25,6 +26,7 @@ PARTS = (
     check_wrong_variants,
     check_refusals,
     check_texts,
+    check_written,
     check_classical,
     check_identities,
 )

@@ -17,7 +17,7 @@ from families import MODULI, SIZES, random_curve, random_family
 
 OPERATION_OF = {6: "expand", 7: "adjoint", 8: "decompose", 9: "moments", 4: "norms"}
 TEXT_REFUSALS = (3, 4, 5, 6, 7, 8, 9, 10, 11, 12)
-OUTPUT_BEFORE = bytes(255 - place % 251 for place in range(5000))
+OUTPUT_BEFORE = bytes(255 - place % 251 for place in range(9000))
 INSERTED = b"\x00\t\n\r =+-,.0179abcmv\x7f\x80\xff"
 
 DAMAGED = (
@@ -101,7 +101,7 @@ def long_list_texts():
 
 def job_text(case):
     """The text of a case's job."""
-    return jobs.write_job(
+    return jobs.text_of(
         jobs.Job(case.modulus, case.a, case.b, case.c, OPERATION_OF[case.call], case.curve)
     )
 
@@ -115,18 +115,13 @@ def text_faults(case, number):
     if number == 7:
         return [replace(case, output_length=length) for length in (4095, 0)]
     if number == 6 and OPERATION_OF[case.call] in calls.WITHOUT_CURVE:
-        return [replace(case, curve=(0,)), replace(case, curve=case.a)]
+        return faults.unwanted_curves(case)
     if number == 5:
         return [
             replace(spoiled, output_length=case.output_length)
             for spoiled in faults.faults(case, 5)
         ]
     return faults.faults(case, number)
-
-
-def two_text_faults(source, case, lower, higher):
-    """One random fault of each number, the lower one put on last."""
-    return source.choice(text_faults(source.choice(text_faults(case, higher)), lower))
 
 
 def check_refused(tally, kind, text, output_length, working_length, verdict):
@@ -141,14 +136,17 @@ def check_refused(tally, kind, text, output_length, working_length, verdict):
     )
 
 
+def answer_text(case):
+    """What the text call has to answer to a case's job: the tree call's list."""
+    return b"op=%s\nout=%s\n" % (
+        OPERATION_OF[case.call].encode(),
+        b" ".join(b"%d" % number for number in cases.run(case).output),
+    )
+
+
 def check_answer(tally, case):
     """An accepted text: the tree call's list in the answer, the rest unchanged."""
-    text = job_text(case)
-    numbers = cases.run(case).output
-    answer = b"op=%s\nout=%s\n" % (
-        OPERATION_OF[case.call].encode(),
-        b" ".join(b"%d" % number for number in numbers),
-    )
+    text, answer = job_text(case), answer_text(case)
     for output_length, working_length in ((4096, 16384), (5000, 16390)):
         output = OUTPUT_BEFORE[:output_length]
         working = cases.working_before(working_length)
@@ -177,7 +175,7 @@ def check_text_refusals(tally, source, call):
                 lengths = (spoiled.output_length, spoiled.working_length)
                 check_refused(tally, "text refusals", job_text(spoiled), *lengths, number)
         for lower, higher in combinations(numbers, 2):
-            spoiled = two_text_faults(source, case, lower, higher)
+            spoiled = faults.two_faults(source, case, lower, higher, text_faults)
             lengths = (spoiled.output_length, spoiled.working_length)
             check_refused(tally, "text refusals", job_text(spoiled), *lengths, lower)
 
@@ -241,6 +239,6 @@ def check(tally, source):
             check_answer(tally, case)
             text = job_text(case)
             check_reading(tally, text)
-            tally.equal("texts read", text, text, jobs.write_job(jobs.read_job(text)))
+            tally.equal("texts read", text, text, jobs.text_of(jobs.read_job(text)))
     for text in near_texts(SHOWN_JOB):
         check_reading(tally, text)

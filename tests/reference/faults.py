@@ -34,15 +34,17 @@ def unequal_lists(case):
     ]
 
 
+def with_rows_of_ones(case, added):
+    """The case with so many rows of ones added, and nothing else changed."""
+    ones = (1,) * added
+    return replace(case, a=case.a + ones, b=case.b + ones, c=case.c + ones)
+
+
 def lengthened(case, row_count):
     """The case with rows of ones added, curve and output longer to match."""
     added = row_count - len(case.a)
-    ones = (1,) * added
     return replace(
-        case,
-        a=case.a + ones,
-        b=case.b + ones,
-        c=case.c + ones,
+        with_rows_of_ones(case, added),
         curve=case.curve + (0,) * added if case.call in cases.ON_CURVES else (),
         output_length=case.output_length
         + (2 * added if case.call == cases.MOMENTS else added),
@@ -61,6 +63,11 @@ def wrong_curves(case):
         replace(case, curve=case.curve + (0,)),
         replace(case, curve=()),
     ]
+
+
+def unwanted_curves(case):
+    """6: the curve of a job for moments or norms is not empty."""
+    return [replace(case, curve=(0,)), replace(case, curve=case.a)]
 
 
 def wrong_outputs(case):
@@ -154,6 +161,6 @@ def faults(case, number):
     return FAULTS[number](case)
 
 
-def two_faults(source, case, lower, higher):
-    """A case with one random fault of each number, the lower one put on last."""
-    return source.choice(faults(source.choice(faults(case, higher)), lower))
+def two_faults(source, case, lower, higher, listed=faults):
+    """A case with one random fault of each number, as listed, the lower one put on last."""
+    return source.choice(listed(source.choice(listed(case, higher)), lower))

@@ -1,9 +1,10 @@
-"""The job text and the text call of the scope paper.
+"""The job text, the text call and the call that writes a job.
 
-A job is six lines, each ended by byte 10: mod, a, b, c, op, v. The text call
-answers with a TextOutcome: verdict 0 or a refusal number from 1 to 12, the
-length of the answer text (0 on refusal), the output bytes after the call and
-the working list after the call.
+A job is six lines, each ended by byte 10: mod, a, b, c, op, v. Both calls
+answer with a TextOutcome: verdict 0 or a refusal number from 1 to 12, the
+length of the text that was written (0 on refusal), the output bytes after the
+call and the working list after the call (None for the call that writes a job,
+which is lent none).
 """
 
 from dataclasses import dataclass
@@ -12,12 +13,19 @@ import calls
 
 LONGEST_JOB = 8192
 SHORTEST_OUTPUT = 4096
+SHORTEST_JOB_OUTPUT = 8192
 LARGEST_NUMBER = 4294967295
 KEYS = (b"mod", b"a", b"b", b"c", b"op", b"v")
 TEXT_TESTS = (3, 4, 5, 6, 7, 8, 9, 10, 11, 12)
 TEXT_CONDITIONS = calls.CONDITIONS | {
     7: lambda lent: len(lent.output) < SHORTEST_OUTPUT,
 }
+WRITING_TESTS = (3, 4, 5, 6, 7, 9, 10, 11, 12)
+WRITING_CONDITIONS = calls.CONDITIONS | {
+    7: lambda lent: len(lent.output) < SHORTEST_JOB_OUTPUT,
+}
+# Whoever has a job written names its operation by its place here, the scope paper's order.
+OPERATION_NAMES = ("expand", "adjoint", "decompose", "moments", "norms")
 
 
 class WrongForm(Exception):
@@ -38,12 +46,12 @@ class Job:
 
 @dataclass(frozen=True)
 class TextOutcome:
-    """What the text call leaves."""
+    """What a call that writes a text leaves."""
 
     verdict: int
     length: int
     output: bytes
-    working: list
+    working: list | None
 
 
 def read_number(word):
@@ -101,7 +109,7 @@ def write_numbers(numbers):
     return b" ".join(str(number).encode() for number in numbers)
 
 
-def write_job(job):
+def text_of(job):
     """The one text that says this job."""
     values = (
         write_numbers([job.modulus]),
@@ -119,6 +127,11 @@ def write_answer(operation, numbers):
     return b"op=" + operation.encode() + b"\nout=" + write_numbers(numbers) + b"\n"
 
 
+def finished(text, output, working):
+    """The outcome of a call that writes this text; past it the output is as it was."""
+    return TextOutcome(0, len(text), text + output[len(text) :], working)
+
+
 def text_call(text, output, working):
     """The text call on a job text, an output of bytes and a working list."""
     if len(text) > LONGEST_JOB:
@@ -134,9 +147,19 @@ def text_call(text, output, working):
     if verdict != 0:
         return TextOutcome(verdict, 0, output, working)
     answer = write_answer(job.operation, calls.result(lent))
-    return TextOutcome(
-        0, len(answer), answer + output[len(answer) :], calls.cleared(working)
-    )
+    return finished(answer, output, calls.cleared(working))
+
+
+def write_job(modulus, a, b, c, operation, curve, output):
+    """The call that writes a job, to an output of bytes; 2 if no operation has this number."""
+    if operation >= len(OPERATION_NAMES):
+        return TextOutcome(2, 0, output, None)
+    name = OPERATION_NAMES[operation]
+    lent = calls.Lent(name, modulus, a, b, c, curve, output, None)
+    verdict = calls.first_refusal(lent, WRITING_TESTS, WRITING_CONDITIONS)
+    if verdict != 0:
+        return TextOutcome(verdict, 0, output, None)
+    return finished(text_of(Job(modulus, a, b, c, name, curve)), output, None)
 
 
 def program_answer(text):

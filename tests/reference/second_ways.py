@@ -127,6 +127,12 @@ def trimmed(polynomial, length):
     return [curves.coefficient(polynomial, power) for power in range(length)]
 
 
+def written_by_template(modulus, a, b, c, operation, curve):
+    """The text of a job from one template, lists by Python's own notation."""
+    a, b, c, curve = (str(list(x)).strip("[]").replace(",", "") for x in (a, b, c, curve))
+    return f"mod={modulus}\na={a}\nb={b}\nc={c}\nop={operation}\nv={curve}\n".encode()
+
+
 def read_by_pattern(text):
     """The values of a job text by one regular expression, or None."""
     match = JOB.fullmatch(text)

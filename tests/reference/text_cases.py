@@ -10,6 +10,7 @@ from itertools import combinations
 
 import cases
 import check_texts
+import faults
 import jobs
 from check_figures import (
     P10_FAMILY,
@@ -89,7 +90,7 @@ def refused(source, call):
         )
         spoiled = [source.choice(check_texts.text_faults(case, x)) for x in numbers]
         for pair in combinations(numbers, 2):
-            spoiled.append(check_texts.two_text_faults(source, case, *pair))
+            spoiled.append(faults.two_faults(source, case, *pair, check_texts.text_faults))
         for other in spoiled:
             text = check_texts.job_text(other)
             yield TextCase(text, other.output_length, other.working_length)

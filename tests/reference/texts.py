@@ -17,12 +17,11 @@ byte for byte: exit 1 if they differ. Bad arguments exit with 2.
 """
 
 import argparse
-import os
 import sys
 
 import jobs
 from text_cases import text_cases
-from vectors import Unusable, compare, write_all
+from vectors import contents_of, write_or_compare
 
 ESCAPED = b'"\\'
 
@@ -43,35 +42,24 @@ def input_line(case):
     return f"{case.output_length} {case.working_length} {quoted(case.text)}\n"
 
 
+def outcome_line(outcome):
+    """The line of OUT for what a call that writes a text leaves."""
+    return f"{outcome.verdict} {quoted(outcome.output[: outcome.length])}\n"
+
+
 def expected_line(case):
     """The line of OUT for a case."""
-    outcome = jobs.text_call(case.text, bytes(case.output_length), [0] * case.working_length)
-    return f"{outcome.verdict} {quoted(outcome.output[: outcome.length])}\n"
+    return outcome_line(
+        jobs.text_call(case.text, bytes(case.output_length), [0] * case.working_length)
+    )
 
 
 def main():
     """Write or compare the two files."""
     parser = argparse.ArgumentParser(description="Write or compare vectors for the text call.")
-    parser.add_argument("--check", action="store_true", help="compare in place of writing")
-    parser.add_argument("input", metavar="IN", help="the file of texts")
-    parser.add_argument("expected", metavar="OUT", help="the file of expected answers")
-    arguments = parser.parse_args()
-    paths = (arguments.input, arguments.expected)
-    if os.path.realpath(paths[0]) == os.path.realpath(paths[1]):
-        parser.error("IN and OUT have to be two files")
-    found = text_cases()
-    lines = (map(input_line, found), map(expected_line, found))
-    contents = {path: "".join(part).encode() for path, part in zip(paths, lines)}
-    try:
-        if arguments.check:
-            return 0 if compare(contents) else 1
-        write_all(contents)
-    except Unusable as problem:
-        print(f"texts.py: {problem}", file=sys.stderr)
-        return 2
-    sizes = ", ".join(f"{path} {len(content)} bytes" for path, content in contents.items())
-    print(f"{len(found)} texts: {sizes}")
-    return 0
+    return write_or_compare(
+        parser, "texts", lambda _: contents_of(text_cases(), input_line, expected_line)
+    )
 
 
 if __name__ == "__main__":

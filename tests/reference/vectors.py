@@ -68,13 +68,15 @@ def expected_line(case):
     return line(numbers)
 
 
+def contents_of(found, *lines):
+    """The bytes of each file, which has a line for every case; lines make them."""
+    return ["".join(map(line_of, found)).encode() for line_of in lines]
+
+
 def vectors(selection):
     """The bytes of IN and of OUT for the selected calls, in order of number."""
     chosen = [case for call in selection for case in cases_of_call(call)]
-    return (
-        "".join(map(input_line, chosen)).encode(),
-        "".join(map(expected_line, chosen)).encode(),
-    )
+    return contents_of(chosen, input_line, expected_line)
 
 
 def call_selection(word):
@@ -142,6 +144,31 @@ def compare(contents):
     return same
 
 
+def write_or_compare(parser, unit, make):
+    """Add --check, IN and OUT to the parser; write what make(arguments) gives, or compare.
+
+    make gives the bytes of IN and those of OUT, and unit is what a line of either says.
+    """
+    parser.add_argument("--check", action="store_true", help="compare in place of writing")
+    parser.add_argument("input", metavar="IN", help=f"the file of {unit}")
+    parser.add_argument("expected", metavar="OUT", help="the file of expected answers")
+    arguments = parser.parse_args()
+    paths = (arguments.input, arguments.expected)
+    if os.path.realpath(paths[0]) == os.path.realpath(paths[1]):
+        parser.error("IN and OUT have to be two files")
+    contents = dict(zip(paths, make(arguments)))
+    try:
+        if arguments.check:
+            return 0 if compare(contents) else 1
+        write_all(contents)
+    except Unusable as problem:
+        print(f"{parser.prog}: {problem}", file=sys.stderr)
+        return 2
+    sizes = ", ".join(f"{path} {len(content)} bytes" for path, content in contents.items())
+    print(f"{contents[paths[0]].count(10)} {unit}: {sizes}")
+    return 0
+
+
 def main():
     """Write or compare the two files."""
     parser = argparse.ArgumentParser(description="Write or compare vectors for the calls.")
@@ -151,24 +178,7 @@ def main():
         default=sorted(cases.CALL_NAMES),
         help="numbers of calls, commas between; all nine by default",
     )
-    parser.add_argument("--check", action="store_true", help="compare in place of writing")
-    parser.add_argument("input", metavar="IN", help="the file of cases")
-    parser.add_argument("expected", metavar="OUT", help="the file of expected answers")
-    arguments = parser.parse_args()
-    paths = (arguments.input, arguments.expected)
-    if os.path.realpath(paths[0]) == os.path.realpath(paths[1]):
-        parser.error("IN and OUT have to be two files")
-    contents = dict(zip(paths, vectors(arguments.calls)))
-    try:
-        if arguments.check:
-            return 0 if compare(contents) else 1
-        write_all(contents)
-    except Unusable as problem:
-        print(f"vectors.py: {problem}", file=sys.stderr)
-        return 2
-    sizes = ", ".join(f"{path} {len(content)} bytes" for path, content in contents.items())
-    print(f"{contents[paths[0]].count(10)} cases: {sizes}")
-    return 0
+    return write_or_compare(parser, "cases", lambda arguments: vectors(arguments.calls))
 
 
 if __name__ == "__main__":

@@ -3,8 +3,9 @@
  * usage: stack
  *
  * For each function a line: its name and the most bytes that it took, of accepted cases with r = 127 and r = 0 and of a refused one,
- * modulo a prime and a composite number; of the text call, for every operation. A byte counts if it lies between the frame of the
- * caller, which holds the arguments, and the lowest byte that was written. Exits 1 if a call gives another answer than it should.
+ * modulo a prime and a composite number; of the text call and of the call that writes a job, for every operation. A byte counts if it
+ * lies between the frame of the caller, which holds the arguments, and the lowest byte that was written. Exits 1 if a call gives
+ * another answer than it should.
  */
 #define _XOPEN_SOURCE 700
 #include <inttypes.h>
@@ -22,9 +23,9 @@ static ucontext_t here, there;
 
 /* What the calls are lent, and what they answer. */
 static uint32_t m, a[MOST], b[MOST], c[MOST], curve[MOST + 1], output[LIST], work[ZAHUPNIK_LEAST_WORK];
-static size_t r, n, text_length;
-static uint8_t text[ZAHUPNIK_MOST_TEXT], text_output[ZAHUPNIK_LEAST_TEXT_OUTPUT];
-static uint32_t length, answer;
+static size_t r, n, text_length, job_entries;
+static uint8_t text[ZAHUPNIK_MOST_TEXT], text_output[ZAHUPNIK_LEAST_TEXT_OUTPUT], job_output[ZAHUPNIK_LEAST_JOB_OUTPUT];
+static uint32_t operation, length, answer;
 static unsigned char *frame;
 
 #define FAMILY m, a, r, b, r, c, r
@@ -43,6 +44,7 @@ CALL(tree_adjoint, FAMILY, curve, n, output, n, work, ZAHUPNIK_LEAST_WORK)
 CALL(tree_decompose, FAMILY, curve, n, output, n, work, ZAHUPNIK_LEAST_WORK)
 CALL(moments, FAMILY, output, 2 * n - 1, work, ZAHUPNIK_LEAST_WORK)
 CALL(convert_text, text, text_length, text_output, sizeof text_output, work, ZAHUPNIK_LEAST_WORK, &length)
+CALL(write_job, FAMILY, operation, curve, job_entries, job_output, sizeof job_output, &length)
 
 static const struct {
     const char *name;
@@ -58,6 +60,7 @@ static const struct {
     {"zahupnik_tree_decompose", tree_decompose},
     {"zahupnik_moments", moments},
     {"zahupnik_convert_text", convert_text},
+    {"zahupnik_write_job", write_job},
 };
 
 /* How many bytes of the painted stack lie between the caller's frame and the lowest that the call wrote. */
@@ -101,25 +104,27 @@ static char *write_list(char *at, const char *key, const uint32_t *list, size_t 
     for (size_t i = 0; i < count; i++) at += sprintf(at, "%s%" PRIu32, i ? " " : "", list[i]);
     return at + sprintf(at, "\n");
 }
-static void make_text(const char *operation) {
+static void make_text(void) {
+    static const char *const names[] = {[ZAHUPNIK_EXPAND] = "expand",       [ZAHUPNIK_ADJOINT] = "adjoint",
+                                        [ZAHUPNIK_DECOMPOSE] = "decompose", [ZAHUPNIK_MOMENTS] = "moments",
+                                        [ZAHUPNIK_NORMS] = "norms"};
     char *at = (char *)text;
-    size_t entries = strcmp(operation, "moments") && strcmp(operation, "norms") ? n : 0;
     at = write_list(at, "mod", &m, 1);
     at = write_list(at, "a", a, r);
     at = write_list(at, "b", b, r);
     at = write_list(at, "c", c, r);
-    at += sprintf(at, "op=%s\n", operation);
-    at = write_list(at, "v", curve, entries);
+    at += sprintf(at, "op=%s\n", names[operation]);
+    at = write_list(at, "v", curve, job_entries);
     text_length = (size_t)(at - (char *)text);
 }
 
-/* The most that a call takes of the case at hand. */
+/* The most that a call takes of the case at hand: a call on a job, for every operation. */
 static size_t most_of(size_t i, uint32_t wanted) {
-    static const char *const operations[] = {"expand", "adjoint", "decompose", "moments", "norms"};
     size_t most = 0;
-    if (calls[i].run != convert_text) return measure(calls[i].name, calls[i].run, wanted);
-    for (size_t k = 0; k < sizeof operations / sizeof *operations; k++) {
-        make_text(operations[k]);
+    if (calls[i].run != convert_text && calls[i].run != write_job) return measure(calls[i].name, calls[i].run, wanted);
+    for (operation = ZAHUPNIK_EXPAND; operation <= ZAHUPNIK_NORMS; operation++) {
+        job_entries = operation == ZAHUPNIK_MOMENTS || operation == ZAHUPNIK_NORMS ? 0 : n;
+        make_text();
         size_t bytes = measure(calls[i].name, calls[i].run, wanted);
         if (bytes > most) most = bytes;
     }
