@@ -90,7 +90,7 @@ static struct lent accepted(struct random *random, enum operation operation, enu
     x.curve.length = curve_length(&x);
     fill(random, x.curve, 0, x.m, operation == INVERSE ? kind : RESIDUES);
     x.output_length = result_length(&x);
-    if (way == TEXT) x.output_length = LEAST_TEXT_OUTPUT + below(random, one_in(random, 2) ? 2 : 2000);
+    if (least_output(&x)) x.output_length = least_output(&x) + below(random, one_in(random, 2) ? 2 : 2000);
     if (takes_work(&x)) x.work_length = LEAST_WORK + below(random, one_in(random, 2) ? 2 : 2000);
     return x;
 }
@@ -139,15 +139,23 @@ static void fault_5(struct random *random, struct lent *x) {
     resize(random, &x->c, rows, x->m);
     if (one_in(random, 2)) return;
     resize(random, &x->curve, curve_length(x), x->m);
-    if (x->way != TEXT) x->output_length = result_length(x);
+    if (!least_output(x)) x->output_length = result_length(x);
 }
 
 static void fault_6(struct random *random, struct lent *x) {
     resize(random, &x->curve, other_length(random, x->curve.length), x->m);
 }
 
+/* An output that would do for an answer text is too short for a job too: so lengths where either begins to be long enough. */
+static size_t some_short_job_output(struct random *random) {
+    const size_t lengths[] = {0, LEAST_TEXT_OUTPUT - 1, LEAST_TEXT_OUTPUT, LEAST_JOB_OUTPUT - 1, below(random, LEAST_JOB_OUTPUT)};
+    return ONE_OF(random, lengths);
+}
+
 static void fault_7(struct random *random, struct lent *x) {
-    if (x->way == TEXT)
+    if (x->way == WRITING)
+        x->output_length = some_short_job_output(random);
+    else if (x->way == TEXT)
         x->output_length = one_in(random, 2) ? LEAST_TEXT_OUTPUT - 1 : below(random, LEAST_TEXT_OUTPUT);
     else if (one_in(random, 4))
         x->output_length = x->operation == MOMENTS ? x->a.length + 1 : 2 * x->a.length + 1;

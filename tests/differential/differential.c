@@ -2,8 +2,9 @@
  *
  * usage: differential [CASES [SEED [FIRST]]]
  *
- * Of the first million cases each is of any of the ten calls. The others, 4,550,000 if CASES is not stated, are of the five quick
- * calls in turn. So each quick call has a million cases and more, and each of the others about 100,000.
+ * Of the first 1,100,000 cases each eleventh is of write_job, and each of the others is of any of the other ten calls. The rest,
+ * 4,550,000 if CASES is not stated, are of the five quick calls in turn. So each quick call has a million cases and more, and
+ * each of the others about 100,000. What write_job wrote is read by the text call in the same case.
  *
  * Compares the number returned, all that a call writes, and that it writes nothing else (trial.h). Prints how many cases each call
  * had and how often it gave each answer, and exits 0; shows the first case that differs and exits 1. It exits 1 too if some call
@@ -14,16 +15,17 @@
 #include <stdlib.h>
 
 #include "cases.h"
+#include "job.h"
 #include "text.h"
 #include "trial.h"
 #include "zahupnik.h"
 
-static const uint64_t ALL_CALLS = 1000000, QUICK_CALLS = 4550000, SEED = 20240229;
+static const uint64_t ALL_CALLS = 1100000, QUICK_CALLS = 4550000, SEED = 20240229;
 
 enum { ANSWERS = 14, QUICK = 5 };
 
 /* A call by its name in the header without zahupnik_, which answers it can give, how it is run on lists, how often it gave each
- * answer, and whether it finished with so many rows. The text call is not run on lists. */
+ * answer, and whether it finished with so many rows. What writes a text is not run on lists: its cases are run alone. */
 struct call {
     const char *name;
     const char *answers;
@@ -32,6 +34,7 @@ struct call {
     uint32_t (*run)(const struct lent *x, uint32_t *output, uint32_t *work);
     unsigned long met[ANSWERS];
     bool finished[MOST_ROWS + 1];
+    uint32_t (*run_alone)(struct trial *trial, struct random *random);
 };
 
 #define LIST(list) x->list.entries, x->list.length
@@ -53,54 +56,59 @@ RUN(tree_adjoint, FAMILY, LIST(curve), OUTPUT, WORK)
 RUN(tree_decompose, FAMILY, LIST(curve), OUTPUT, WORK)
 RUN(moments, FAMILY, OUTPUT, WORK)
 
-/* Answers: a sign for each number from 0 to 13, a point where the call cannot give it. The quick calls come first. */
+/* Answers: a sign for each number from 0 to 13, a point where the call cannot give it. The quick calls come first, and write_job
+ * comes last. */
 static struct call calls[] = {
-    {"invert", "0..3........CD", INVERSE, PLAIN, invert, {0}, {0}},
-    {"plain_expand", "0..34567.9ABC.", EXPAND, PLAIN, plain_expand, {0}, {0}},
-    {"plain_adjoint", "0..34567.9ABC.", ADJOINT, PLAIN, plain_adjoint, {0}, {0}},
-    {"plain_decompose", "0..34567.9ABC.", DECOMPOSE, PLAIN, plain_decompose, {0}, {0}},
-    {"norms", "0..345.7.9AB..", NORMS, PLAIN, norms, {0}, {0}},
-    {"tree_expand", "0..3456789ABC.", EXPAND, TREE, tree_expand, {0}, {0}},
-    {"tree_adjoint", "0..3456789ABC.", ADJOINT, TREE, tree_adjoint, {0}, {0}},
-    {"tree_decompose", "0..3456789ABC.", DECOMPOSE, TREE, tree_decompose, {0}, {0}},
-    {"moments", "0..345.789AB..", MOMENTS, TREE, moments, {0}, {0}},
-    {.name = "convert_text", .answers = "0123456789ABC.", .run = NULL},
+    {"invert", "0..3........CD", INVERSE, PLAIN, invert, {0}, {0}, NULL},
+    {"plain_expand", "0..34567.9ABC.", EXPAND, PLAIN, plain_expand, {0}, {0}, NULL},
+    {"plain_adjoint", "0..34567.9ABC.", ADJOINT, PLAIN, plain_adjoint, {0}, {0}, NULL},
+    {"plain_decompose", "0..34567.9ABC.", DECOMPOSE, PLAIN, plain_decompose, {0}, {0}, NULL},
+    {"norms", "0..345.7.9AB..", NORMS, PLAIN, norms, {0}, {0}, NULL},
+    {"tree_expand", "0..3456789ABC.", EXPAND, TREE, tree_expand, {0}, {0}, NULL},
+    {"tree_adjoint", "0..3456789ABC.", ADJOINT, TREE, tree_adjoint, {0}, {0}, NULL},
+    {"tree_decompose", "0..3456789ABC.", DECOMPOSE, TREE, tree_decompose, {0}, {0}, NULL},
+    {"moments", "0..345.789AB..", MOMENTS, TREE, moments, {0}, {0}, NULL},
+    {.name = "convert_text", .answers = "0123456789ABC.", .run_alone = run_on_text},
+    {.name = "write_job", .answers = "0.234567.9ABC.", .run_alone = run_on_job},
 };
-enum { COUNT = sizeof calls / sizeof *calls };
+enum { COUNT = sizeof calls / sizeof *calls, WRITE_JOB = COUNT - 1 };
 
 static bool can_give(const struct call *call, int answer) { return call->answers[answer] != '.'; }
-
-static struct list lend_list(struct trial *trial, struct random *random, const char *name, struct list list) {
-    struct lending lending = {name, sizeof(uint32_t), list.entries, list.length, NULL, 0};
-    return (struct list){lend(trial, random, lending), list.length};
-}
 
 /* Runs a random case of a call on lists and holds it against the model; the answer. */
 static uint32_t run_on_lists(const struct call *call, struct trial *trial, struct random *random) {
     static const uint32_t zeros[LEAST_WORK];
     uint32_t result[MOST_RESULTS], *output, *work = NULL;
-    struct lent x = make_case(random, call->operation, call->way), lent = x;
+    struct lent x = make_case(random, call->operation, call->way);
     trial->m = &x.m;
     trial->rows = x.a.length;
     trial->number = refusal(&x);
     if (trial->number == 0) hand_out(&x, result);
-    if (takes_family(&x)) {
-        lent.a = lend_list(trial, random, "a", x.a);
-        lent.b = lend_list(trial, random, "b", x.b);
-        lent.c = lend_list(trial, random, "c", x.c);
-    }
-    if (takes_curve(&x)) lent.curve = lend_list(trial, random, "curve", x.curve);
+    struct lent lent = lend_lists(trial, random, &x);
     output = lend_numbers(trial, random, "output", x.output_length, result, result_length(&x));
     if (takes_work(&x)) work = lend_numbers(trial, random, "working list", x.work_length, zeros, LEAST_WORK);
     compare(trial, call->run(&lent, output, work));
     return trial->number;
 }
 
+/* The call of a case, and its random source. The cases of write_job that come before it and the others are counted apart, so that
+ * the share of write_job moves no other case. */
+static struct call *call_of_case(uint64_t seed, uint64_t number_of_case, struct random *random) {
+    bool of_all = number_of_case < ALL_CALLS;
+    uint64_t jobs = (of_all ? number_of_case : ALL_CALLS) / COUNT, others = number_of_case - jobs;
+    if (of_all && number_of_case % COUNT == WRITE_JOB) {
+        *random = random_of_case(~seed, jobs);
+        return &calls[WRITE_JOB];
+    }
+    *random = random_of_case(seed, others);
+    return &calls[of_all ? below(random, WRITE_JOB) : others % QUICK];
+}
+
 static void run_case(uint64_t seed, uint64_t number_of_case) {
-    struct random random = random_of_case(seed, number_of_case);
-    struct call *call = number_of_case < ALL_CALLS ? &ONE_OF(&random, calls) : &calls[number_of_case % QUICK];
+    struct random random;
+    struct call *call = call_of_case(seed, number_of_case, &random);
     struct trial trial = {.call = call->name, .seed = seed, .number_of_case = number_of_case};
-    uint32_t answer = call->run ? run_on_lists(call, &trial, &random) : run_on_text(&trial, &random);
+    uint32_t answer = call->run ? run_on_lists(call, &trial, &random) : call->run_alone(&trial, &random);
     call->met[answer]++;
     if (answer == 0) call->finished[trial.rows] = true;
 }

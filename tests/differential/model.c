@@ -14,9 +14,9 @@ enum { N = MOST_ROWS + 1 };
 
 bool takes_family(const struct lent *x) { return x->operation != INVERSE; }
 
-bool takes_curve(const struct lent *x) { return x->way == TEXT || (x->operation != NORMS && x->operation != MOMENTS); }
+bool takes_curve(const struct lent *x) { return least_output(x) || (x->operation != NORMS && x->operation != MOMENTS); }
 
-bool takes_work(const struct lent *x) { return x->way != PLAIN; }
+bool takes_work(const struct lent *x) { return x->way == TREE || x->way == TEXT; }
 
 size_t curve_length(const struct lent *x) {
     if (x->operation == INVERSE) return 1;
@@ -26,6 +26,10 @@ size_t curve_length(const struct lent *x) {
 size_t result_length(const struct lent *x) {
     if (x->operation == INVERSE) return 1;
     return x->operation == MOMENTS ? 2 * x->a.length + 1 : x->a.length + 1;
+}
+
+size_t least_output(const struct lent *x) {
+    return x->way == TEXT ? LEAST_TEXT_OUTPUT : x->way == WRITING ? LEAST_JOB_OUTPUT : 0;
 }
 
 uint32_t common_divisor(uint32_t x, uint32_t y) {
@@ -55,7 +59,7 @@ uint32_t refusal(const struct lent *x) {
         if (x->a.length != x->b.length || x->b.length != x->c.length) return 4;
         if (x->a.length > MOST_ROWS) return 5;
         if (takes_curve(x) && x->curve.length != curve_length(x)) return 6;
-        if (x->way == TEXT ? x->output_length < LEAST_TEXT_OUTPUT : x->output_length != result_length(x)) return 7;
+        if (least_output(x) ? x->output_length < least_output(x) : x->output_length != result_length(x)) return 7;
         if (takes_work(x) && x->work_length < LEAST_WORK) return 8;
         if (!all_below(x->a, x->m) || !all_below(x->b, x->m) || !all_below(x->c, x->m)) return 9;
         if (!all_have_inverses(x->a, x->m)) return 10;

@@ -15,14 +15,16 @@ enum {
     MOST_RESULTS = 2 * MOST_ROWS + 1,
     LEAST_WORK = 16384,
     LEAST_TEXT_OUTPUT = 4096,
+    LEAST_JOB_OUTPUT = 8192,
     GREATEST_MODULUS = 2147483647
 };
 
 enum operation { INVERSE, EXPAND, ADJOINT, DECOMPOSE, NORMS, MOMENTS };
 
 /* By which way a call goes. Inverse and Norms are plain and Moments is of the tree: that says whether a working list is lent. A
- * call by text is lent a curve and a working list whatever it does, and its output is counted in bytes. */
-enum way { PLAIN, TREE, TEXT };
+ * call by text is lent a curve and a working list whatever it does, and its output is counted in bytes. So it is with the call
+ * that writes a job, but for the working list, which it is not lent. */
+enum way { PLAIN, TREE, TEXT, WRITING };
 
 struct list {
     uint32_t *entries;
@@ -46,6 +48,9 @@ bool takes_work(const struct lent *x);
 /* The lengths that the curve and the list handed out have to have. */
 size_t curve_length(const struct lent *x);
 size_t result_length(const struct lent *x);
+
+/* How many bytes an output for a text has to have at least; 0 for a list. */
+size_t least_output(const struct lent *x);
 
 /* The number of the refusal from 3 to 13 that the call gives, or 0. */
 uint32_t refusal(const struct lent *x);

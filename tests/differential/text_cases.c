@@ -1,9 +1,7 @@
 /* What text_cases.h declares. A text is written from a random case (cases.h), which may be refused with 3 to 12; some texts are
- * then damaged once or more. Uses of the model only the words of the operations. */
+ * then damaged once or more. Uses of the model only how a job is written: what the call has to answer is read in the bytes. */
 #include "text_cases.h"
 
-#include <inttypes.h>
-#include <stdio.h>
 #include <string.h>
 
 #include "text_model.h"
@@ -18,32 +16,6 @@ static void splice(struct text *text, size_t at, size_t taken, const void *bytes
 
 static void splice_word(struct text *text, size_t at, size_t taken, const char *word) {
     splice(text, at, taken, word, strlen(word));
-}
-
-static void write_number(struct text *text, uint32_t number) {
-    text->length += (size_t)sprintf((char *)text->bytes + text->length, "%" PRIu32, number);
-}
-
-static void write_list(struct text *text, const char *key, struct list list) {
-    splice_word(text, text->length, 0, key);
-    for (size_t i = 0; i < list.length; i++) {
-        if (i) splice_word(text, text->length, 0, " ");
-        write_number(text, list.entries[i]);
-    }
-    splice_word(text, text->length, 0, "\n");
-}
-
-static void write_job(struct text *text, const struct lent *x) {
-    uint32_t m = x->m;
-    text->length = 0;
-    write_list(text, "mod=", (struct list){&m, 1});
-    write_list(text, "a=", x->a);
-    write_list(text, "b=", x->b);
-    write_list(text, "c=", x->c);
-    splice_word(text, text->length, 0, "op=");
-    splice_word(text, text->length, 0, WORDS[x->operation]);
-    splice_word(text, text->length, 0, "\n");
-    write_list(text, "v=", x->curve);
 }
 
 /* A place with this byte, chosen among all of them; the text's length if there is none. */
@@ -219,7 +191,7 @@ static text_damage *const DAMAGES[] = {
 void make_text(struct random *random, struct text *text, size_t *output_length, size_t *work_length) {
     static const enum operation operations[] = {EXPAND, ADJOINT, DECOMPOSE, NORMS, MOMENTS};
     struct lent x = make_case(random, ONE_OF(random, operations), TEXT);
-    write_job(text, &x);
+    text->length = write_job(&x, text->bytes);
     *output_length = x.output_length;
     *work_length = x.work_length;
     if (one_in(random, 3)) {

@@ -1,4 +1,4 @@
-/* What text_model.h declares: a reader that goes through the bytes once, and the answer text put together piece by piece. */
+/* What text_model.h declares: a reader that goes through the bytes once, and texts put together line by line. */
 #include "text_model.h"
 
 #include <inttypes.h>
@@ -8,6 +8,11 @@
 const char *const WORDS[] = {
     [EXPAND] = "expand", [ADJOINT] = "adjoint", [DECOMPOSE] = "decompose", [NORMS] = "norms", [MOMENTS] = "moments",
 };
+
+enum operation operation_of(uint32_t number) {
+    static const enum operation in_order[OPERATIONS] = {EXPAND, ADJOINT, DECOMPOSE, MOMENTS, NORMS};
+    return number < OPERATIONS ? in_order[number] : EXPAND;
+}
 
 /* What is left of the text. */
 struct rest {
@@ -71,18 +76,42 @@ static bool read_job(struct rest rest, struct lent *x) {
            read_list(&rest, &x->curve) && rest.length == 0;
 }
 
-/* The answer text of 127 rows is longest for the moments: 255 numbers of at most 10 digits, which fit. */
-uint32_t write_answer(const struct lent *x, uint8_t answer[ANSWER_ROOM]) {
-    uint32_t result[MOST_RESULTS];
-    char *at = (char *)answer, *end = at + ANSWER_ROOM;
-    hand_out(x, result);
-    at += snprintf(at, (size_t)(end - at), "op=%s\nout=", WORDS[x->operation]);
-    for (size_t i = 0; i < result_length(x); i++)
-        at += snprintf(at, (size_t)(end - at), "%" PRIu32 "%c", result[i], i + 1 < result_length(x) ? ' ' : '\n');
-    return (uint32_t)(at - (char *)answer);
-}
-
 uint32_t read_text(const uint8_t *text, size_t length, struct lent *x) {
     if (length > LONGEST_TEXT) return 1;
     return read_job((struct rest){text, length}, x) ? 0 : 2;
+}
+
+uint32_t writing_refusal(uint32_t operation, const struct lent *x) { return operation < OPERATIONS ? refusal(x) : 2; }
+
+/* A line of numbers; where it ends. Its last byte takes the place of the zero byte that sprintf leaves, so that nothing is
+ * written past it. */
+static char *write_line(char *at, const char *key, struct list list) {
+    at += sprintf(at, "%s", key);
+    for (size_t i = 0; i < list.length; i++) at += sprintf(at, i ? " %" PRIu32 : "%" PRIu32, list.entries[i]);
+    *at = '\n';
+    return at + 1;
+}
+
+uint32_t write_job(const struct lent *x, uint8_t *job) {
+    uint32_t m = x->m;
+    char *at = write_line((char *)job, "mod=", (struct list){&m, 1});
+    at = write_line(at, "a=", x->a);
+    at = write_line(at, "b=", x->b);
+    at = write_line(at, "c=", x->c);
+    at += sprintf(at, "op=%s\n", WORDS[x->operation]);
+    at = write_line(at, "v=", x->curve);
+    return (uint32_t)(at - (char *)job);
+}
+
+uint32_t write_result(enum operation operation, struct list result, uint8_t *answer) {
+    char *at = (char *)answer;
+    at += sprintf(at, "op=%s\n", WORDS[operation]);
+    return (uint32_t)(write_line(at, "out=", result) - (char *)answer);
+}
+
+/* The answer text of 127 rows is longest for the moments: 255 numbers of at most 10 digits, which fit. */
+uint32_t write_answer(const struct lent *x, uint8_t answer[ANSWER_ROOM]) {
+    uint32_t result[MOST_RESULTS];
+    hand_out(x, result);
+    return write_result(x->operation, (struct list){result, result_length(x)}, answer);
 }

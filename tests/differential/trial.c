@@ -43,6 +43,7 @@ static void show(const void *numbers, size_t width, size_t length) {
 static void show_case(const struct trial *trial) {
     fprintf(stderr, "differential: seed %" PRIu64 ", case %" PRIu64 ": %s\n", trial->seed, trial->number_of_case, trial->call);
     if (trial->m) fprintf(stderr, " m %" PRIu32 "\n", *trial->m);
+    if (trial->operation) fprintf(stderr, " operation %" PRIu32 "\n", *trial->operation);
     for (size_t i = 0; i < trial->lendings; i++) {
         const struct lending *x = &trial->lending[i];
         fprintf(stderr, " %s, %zu %s%s", x->name, x->length, x->width == 1 ? "byte" : "number", plural(x->length));
@@ -109,6 +110,22 @@ void *lend(struct trial *trial, struct random *random, struct lending lending) {
     return trial->at[place];
 }
 
+static struct list lend_list(struct trial *trial, struct random *random, const char *name, struct list list) {
+    struct lending lending = {name, sizeof *list.entries, list.entries, list.length, NULL, 0};
+    return (struct list){lend(trial, random, lending), list.length};
+}
+
+struct lent lend_lists(struct trial *trial, struct random *random, const struct lent *x) {
+    struct lent lent = *x;
+    if (takes_family(x)) {
+        lent.a = lend_list(trial, random, "a", x->a);
+        lent.b = lend_list(trial, random, "b", x->b);
+        lent.c = lend_list(trial, random, "c", x->c);
+    }
+    if (takes_curve(x)) lent.curve = lend_list(trial, random, "curve", x->curve);
+    return lent;
+}
+
 uint32_t *lend_numbers(struct trial *trial, struct random *random, const char *name, size_t length, const uint32_t *front,
                        size_t front_length) {
     const void *before = dirt(random, length * sizeof *front);
@@ -121,7 +138,7 @@ static void show_returned(const char *which, uint32_t number) {
 
 /* Shows the first number that differs, and all of them if they are few enough to be read. */
 static void show_difference(const struct lending *x, const unsigned char *at, size_t front_length) {
-    size_t i = 0;
+    size_t i = 0, shown = front_length ? front_length : x->length;
     uint32_t expected = 0, got = 0;
     for (; i < x->length && expected == got; i++) {
         expected = i < front_length ? number_at(x->front, x->width, i) : number_at(x->before, x->width, i);
@@ -132,11 +149,11 @@ static void show_difference(const struct lending *x, const unsigned char *at, si
         return;
     }
     fprintf(stderr, " %s: differs first at place %zu, expected %" PRIu32 ", got %" PRIu32 "\n", x->name, i - 1, expected, got);
-    if (x->length > 6000) return;
+    if (shown > 6000) return;
     fprintf(stderr, "  expected%s", x->width == 1 ? " " : "");
-    show(front_length ? x->front : x->before, x->width, front_length ? front_length : x->length);
+    show(front_length ? x->front : x->before, x->width, shown);
     fprintf(stderr, "  got%s", x->width == 1 ? " " : "");
-    show(at, x->width, front_length ? front_length : x->length);
+    show(at, x->width, shown);
 }
 
 static bool holds(const struct lending *x, const unsigned char *at, size_t front_length) {

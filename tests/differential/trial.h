@@ -9,6 +9,7 @@
 #include <stddef.h>
 #include <stdint.h>
 
+#include "model.h"
 #include "random.h"
 
 enum { MOST_LENDINGS = 6 };
@@ -25,11 +26,12 @@ struct lending {
     size_t front_length;
 };
 
-/* A case of a call. Number is what it has to return; a text has no m of its own. Rows says how long its family is. */
+/* A case of a call. Number is what it has to return; a text has no m of its own, and only write_job is told the number of an
+ * operation. Rows says how long its family is. */
 struct trial {
     const char *call;
     uint64_t seed, number_of_case;
-    const uint32_t *m;
+    const uint32_t *m, *operation;
     uint32_t number;
     size_t rows, lendings;
     struct lending lending[MOST_LENDINGS];
@@ -44,6 +46,9 @@ const void *dirt(struct random *random, size_t bytes);
 
 /* Lends numbers, and returns where they are: for none of them sometimes NULL. */
 void *lend(struct trial *trial, struct random *random, struct lending lending);
+
+/* Lends the lists that the call takes, and returns x with what was lent in their places. */
+struct lent lend_lists(struct trial *trial, struct random *random, const struct lent *x);
 
 /* Lends 32-bit numbers that the call may write, dirty, with what a finished call leaves at their front. */
 uint32_t *lend_numbers(struct trial *trial, struct random *random, const char *name, size_t length, const uint32_t *front,

@@ -3,6 +3,8 @@
 
 #include <string.h>
 
+#include "text_model.h"
+
 #define R 7, 2, {1, 2}, {0, 3}, {1, 5}
 #define FOUR 35, 4, {2, 3, 4, 6}, {1, 0, 34, 5}, {3, 8, 9, 11}
 #define EIGHT 10, 8, {1, 3, 7, 9, 1, 3, 7, 9}, {0, 1, 2, 3, 4, 5, 6, 7}, {9, 7, 3, 1, 9, 7, 3, 1}
@@ -66,6 +68,21 @@ const struct text_figure TEXT_FIGURES[] = {
     {.name = NULL},
 };
 
+const struct job_figure JOB_FIGURES[] = {
+    {"operation 5", 7, 5, {3, 0, 1}, 3, 8192, 2},
+    {"operation 256", 7, 256, {3, 0, 1}, 3, 8192, 2},
+    {"operation 5 and m = 1", 1, 5, {3, 0, 1}, 3, 8192, 2},
+    {"4,096 bytes", 7, 0, {3, 0, 1}, 3, 4096, 7},
+    {"8,191 bytes", 7, 0, {3, 0, 1}, 3, 8191, 7},
+    {"m = 1 and 8,191 bytes", 1, 0, {3, 0, 1}, 3, 8191, 3},
+    {"a curve for moments", 7, 3, {3, 0, 1}, 3, 8192, 6},
+    {"a curve for norms", 7, 4, {3, 0, 1}, 3, 8192, 6},
+    {"no curve for expand", 7, 0, {0}, 0, 8192, 6},
+    {"v=7 0 1", 7, 0, {7, 0, 1}, 3, 8192, 12},
+    {"the greatest modulus", 2147483647, 0, {2147483646, 0, 1}, 3, 8192, 0},
+    {.name = NULL},
+};
+
 struct lent figure_lent(const struct figure *figure) {
     struct lent x = {.operation = figure->operation, .m = figure->m};
     x.a = (struct list){(uint32_t *)figure->a, figure->rows};
@@ -75,16 +92,29 @@ struct lent figure_lent(const struct figure *figure) {
     return x;
 }
 
+struct lent job_figure_lent(const struct job_figure *figure) {
+    struct lent x = figure_lent(&FIGURES[0]);
+    x.m = figure->m;
+    x.operation = operation_of(figure->operation);
+    x.way = WRITING;
+    x.curve = (struct list){(uint32_t *)figure->curve, figure->curve_length};
+    x.output_length = figure->output_length;
+    return x;
+}
+
 static bool same(struct list x, struct list y) {
     return x.length == y.length && (!x.length || memcmp(x.entries, y.entries, x.length * sizeof *x.entries) == 0);
 }
 
+static bool same_input(const struct lent *x, struct lent y) {
+    return x->operation == y.operation && x->m == y.m && same(x->a, y.a) && same(x->b, y.b) && same(x->c, y.c) &&
+           same(x->curve, y.curve);
+}
+
 bool is_figure(const struct lent *x) {
-    for (const struct figure *figure = FIGURES; figure->name; figure++) {
-        struct lent y = figure_lent(figure);
-        if (x->operation == y.operation && x->m == y.m && same(x->a, y.a) && same(x->b, y.b) && same(x->c, y.c) &&
-            same(x->curve, y.curve))
-            return true;
-    }
+    for (const struct figure *figure = FIGURES; figure->name; figure++)
+        if (same_input(x, figure_lent(figure))) return true;
+    for (const struct job_figure *figure = JOB_FIGURES; figure->name; figure++)
+        if (same_input(x, job_figure_lent(figure))) return true;
     return false;
 }

@@ -1,5 +1,5 @@
 /* The scope paper's figures P1 to P12, and examples for what they leave untouched: `four` of definitions and `eight` of tree_model, whose
- * trees have levels; refusals of each operation; and job texts that are not of the form.
+ * trees have levels; refusals of each operation; job texts that are not of the form; and jobs to be written.
  */
 #ifndef FIGURES_H
 #define FIGURES_H
@@ -31,8 +31,21 @@ struct text_figure {
 
 extern const struct text_figure TEXT_FIGURES[];
 
+/* A job that is to be written: the paper's, changed, with an operation by its number. Number is the refusal, or 0. */
+struct job_figure {
+    const char *name;
+    uint32_t m, operation, curve[3];
+    size_t curve_length, output_length;
+    uint32_t number;
+};
+
+extern const struct job_figure JOB_FIGURES[];
+
 /* The call's input, with no way and no lengths but those of the lists. */
 struct lent figure_lent(const struct figure *figure);
+
+/* The call's input, for expand if no operation has the number. */
+struct lent job_figure_lent(const struct job_figure *figure);
 
 /* Whether the operation, m, the family and the curve are those of a figure. */
 bool is_figure(const struct lent *x);

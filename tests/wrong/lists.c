@@ -36,9 +36,7 @@ uint32_t finishes(const struct call *call) {
     return 0;
 }
 
-uint32_t row_by_row(const struct call *call) {
-    const struct lent *x = &call->lent;
-    uint32_t number = right(call);
+uint32_t rows_in_turn(const struct lent *x, uint32_t number) {
     if (number < 9 || number > 11) return number;
     for (size_t i = 0; i < x->a.length; i++) {
         if (x->a.entries[i] >= x->m || x->b.entries[i] >= x->m || x->c.entries[i] >= x->m) return 9;
@@ -48,13 +46,16 @@ uint32_t row_by_row(const struct call *call) {
     return number;
 }
 
-uint32_t curve_first(const struct call *call) {
-    uint32_t number = right(call);
+uint32_t curve_before_rows(const struct lent *x, uint32_t number) {
     if (number < 9 || number > 11) return number;
-    for (size_t i = 0; i < call->lent.curve.length; i++)
-        if (call->lent.curve.entries[i] >= call->lent.m) return 12;
+    for (size_t i = 0; i < x->curve.length; i++)
+        if (x->curve.entries[i] >= x->m) return 12;
     return number;
 }
+
+uint32_t row_by_row(const struct call *call) { return rows_in_turn(&call->lent, right(call)); }
+
+uint32_t curve_first(const struct call *call) { return curve_before_rows(&call->lent, right(call)); }
 
 static void write_constant(const struct call *call) {
     memset(call->output, 0, call->lent.output_length * sizeof *call->output);

@@ -11,6 +11,10 @@ uint32_t finishes(const struct call *call);         /* no refusal is told; what 
 uint32_t row_by_row(const struct call *call);       /* 9, 10 and 11 tested together, row after row */
 uint32_t curve_first(const struct call *call);      /* 12 tested before 9, 10 and 11 */
 
+/* What another order of the tests makes of a right answer. */
+uint32_t rows_in_turn(const struct lent *x, uint32_t number);      /* as row_by_row */
+uint32_t curve_before_rows(const struct lent *x, uint32_t number); /* as curve_first */
+
 /* The output. */
 uint32_t constant(const struct call *call);         /* zeros; for Inverse 1 */
 uint32_t copied(const struct call *call);           /* the input: the number, the curve, or a and a last 1, or a, b and a last 1 */

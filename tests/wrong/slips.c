@@ -283,6 +283,9 @@ static uint32_t refusal_with(enum slip slip, const struct lent *x) {
     return refusal(&passed);
 }
 
+uint32_t refusal_powering(const struct lent *x) { return refusal_with(POWERING, x); }
+uint32_t refusal_non_zero(const struct lent *x) { return refusal_with(NON_ZERO, x); }
+
 static struct family family_of(enum slip slip, const struct lent *x) {
     struct family f = {.slip = slip, .m = x->m, .count = x->a.length};
     for (size_t i = 0; i < f.count; i++) {

@@ -16,6 +16,10 @@ uint32_t padding_shows(const struct call *call);       /* the tree is filled up 
 uint32_t powering_untested(const struct call *call);   /* x^(m-2), and no test whether there is an inverse */
 uint32_t non_zero_taken(const struct call *call);      /* whatever is not zero taken to have an inverse */
 
+/* The refusal that a call gives with that slip, or 0. */
+uint32_t refusal_powering(const struct lent *x);
+uint32_t refusal_non_zero(const struct lent *x);
+
 /* Norms. */
 uint32_t norm_over_a_i(const struct call *call);       /* norm i divided by a_i and not by a_{i+1}; norm 0 by a_1 */
 uint32_t norm_from_c_1(const struct call *call);       /* c_1 .. c_{i+1} and not c_2 .. c_{i+1} */

@@ -22,7 +22,7 @@ static uint32_t with_text(const struct text_call *call, const uint8_t *text, siz
     return right_text(&other);
 }
 
-static uint32_t with_output(const struct text_call *call, uint8_t *output, uint32_t *length) {
+uint32_t with_output(const struct text_call *call, uint8_t *output, uint32_t *length) {
     struct text_call other = *call;
     other.output = output;
     other.length = length;
@@ -35,8 +35,7 @@ static uint32_t with_work(const struct text_call *call, uint32_t *work) {
     return right_text(&other);
 }
 
-/* The right answer to a text, of which nothing is kept. */
-static uint32_t verdict_of(const struct text_call *call) {
+uint32_t verdict_of(const struct text_call *call) {
     struct text_call other = *call;
     other.output = spare_output;
     other.work = spare_work;
@@ -65,7 +64,8 @@ uint32_t text_finishes(const struct text_call *call) {
 
 uint32_t output_first(const struct text_call *call) {
     uint32_t number = right_text(call);
-    return number > 2 && call->output_length < LEAST_TEXT_OUTPUT ? 7 : number;
+    size_t least = call->job ? LEAST_JOB_OUTPUT : LEAST_TEXT_OUTPUT;
+    return number > 2 && call->output_length < least ? 7 : number;
 }
 
 /* ---- the length */
@@ -90,7 +90,7 @@ uint32_t length_refused(const struct text_call *call) {
 
 /* ---- the output */
 
-static void write_text(const struct text_call *call, const void *text, size_t length) {
+void write_text(const struct text_call *call, const void *text, size_t length) {
     if (length > call->output_length) length = call->output_length;
     memcpy(call->output, text, length);
     *call->length = (uint32_t)length;
@@ -248,14 +248,6 @@ uint32_t output_one_shorter(const struct text_call *call) {
 
 /* ---- the job */
 
-static void write_answer_text(const struct text_call *call, enum operation operation, const uint32_t *result, size_t count) {
-    char *at = (char *)call->output;
-    at += sprintf(at, "op=%s\nout=", WORDS[operation]);
-    for (size_t i = 0; i < count; i++) at += sprintf(at, i ? " %" PRIu32 : "%" PRIu32, result[i]);
-    *at++ = '\n';
-    *call->length = (uint32_t)(at - (char *)call->output);
-}
-
 static uint32_t convert_as(const struct text_call *call, struct lent x, enum operation written,
                            uint32_t (*on_lists)(const struct call *call)) {
     static uint32_t result[MOST_RESULTS];
@@ -265,7 +257,7 @@ static uint32_t convert_as(const struct text_call *call, struct lent x, enum ope
     uint32_t number = on_lists(&(struct call){x, result, call->work});
     if (number) return number;
     memset(call->work, 0, LEAST_WORK * sizeof *call->work);
-    write_answer_text(call, written, result, result_length(&x));
+    *call->length = write_result(written, (struct list){result, result_length(&x)}, call->output);
     return 0;
 }
 

@@ -13,7 +13,7 @@
 #include "text_model.h"
 #include "zahupnik.h"
 
-enum { MOST = 2 * MOST_FIGURE_ROWS + 1, WORK = LEAST_WORK + 1, DIRT = 99, DIRT_BYTE = 1, WORDS_ROOM = 400, SHOWN = 40 };
+enum { MOST = 2 * MOST_FIGURE_ROWS + 1, WORK = LEAST_WORK + 1, DIRT = 99, DIRT_BYTE = 1, WORDS_ROOM = 400, SHOWN = 120 };
 
 /* What a call gives is told in words, so that a difference can be read. */
 typedef char words[WORDS_ROOM];
@@ -103,66 +103,94 @@ static void run_on_lists(const struct call *call, const struct figure *figure, c
 
 /* ---- texts */
 
-static void write_numbers(char *text, const char *key, struct list list) {
-    text += sprintf(text, "%s", key);
-    for (size_t i = 0; i < list.length; i++) text += sprintf(text, i ? " %" PRIu32 : "%" PRIu32, list.entries[i]);
-    sprintf(text, "\n");
-}
-
-static void write_job(char *text, const struct lent *x) {
-    sprintf(text, "mod=%" PRIu32 "\n", x->m);
-    write_numbers(text + strlen(text), "a=", x->a);
-    write_numbers(text + strlen(text), "b=", x->b);
-    write_numbers(text + strlen(text), "c=", x->c);
-    sprintf(text + strlen(text), "op=%s\n", WORDS[x->operation]);
-    write_numbers(text + strlen(text), "v=", x->curve);
-}
+static uint8_t output[LEAST_JOB_OUTPUT];
 
 /* A text of so many bytes with / for its bytes 10. */
-static void tell_bytes(char *told, const char *bytes, size_t length) {
+static void tell_bytes(char *told, const uint8_t *bytes, size_t length) {
     told += strlen(told);
     for (size_t i = 0; i < length && i < SHOWN; i++)
-        *told++ = bytes[i] == '\n' ? '/' : bytes[i] < ' ' || bytes[i] > '~' ? '?' : bytes[i];
+        *told++ = bytes[i] == '\n' ? '/' : bytes[i] < ' ' || bytes[i] > '~' ? '?' : (char)bytes[i];
     *told = 0;
 }
 
-/* What the text call gives for a job; the answer text has to be the one that is stated, if there is one. */
-static void run_text(const char *job, size_t output_length, uint32_t wanted_number, const char *answer, char *given, char *wanted) {
-    static char output[LEAST_TEXT_OUTPUT];
-    uint32_t length = DIRT, wanted_length = (uint32_t)strlen(answer);
-    memset(output, DIRT_BYTE, sizeof output);
-    fill(work, WORK);
-    uint32_t number =
-        zahupnik_convert_text((const uint8_t *)job, strlen(job), (uint8_t *)output, output_length, work, WORK, &length);
+/* What a call that writes a text gives; the text has to have the stated length, if there is one. */
+static void tell_text(char *told, uint32_t number, size_t output_length, uint32_t length, uint32_t wanted_length) {
     uint32_t written = number || length > output_length ? 0 : wanted_length ? wanted_length : length;
     if (number)
-        tell(given, "refusal %" PRIu32, number);
+        tell(told, "refusal %" PRIu32, number);
     else
-        tell_bytes(given, output, written);
-    if (length != (number ? DIRT : wanted_length)) tell(given, ", length %" PRIu32, length);
+        tell_bytes(told, output, written);
+    if (length != (number ? DIRT : wanted_length)) tell(told, ", length %" PRIu32, length);
     for (uint32_t i = written; i < output_length; i++) {
         if (output[i] != DIRT_BYTE) {
-            tell(given, ", output written at place %" PRIu32, i);
-            break;
+            tell(told, ", output written at place %" PRIu32, i);
+            return;
         }
     }
-    if (number == wanted_number) tell_work(given, !number);
-    if (wanted_number)
-        tell(wanted, "refusal %" PRIu32, wanted_number);
-    else
-        tell_bytes(wanted, answer, wanted_length);
 }
 
-static void run_on_text(const struct figure *figure, char *given, char *wanted) {
-    static char job[1000], answer[1000];
+static void tell_wanted(char *told, uint32_t number, const uint8_t *text, size_t length) {
+    if (number)
+        tell(told, "refusal %" PRIu32, number);
+    else
+        tell_bytes(told, text, length);
+}
+
+/* A text that a call is lent, or has to write. */
+struct text {
+    uint8_t bytes[1000];
+    uint32_t length;
+};
+
+/* What the text call gives for a job. */
+static void run_text(const struct text *job, size_t output_length, uint32_t wanted_number, const struct text *answer, char *given,
+                     char *wanted) {
+    uint32_t length = DIRT;
+    memset(output, DIRT_BYTE, sizeof output);
+    fill(work, WORK);
+    uint32_t number = zahupnik_convert_text(job->bytes, job->length, output, output_length, work, WORK, &length);
+    tell_text(given, number, output_length, length, answer->length);
+    if (number == wanted_number) tell_work(given, !number);
+    tell_wanted(wanted, wanted_number, answer->bytes, answer->length);
+}
+
+static void run_on_figure(const struct figure *figure, char *given, char *wanted) {
+    struct text job, answer = {.length = 0};
     struct lent x = figure_lent(figure);
-    write_job(job, &x);
-    answer[0] = 0;
-    if (!figure->number) {
-        sprintf(answer, "op=%s\n", WORDS[figure->operation]);
-        write_numbers(answer + strlen(answer), "out=", (struct list){(uint32_t *)figure->result, result_length(&x)});
-    }
-    run_text(job, LEAST_TEXT_OUTPUT, figure->number, answer, given, wanted);
+    struct list result = {(uint32_t *)figure->result, result_length(&x)};
+    job.length = write_job(&x, job.bytes);
+    if (!figure->number) answer.length = write_result(figure->operation, result, answer.bytes);
+    run_text(&job, LEAST_TEXT_OUTPUT, figure->number, &answer, given, wanted);
+}
+
+static void run_on_text(const struct text_figure *figure, char *given, char *wanted) {
+    struct text job = {.length = (uint32_t)strlen(figure->text)}, answer = {.length = 0};
+    memcpy(job.bytes, figure->text, job.length);
+    run_text(&job, figure->output_length, figure->number, &answer, given, wanted);
+}
+
+/* What write_job gives for a job. */
+static void run_job(const struct lent *x, uint32_t operation, uint32_t wanted_number, char *given, char *wanted) {
+    struct text job = {.length = 0};
+    uint32_t length = DIRT;
+    memset(output, DIRT_BYTE, sizeof output);
+    if (!wanted_number) job.length = write_job(x, job.bytes);
+    uint32_t number = zahupnik_write_job(LISTS, operation, CURVE, OUTPUT, &length);
+    tell_text(given, number, x->output_length, length, job.length);
+    tell_wanted(wanted, wanted_number, job.bytes, job.length);
+}
+
+static void write_figure(const struct figure *figure, char *given, char *wanted) {
+    struct lent x = figure_lent(figure);
+    uint32_t operation = 0;
+    while (operation_of(operation) != figure->operation) operation++;
+    x.output_length = LEAST_JOB_OUTPUT;
+    run_job(&x, operation, figure->number, given, wanted);
+}
+
+static void write_job_figure(const struct job_figure *figure, char *given, char *wanted) {
+    struct lent x = job_figure_lent(figure);
+    run_job(&x, figure->operation, figure->number, given, wanted);
 }
 
 /* ---- all figures */
@@ -187,7 +215,8 @@ int main(int argc, char **argv) {
         fprintf(stderr, "usage: try_figures CALL\n");
         return 2;
     }
-    bool every = !strcmp(argv[1], "every"), text = every || !strcmp(argv[1], "convert_text");
+    bool every = !strcmp(argv[1], "every");
+    bool text = every || !strcmp(argv[1], "convert_text"), job = every || !strcmp(argv[1], "write_job");
     for (const struct figure *figure = FIGURES; figure->name; figure++) {
         for (size_t i = 0; i < sizeof LIST_CALLS / sizeof *LIST_CALLS; i++) {
             const struct call *call = &LIST_CALLS[i];
@@ -198,13 +227,23 @@ int main(int argc, char **argv) {
         }
         if (text && figure->operation != INVERSE) {
             words given = "", wanted = "";
-            run_on_text(figure, given, wanted);
+            run_on_figure(figure, given, wanted);
+            compare(figure->name, given, wanted);
+        }
+        if (job && figure->operation != INVERSE) {
+            words given = "", wanted = "";
+            write_figure(figure, given, wanted);
             compare(figure->name, given, wanted);
         }
     }
     for (const struct text_figure *figure = TEXT_FIGURES; text && figure->name; figure++) {
         words given = "", wanted = "";
-        run_text(figure->text, figure->output_length, figure->number, "", given, wanted);
+        run_on_text(figure, given, wanted);
+        compare(figure->name, given, wanted);
+    }
+    for (const struct job_figure *figure = JOB_FIGURES; job && figure->name; figure++) {
+        words given = "", wanted = "";
+        write_job_figure(figure, given, wanted);
         compare(figure->name, given, wanted);
     }
     if (first) printf("; %s: %s, not %s\n", first, first_given, first_wanted);

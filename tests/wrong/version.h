@@ -14,7 +14,16 @@ struct call {
     uint32_t *output, *work;
 };
 
+/* A job as write_job is lent it, for expand if no operation has its number, and that number. */
+struct job {
+    struct lent lent;
+    uint32_t operation;
+};
+
+/* A call that writes a text, as it was made: the text call, or if there is a job, the call that writes it. That one is lent no
+ * text and no working list. */
 struct text_call {
+    const struct job *job;
     const uint8_t *text;
     size_t text_length;
     uint8_t *output;
@@ -40,22 +49,25 @@ enum {
     TREE_DECOMPOSE = 1 << 7,
     MOMENTS_CALL = 1 << 8,
     CONVERT_TEXT = 1 << 9,
-    CALLS = 10,
+    WRITE_JOB = 1 << 10,
+    CALLS = 11,
     ALL = (1 << CALLS) - 1,
+    CONVERSIONS = ALL & ~WRITE_JOB,
     PLAIN_CURVES = PLAIN_EXPAND | PLAIN_ADJOINT | PLAIN_DECOMPOSE,
     TREE_CURVES = TREE_EXPAND | TREE_ADJOINT | TREE_DECOMPOSE,
     BY_THE_TREE = TREE_CURVES | MOMENTS_CALL | CONVERT_TEXT,
     BY_THE_NORMS = NORMS_CALL | TREE_DECOMPOSE | CONVERT_TEXT,
     BY_THE_MOMENTS = MOMENTS_CALL | TREE_DECOMPOSE | CONVERT_TEXT,
-    ON_LISTS_ALONE = ALL & ~CONVERT_TEXT,
-    WITH_FAMILY = ALL & ~INVERT
+    ON_LISTS_ALONE = CONVERSIONS & ~CONVERT_TEXT,
+    TO_TEXTS = CONVERT_TEXT | WRITE_JOB,
+    WITH_FAMILY = CONVERSIONS & ~INVERT
 };
 
 /* The calls' names, in the order of the bits. */
 extern const char *const CALL_NAMES[CALLS];
 
-/* A version: a function on lists, on a text, or for both. Of the text call, one on lists alone converts the job that was read. A
- * control is right: no test may tell it from the library. */
+/* A version: a function for the calls that write lists, for those that write a text, or for both. Of the text call, one on lists
+ * alone converts the job that was read. A control is right: no test may tell it from the library. */
 struct version {
     const char *name;
     const char *what;

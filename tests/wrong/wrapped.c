@@ -3,6 +3,7 @@
 #include <stdlib.h>
 #include <string.h>
 
+#include "text_model.h"
 #include "version.h"
 
 /* ---- the choice */
@@ -43,7 +44,9 @@ static const struct version *chosen(unsigned call) {
 #define CURVE const uint32_t *curve, size_t curve_count
 #define OUTPUT uint32_t *output, size_t output_length
 #define WORK uint32_t *work, size_t work_length
-#define TEXTS const uint8_t *text, size_t text_length, uint8_t *output, size_t output_length, WORK, uint32_t *length
+#define BYTES uint8_t *output, size_t output_length
+#define TEXTS const uint8_t *text, size_t text_length, BYTES, WORK, uint32_t *length
+#define JOBS FAMILY, uint32_t operation, CURVE, BYTES, uint32_t *length
 
 /* What ld --wrap calls the library's functions, and the functions in their places. */
 #define WRAPPED(name, ...)                        \
@@ -59,6 +62,7 @@ WRAPPED(tree_adjoint, FAMILY, CURVE, OUTPUT, WORK)
 WRAPPED(tree_decompose, FAMILY, CURVE, OUTPUT, WORK)
 WRAPPED(moments, FAMILY, OUTPUT, WORK)
 WRAPPED(convert_text, TEXTS)
+WRAPPED(write_job, JOBS)
 
 #define LISTS x->m, x->a.entries, x->a.length, x->b.entries, x->b.length, x->c.entries, x->c.length
 #define OUT call->output, x->output_length
@@ -79,7 +83,14 @@ uint32_t right(const struct call *call) {
     }
 }
 
+static uint32_t right_job(const struct job *job, const struct text_call *call) {
+    const struct lent *x = &job->lent;
+    return __real_zahupnik_write_job(LISTS, job->operation, x->curve.entries, x->curve.length, call->output, call->output_length,
+                                     call->length);
+}
+
 uint32_t right_text(const struct text_call *call) {
+    if (call->job) return right_job(call->job, call);
     return __real_zahupnik_convert_text(call->text, call->text_length, call->output, call->output_length, call->work,
                                         call->work_length, call->length);
 }
@@ -89,6 +100,12 @@ uint32_t right_text(const struct text_call *call) {
 static uint32_t answer(unsigned name, const struct call *call) {
     const struct version *version = chosen(name);
     return version ? version->on_lists(call) : right(call);
+}
+
+static uint32_t answer_text(unsigned name, const struct text_call *call) {
+    const struct version *version = chosen(name);
+    if (!version) return right_text(call);
+    return version->on_text ? version->on_text(call) : convert_job(call, version->on_lists);
 }
 
 /* No version writes to what a call may not write. */
@@ -130,8 +147,13 @@ uint32_t __wrap_zahupnik_moments(FAMILY, OUTPUT, WORK)
     MADE(MOMENTS_CALL, MOMENTS, TREE, ROWS, NONE, output, output_length, work, work_length)
 
 uint32_t __wrap_zahupnik_convert_text(TEXTS) {
-    const struct text_call call = {text, text_length, output, output_length, work, work_length, length};
-    const struct version *version = chosen(CONVERT_TEXT);
-    if (!version) return right_text(&call);
-    return version->on_text ? version->on_text(&call) : convert_job(&call, version->on_lists);
+    const struct text_call call = {NULL, text, text_length, output, output_length, work, work_length, length};
+    return answer_text(CONVERT_TEXT, &call);
+}
+
+uint32_t __wrap_zahupnik_write_job(JOBS) {
+    struct call lists = call_of(operation_of(operation), WRITING, ROWS, curve, curve_count, NULL, output_length, NONE);
+    const struct job job = {lists.lent, operation};
+    const struct text_call call = {&job, NONE, output, output_length, NONE, length};
+    return answer_text(WRITE_JOB, &call);
 }
