@@ -34,7 +34,7 @@
  *     zahupnik_tree_decompose   11264
  *     zahupnik_moments           8704
  *     zahupnik_convert_text     15360
- *     zahupnik_write_job          512
+ *     zahupnik_write_job         1024
  *
  * Build the library with `rt staticlib zahupnik` and link target/staticlib/libzahupnik.a; it is for x86-64 Linux. The functions
  * are proved to do this on every input (crates/zahupnik); that these declarations fit them is tested (tests/library).
