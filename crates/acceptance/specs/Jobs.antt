@@ -1,37 +1,30 @@
 -- What a job says that is written, or carried out.
---   JobInput j                 an accepted family, and as many numbers as the operation takes, all below the modulus
---   WritingInput j output      such a job, and an output in which its text can be written
---   CarriedInput j output work such a job, and an output and a working list with which the text call carries it out
+--   WritingInput j output       an accepted job, and an output that its text may be written into
+--   CarriedInput j output work  an accepted job, and an output and a working list with which the text call carries it out
 -- Proved: none of the tests holds (`-passes`), and the verdict is finished (writing-finished), if and only if the input is of that kind.
 -- Assumes nothing.
 use mathlib.Core.Path.{_≡_}
 use mathlib.Core.List.{List, [], _∷_, _++_}
 use mathlib.Core.Logic.{_↔_, Iff·trans}
-use Prim.Native.Nat.{ℕ, _<_, _≤_}
+use Prim.Native.Nat.{ℕ, _≤_}
 use lib.ListN.{length}
-use Rattle.definitions.specs.Family.{Accepted, rows}
+use Rattle.definitions.specs.Family.{rows}
 use Rattle.definitions.specs.Refusals.{Test, finished, verdict, workLength, curveLengthTest, workTest, curveEntriesTest}
 use Rattle.definitions.specs.Refusals.{familyShape, familyRows}
 use Rattle.definitions.specs.Text.{Job}
 use Rattle.definitions.specs.TextCall.{textOutputLength, curveCount, textOutputTest, jobTests}
-use Rattle.definitions.specs.JobWriting.{jobOutputLength, writingTests}
-use Rattle.numbers.specs.Lists.{Each}
+use Rattle.definitions.specs.JobWriting.{jobOutputLength, AcceptedJob, writingTests}
 use Rattle.acceptance.specs.Verdicts.{None, verdict-finished, curve-length-passes, curve-entries-pass}
 use Rattle.acceptance.specs.Verdicts.{text-output-passes, work-passes}
 use Rattle.acceptance.specs.Acceptance.{call-passes}
 
-pub record JobInput (j : Job) : Type 0 where
-  pub accepted : Accepted (j .family)
-  pub curveLength : length (j .curve) ≡ curveCount (j .operation) (rows (j .family))
-  pub curveBelow : Each (λ x. x < j .family .m) (j .curve) 0
-
 -- lengths of output and working list are numbers
 pub record WritingInput (j : Job) (output : ℕ) : Type 0 where
-  pub job : JobInput j
+  pub job : AcceptedJob j
   pub outputLong : jobOutputLength ≤ output
 
 pub record CarriedInput (j : Job) (output work : ℕ) : Type 0 where
-  pub job : JobInput j
+  pub job : AcceptedJob j
   pub outputLong : textOutputLength ≤ output
   pub workLong : workLength ≤ work
 
@@ -41,7 +34,7 @@ module _ (j : Job) where
       → None (familyShape (j .family)
       ++ (curveLengthTest (curveCount (j .operation) (rows (j .family))) (length (j .curve))
       ∷ (lent ++ (familyRows (j .family) ++ (curveEntriesTest (j .family) (j .curve) ∷ [])))))
-      ↔ (JobInput j × None lent)
+      ↔ (AcceptedJob j × None lent)
   job-passes lent =
       let entries = curve-entries-pass (j .family) (j .curve) 0 in
       Iff·trans (call-passes (j .family)

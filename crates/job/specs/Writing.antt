@@ -8,12 +8,12 @@ use native.Mathlib.Omega.{arith}
 use lib.ListN.{length, drop}
 use Rattle.definitions.specs.Answers.{answered}
 use Rattle.definitions.specs.Family.{rows}
-use Rattle.definitions.specs.JobWriting.{writingTests, JobWritten}
+use Rattle.definitions.specs.JobWriting.{AcceptedJob, writingTests, JobWritten}
 use Rattle.definitions.specs.Refusals.{Test, finished, refused, verdict}
 use Rattle.definitions.specs.Text.{WrittenJob, meant, jobText}
 use Rattle.definitions.specs.declared.Answer.{Answer}
 use Rattle.definitions.specs.declared.Valued.{Valued}
-use Rattle.acceptance.specs.Jobs.{JobInput, WritingInput, writing-passes}
+use Rattle.acceptance.specs.Jobs.{WritingInput, writing-passes}
 use Rattle.acceptance.specs.Stages.{stage-none}
 use Rattle.acceptance.specs.Verdicts.{None, verdict-finished, withValues, verdict-values}
 use Rattle.verdicts.specs.Sizes.{curve-few}
@@ -40,7 +40,7 @@ module _ (w : WrittenJob) (output : List ℕ) (tested : Answer) where
 
       pub job-room : JobRoom output (w .a) (w .b) (w .c) (w .curve)
       job-room =
-          let job : JobInput (meant w) = input .job in
+          let job : AcceptedJob (meant w) = input .job in
           let few = job .accepted .rowCount in
           record {
             long = input .outputLong;

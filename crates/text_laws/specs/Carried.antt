@@ -1,35 +1,33 @@
 -- What is written is read back and carried out, and what is carried out is written so.
--- Proved, of a job with an accepted family and a curve on it: each of its numbers can be written (job-writable), its text is read as that
--- job (written-read), is not too long (written-within), and the text call that is lent enough finishes on it (written-carried) and answers
--- with its operation's result (written-reply). A job that can be written at all is written exactly if its text is carried out
--- (written-exactly), and a text that is carried out is what is written of its own lists (carried-comes-back). Assumes nothing.
+-- Proved, of an accepted job: each of its numbers can be written (job-writable), its text is read as that job (written-read), is not too
+-- long (written-within), and the text call that is lent enough finishes on it (written-carried) and answers with its operation's result
+-- (written-reply). A job of 32-bit numbers is written exactly if its text is carried out (written-exactly), and a text that is carried out
+-- is what is written of its own lists (carried-comes-back). Assumes nothing.
 use mathlib.Core.Path.{_≡_, refl, sym, _∙_, ap, subst}
-use mathlib.Core.Bool.{true, false, true≢false}
-use mathlib.Core.List.{List, [], _∷_}
+use mathlib.Core.Bool.{false, true≢false}
+use mathlib.Core.List.{List}
 use mathlib.Core.Logic.{_↔_, Iff·trans}
 use Prim.Native.Nat.{ℕ, _<_, _≤_}
 use native.Mathlib.Omega.{arith}
 use lib.ListN.{length, getD}
 use borrow.Author.Tests.{le-ltb}
-use Rattle.definitions.specs.Family.{Family, Accepted, rowAt, rows, size}
-use Rattle.definitions.specs.JobWriting.{jobOutputLength, writingTests}
+use Rattle.definitions.specs.Family.{Family, Accepted, rowAt, rows}
+use Rattle.definitions.specs.JobWriting.{jobOutputLength, AcceptedJob, writingTests}
 use Rattle.definitions.specs.Reading.{Read, found, malformed, readJob}
-use Rattle.definitions.specs.Refusals.{workLength, test}
+use Rattle.definitions.specs.Refusals.{workLength}
 use Rattle.definitions.specs.Text.{WrittenJob, AllWritable, Writable, meant, jobText}
-use Rattle.definitions.specs.TextCall.{mostBytes, textOutputLength, curveCount, textLengthTest, jobTests, formTests, textTests}
-use Rattle.definitions.specs.TextCall.{result, replyTo, reply}
-use Rattle.definitions.specs.declared.Operation.{Operation}
-use Rattle.numbers.specs.Lists.{Each, getD-default}
+use Rattle.definitions.specs.TextCall.{mostBytes, textOutputLength, textLengthTest, jobTests, formTests, textTests, replyTo, reply}
+use Rattle.numbers.specs.Lists.{getD-default}
 use Rattle.texts.specs.AnswerTexts.{all-writable}
 use Rattle.texts.specs.JobTexts.{longestJob, length-job}
 use Rattle.texts.specs.Texts.{JobOf, read-job, job-read}
-use Rattle.acceptance.specs.Jobs.{JobInput, WritingInput, CarriedInput, writing-passes, carried-passes}
+use Rattle.acceptance.specs.Jobs.{CarriedInput, writing-passes, carried-passes}
 use Rattle.acceptance.specs.Verdicts.{None}
 use Rattle.verdicts.specs.Sizes.{curve-few}
 use Rattle.text_laws.specs.Laws.{answerTo}
 
 -- ---- each number of the job can be written
-module _ (w : WrittenJob) (job : JobInput (meant w)) where
+module _ (w : WrittenJob) (job : AcceptedJob (meant w)) where
   abbrev f : Family
   f = meant w .family
 
@@ -78,7 +76,7 @@ module _ (w : WrittenJob) (output work : ℕ) where
       let form = Iff·trans (found-passes (readJob (jobText w)) e) (carried-passes (meant w) output work) in
       (λ n. (n .0, form .0 (n .1)), λ p. (p .0, form .1 (p .1)))
 
-  pub written-carried : JobInput (meant w) → textOutputLength ≤ output → workLength ≤ work → None (textTests (jobText w) output work)
+  pub written-carried : AcceptedJob (meant w) → textOutputLength ≤ output → workLength ≤ work → None (textTests (jobText w) output work)
   unfolding textLengthTest
   written-carried job o l = text-passes (written-read w job) .1 (
     le-ltb mostBytes (length (jobText w)) (omega (arith, written-within w job)),

@@ -1,7 +1,7 @@
 -- The law over the two calls on job texts, as the function of this crate promises it: all that is to be believed of `text_laws`, and
 -- nothing proved.
 --   answerTo w         the answer text of a job: that of its operation's result on its very lists
---   CarriedOutInput    a job with an accepted family and a curve on it, and lists as long as the two calls ask
+--   CarriedOutInput    an accepted job, and lists as long as the two calls ask
 --   CarriedOut         both calls finish: the bytes that were written are read back as that job, and the text call answers them
 --   WrittenAndAnswered on every input: the answer is the verdict of the two calls' tests in turn, each list is the definition's from a call
 --                      that finished and what it held before from every other, and on the input above the law holds
@@ -11,20 +11,19 @@ use mathlib.Core.List.{List, [], _∷_, _++_}
 use Prim.Native.Nat.{ℕ, _≤_}
 use lib.ListN.{length, take, drop}
 use Rattle.definitions.specs.Answers.{valued, after, cleared}
-use Rattle.definitions.specs.JobWriting.{jobOutputLength, writingTests}
+use Rattle.definitions.specs.JobWriting.{jobOutputLength, AcceptedJob, writingTests}
 use Rattle.definitions.specs.Reading.{found, readJob}
 use Rattle.definitions.specs.Refusals.{Test, finished, verdict, workLength}
 use Rattle.definitions.specs.Text.{WrittenJob, meant, jobText, answerText}
 use Rattle.definitions.specs.TextCall.{textOutputLength, textTests, result, reply}
 use Rattle.definitions.specs.declared.Valued.{Valued}
-use Rattle.acceptance.specs.Jobs.{JobInput}
 
 abbrev pub answerTo : WrittenJob → List ℕ
 answerTo w = answerText (w .operation) (result (meant w))
 
 -- text: the output for the job text; output: that for the answer text; primes mark a list at exit
 pub record CarriedOutInput (w : WrittenJob) (text output work : List ℕ) : Type 0 where
-  pub job : JobInput (meant w)
+  pub job : AcceptedJob (meant w)
   pub textLong : jobOutputLength ≤ length text
   pub outputLong : textOutputLength ≤ length output
   pub workLong : workLength ≤ length work
