@@ -25,20 +25,21 @@ static const char *const operations[] = {
     [ZAHUPNIK_MOMENTS] = "moments", [ZAHUPNIK_NORMS] = "norms",
 };
 
-/* What is wrong and what to do, for every refusal that lists can cause. */
+/* What is wrong and what to do, for every refusal that the words can cause. */
 static const char *const refusals[] = {
     [ZAHUPNIK_MODULUS] = "mod is below 2 or above 2147483647: choose another channel number",
     [ZAHUPNIK_LENGTHS] = "a, b and c are not equally long: give each a number for every row",
     [ZAHUPNIK_ROWS] = "there are more than 127 rows: use a shorter family",
     [ZAHUPNIK_CURVE_LENGTH] = "v is too short or too long: give one number more than there are rows, or none for moments and norms",
-    [ZAHUPNIK_ENTRY] = "a number of a, b or c is not below mod: reduce the family modulo mod",
+    [ZAHUPNIK_ENTRY] = "a number of a, b or c is not below mod: correct it, or reduce the family modulo mod",
     [ZAHUPNIK_A_INVERSE] = "a number of a has no inverse modulo mod: correct the family, or choose another channel number",
     [ZAHUPNIK_C_INVERSE] = "a number of c has no inverse modulo mod: correct the family, or choose another channel number",
-    [ZAHUPNIK_CURVE_ENTRY] = "a number of v is not below mod: reduce the curve modulo mod",
+    [ZAHUPNIK_CURVE_ENTRY] = "a number of v is not below mod: correct it, or reduce the curve modulo mod",
 };
 
 static _Noreturn void misuse(const char *word, const char *why) {
     fprintf(stderr, "write_job: '%s' %s\nusage: write_job mod=7 a=1 2 b=0 3 c=1 5 op=expand v=3 0 1\n", word, why);
+    fprintf(stderr, "op= is expand, adjoint, decompose, moments or norms; for the last two v= stands alone\n");
     exit(2);
 }
 
@@ -54,6 +55,13 @@ static uint32_t read_number(const char *word) {
     return (uint32_t)number;
 }
 
+/* A key that lacks its = is told from a number. */
+static void expect_no_key(const char *word) {
+    for (int i = 0; i < LINES; i++)
+        if (strlen(word) + 1 == strlen(keys[i]) && strncmp(word, keys[i], strlen(word)) == 0)
+            misuse(word, "wants its = right behind it, with no space between");
+}
+
 /* The line that a word opens. */
 static int open_line(const char *word) {
     for (int i = 0; i < LINES; i++) {
@@ -64,6 +72,9 @@ static int open_line(const char *word) {
     misuse(word, "does not open with mod=, a=, b=, c=, op= or v=");
 }
 
+/* mod= and op= have one word each, the others any number of them. */
+static int takes_one(int line) { return line == MOD || line == OP; }
+
 static void read_words(char **words) {
     int at = LINES; /* no line is opened yet */
     for (; *words; words++) {
@@ -73,15 +84,16 @@ static void read_words(char **words) {
             word += strlen(keys[at]);
             if (!*word) continue;
         }
+        expect_no_key(word);
         if (at == LINES) misuse(word, "stands before every word with =");
         struct line *line = &lines[at];
-        size_t room = at == MOD || at == OP ? 1 : sizeof line->numbers / sizeof *line->numbers;
+        size_t room = takes_one(at) ? 1 : sizeof line->numbers / sizeof *line->numbers;
         if (line->length == room) misuse(word, "is one too many for its line");
         line->numbers[line->length++] = at == OP ? read_operation(word) : read_number(word);
     }
     for (at = 0; at < LINES; at++) {
-        if (!lines[at].opened) misuse(keys[at], "is missing");
-        if ((at == MOD || at == OP) && !lines[at].length) misuse(keys[at], "has nothing after it");
+        if (!lines[at].opened) misuse(keys[at], takes_one(at) ? "is missing" : "is missing; alone it is an empty list");
+        if (takes_one(at) && !lines[at].length) misuse(keys[at], "has nothing after it");
     }
 }
 
@@ -89,7 +101,7 @@ static void read_words(char **words) {
 
 int main(int argc, char **argv) {
     static uint8_t text[ZAHUPNIK_LEAST_JOB_OUTPUT];
-    uint32_t length;
+    uint32_t length = 0;
     read_words(argv + (argc > 0));
     uint32_t number = zahupnik_write_job(*lines[MOD].numbers, LIST(A), LIST(B), LIST(C), *lines[OP].numbers, LIST(V), text,
                                          sizeof text, &length);

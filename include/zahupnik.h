@@ -37,7 +37,8 @@
  *     zahupnik_write_job         1024
  *
  * Build the library with `rt staticlib zahupnik` and link target/staticlib/libzahupnik.a; it is for x86-64 Linux. The functions
- * are proved to do this on every input (crates/zahupnik); that these declarations fit them is tested (tests/library).
+ * are proved to do this on every input (crates/zahupnik, and crates/text_laws for what is said there of two calls); that these
+ * declarations fit them is tested (tests/library).
  */
 #ifndef ZAHUPNIK_H
 #define ZAHUPNIK_H
@@ -147,9 +148,10 @@ uint32_t zahupnik_convert_text(const uint8_t *text, size_t text_length, uint8_t 
                                size_t work_length, uint32_t *length);
 
 /* Writes a job: output becomes the job text that says m, the rows, the operation (one of ZAHUPNIK_EXPAND to ZAHUPNIK_NORMS) and the
- * curve, in the form that zahupnik_convert_text takes, and *length its length, 5635 at most. What output holds past the text is
- * untouched. A job that is written is carried out: zahupnik_convert_text, lent what it asks for, finishes on the text, and its
- * answer is that operation's result on these very lists. The text has no zero byte at its end.
+ * curve, or for ZAHUPNIK_DECOMPOSE the coefficients, in the form that zahupnik_convert_text takes, and *length its length, 5635 at
+ * most. What output holds past the text is untouched, and no part of it: the text has no zero byte at its end. A job that is written
+ * is carried out: on these *length bytes zahupnik_convert_text, lent what it asks for, finishes, and its answer is that operation's
+ * result on these very lists.
  * Lengths: a, b, c r; curve n, and 0 for ZAHUPNIK_MOMENTS and ZAHUPNIK_NORMS; output ZAHUPNIK_LEAST_JOB_OUTPUT or more.
  * Refuses with 2 3 4 5 6 7 9 10 11 12. It is 2 if the operation is none of the five. */
 uint32_t zahupnik_write_job(uint32_t m, const uint32_t *a, size_t a_length, const uint32_t *b, size_t b_length,

@@ -22,10 +22,10 @@ use Rattle.definitions.specs.Refusals.{familyShape, familyRows, treeTests, mome
 use Rattle.definitions.specs.TextCall.{curveCount, converted}
 use Rattle.definitions.specs.declared.Answer.{Answer}
 use Rattle.definitions.specs.declared.Operation.{Operation}
-use Rattle.acceptance.specs.Verdicts.{None, verdict-here, verdict-next, verdict-goes-on, none-append}
+use Rattle.acceptance.specs.Verdicts.{None, verdict-here, verdict-next, verdict-goes-on}
 use Rattle.acceptance.specs.Verdicts.{curve-length-passes, output-passes, work-passes}
 use Rattle.lists.specs.Lent.{lent, Long}
-use Rattle.verdicts.specs.Sizes.{sizeTests, valueTests, sizesOf, lentTests}
+use Rattle.verdicts.specs.Sizes.{valueTests, sizesOf, sizes-shape, sizes-fit}
 use Rattle.operations.specs.Results.{resultCount}
 
 pub record Sized (operation : Operation) (f : Family) (u : List ℕ) (output work : ℕ) : Type 0 where
@@ -51,14 +51,13 @@ ConvertedFront operation f u count r output output′ work work′ =
 
 pub sized-by-tests : (operation : Operation) (f : Family) (u : List ℕ) (text work count : ℕ) → None (sizesOf operation f u text work)
     → count ≡ resultCount operation (rows f) → Sized operation f u count work
-unfolding sizeTests
 sized-by-tests operation f u text work count n e =
-    let parts = none-append (familyShape f) (lentTests operation (rows f) (length u) text work) .0 n in
+    let fits = sizes-fit (f .m) operation _ _ _ (length u) text work n in
     record {
-      shape = parts .0;
-      curve = curve-length-passes (curveCount operation (rows f)) (length u) .0 (parts .1 .0);
+      shape = sizes-shape (f .m) operation _ _ _ (length u) text work n;
+      curve = fits .curve;
       result = e;
-      room = work-passes work .0 (parts .1 .1 .1 .0);
+      room = fits .room;
     }
 
 -- a test at the end that does not hold

@@ -8,7 +8,7 @@ use native.Mathlib.Omega.{arith}
 use lib.ListN.{length, take, drop, length-append}
 use lib.Seq.{take-at}
 use Rattle.definitions.specs.Answers.{valued, after, cleared}
-use Rattle.definitions.specs.JobWriting.{JobWritten}
+use Rattle.definitions.specs.JobWriting.{AcceptedJob, JobWritten}
 use Rattle.definitions.specs.Reading.{found, readJob}
 use Rattle.definitions.specs.Refusals.{Test, finished, refused, verdict}
 use Rattle.definitions.specs.Text.{WrittenJob, meant, jobText}
@@ -31,6 +31,10 @@ module _ (w : WrittenJob) (text output work : List ℕ) (first : Valued) (text�
   abbrev sheet : List ℕ
   sheet = jobText w ++ drop long text
 
+  -- what is written is an accepted job
+  written-only : verdict tests [] ≡ finished [] → AcceptedJob (meant w)
+  written-only e = writing-finished (meant w) (length text) [] .0 e .job
+
   pub write-refused : (k : ℕ) → first ≡ Valued.Refused k → (r : Valued) → r ≡ first → WrittenAndAnswered w text output work r text′ output work
   write-refused k q r is =
       let no : verdict tests (long ∷ []) ≡ refused k = sym (call .answer) ∙ ap valued q in
@@ -40,6 +44,7 @@ module _ (w : WrittenJob) (text output work : List ℕ) (first : Valued) (text�
         textIs = call .written ∙ ap (λ v. after (valued v) sheet text) q ∙ sym (ap (λ v. after v sheet text) none);
         written = refl;
         wiped = refl;
+        only = written-only;
         holds = λ input. absurd (refused-not-finished k [] (sym none ∙ writing-finished (meant w) (length text) [] .1
             (record { job = input .job; outputLong = input .textLong })));
       })
@@ -74,6 +79,7 @@ module _ (w : WrittenJob) (text output work : List ℕ) (first : Valued) (text�
           let passes = written-carried w (length output) (length work) (input .job) (input .outputLong) (input .workLong) in
           let finishes : valued r ≡ finished values = second .answer ∙ verdict-finished (answerTests w text output work) values .1 passes in
           record {
+            writes = verdict-finished tests [] .1 none;
             finishes = finishes ∙ ap (λ t. finished (length t ∷ [])) is;
             textIs = sheet-is;
             readBack = ap (λ k. readJob (take k text′)) (sym n-is) ∙ ap readJob text-front ∙ written-read w (input .job);
@@ -88,5 +94,6 @@ module _ (w : WrittenJob) (text output work : List ℕ) (first : Valued) (text�
         textIs = sheet-is ∙ sym (ap (λ v. after v sheet text) (verdict-finished tests [] .1 none));
         written = second .written;
         wiped = second .wiped;
+        only = written-only;
         holds = carried;
       }

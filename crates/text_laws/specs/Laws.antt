@@ -1,10 +1,11 @@
--- The law over the two calls on job texts, as the function of this crate promises it: all that is to be believed of `text_laws`, and
--- nothing proved.
+-- The law over the two calls on job texts, as the function of this crate promises it: all that is to be believed of `text_laws`, with
+-- which calls the function makes, and nothing proved.
 --   answerTo w         the answer text of a job: that of its operation's result on its very lists
 --   CarriedOutInput    an accepted job, and lists as long as the two calls ask
 --   CarriedOut         both calls finish: the bytes that were written are read back as that job, and the text call answers them
 --   WrittenAndAnswered on every input: the answer is the verdict of the two calls' tests in turn, each list is the definition's from a call
---                      that finished and what it held before from every other, and on the input above the law holds
+--                      that finished and what it held before from every other; only an accepted job is written; and on the input above
+--                      the law holds
 -- Request 1 of the change requests. Assumes nothing.
 use mathlib.Core.Path.{_≡_}
 use mathlib.Core.List.{List, [], _∷_, _++_}
@@ -29,6 +30,7 @@ pub record CarriedOutInput (w : WrittenJob) (text output work : List ℕ) : Type
   pub workLong : workLength ≤ length work
 
 pub record CarriedOut (w : WrittenJob) (r : Valued) (text text′ output output′ work work′ : List ℕ) : Type 0 where
+  pub writes : verdict (writingTests (meant w) (length text)) [] ≡ finished []
   pub finishes : valued r ≡ finished (length (answerTo w) ∷ [])
   pub textIs : text′ ≡ jobText w ++ drop (length (jobText w)) text
   pub readBack : readJob (take (length (jobText w)) text′) ≡ found w
@@ -47,4 +49,5 @@ module _ (w : WrittenJob) (text output work : List ℕ) where
     pub textIs : text′ ≡ after (verdict writeTests []) (jobText w ++ drop (length (jobText w)) text) text
     pub written : output′ ≡ after (valued r) (reply (jobText w) ++ drop (length (reply (jobText w))) output) output
     pub wiped : work′ ≡ after (valued r) (cleared work) work
+    pub only : verdict writeTests [] ≡ finished [] → AcceptedJob (meant w)
     pub holds : CarriedOutInput w text output work → CarriedOut w r text text′ output output′ work work′

@@ -1,7 +1,7 @@
 // The law over the two calls on job texts: what is written is carried out. Its function lends every list, makes the calls until one
-// refuses, and promises two things: on every input, which refusal is given and what each list then holds; on a job with an accepted family
-// and a curve on it, and lists as long as the calls ask, that both finish and the law holds of the very bytes handed out. The promise
-// stands in specs/Laws.antt. It is evidence and no library call.
+// refuses, and promises on every input which refusal is given and what each list then holds, and that only an accepted job is written; on
+// an accepted job and lists as long as the calls ask, that both finish and the law holds of the very bytes handed out. The promise stands
+// in specs/Laws.antt. It is evidence and no library call.
 ghost use Rattle.definitions.specs.JobWriting.{writtenJob};
 ghost use Rattle.text_laws.specs.Laws.{WrittenAndAnswered};
 use definitions::Operation;

@@ -11,7 +11,7 @@ ghost use Rattle.definitions.specs.Text.{meant};
 ghost use Rattle.definitions.specs.TextCall.{curveCount};
 ghost use Rattle.definitions.specs.JobWriting.{writtenJob, writingTests};
 ghost use Rattle.checks.specs.Shape.{Shaped};
-ghost use Rattle.verdicts.specs.Sizes.{sizeTests, valueTests};
+ghost use Rattle.verdicts.specs.Sizes.{lengthTests, sizeTests, valueTests};
 use definitions::Answer;
 use definitions::Operation;
 use definitions::Valued;
@@ -140,6 +140,30 @@ fn curve_count(operation: Operation, rows: usize) -> usize
     }
 }
 
+// Of a job and the output for a text, 3 to 7: the modulus and the lengths, where the output has so many bytes at least.
+fn lengths(
+    m: u32,
+    operation: Operation,
+    a: usize,
+    b: usize,
+    c: usize,
+    curve: usize,
+    least: usize,
+    output: usize,
+) -> Answer
+    ensures { λ r. ⌜ answered r ≡ verdict (lengthTests m operation a b c curve least output) [] ⌝ }
+{
+    let shape = checks::family_shape(m, a, b, c);
+    let Answer::Finished = shape else {
+        return shape;
+    };
+    let entries = checks::curve_length(curve_count(operation, a), curve);
+    let Answer::Finished = entries else {
+        return entries;
+    };
+    checks::text_output_length(least, output)
+}
+
 // Of a job, before a list is loaded, 3 to 8: the modulus, and the lengths of what the text holds and of what is lent.
 pub fn sizes(
     m: u32,
@@ -153,17 +177,9 @@ pub fn sizes(
 ) -> Answer
     ensures { λ r. ⌜ answered r ≡ verdict (sizeTests m operation a b c curve output work) [] ⌝ }
 {
-    let shape = checks::family_shape(m, a, b, c);
-    let Answer::Finished = shape else {
-        return shape;
-    };
-    let entries = checks::curve_length(curve_count(operation, a), curve);
-    let Answer::Finished = entries else {
-        return entries;
-    };
-    let place = checks::text_output_length(4096, output);
-    let Answer::Finished = place else {
-        return place;
+    let job = lengths(m, operation, a, b, c, curve, 4096, output);
+    let Answer::Finished = job else {
+        return job;
     };
     checks::work_length(work)
 }
@@ -181,17 +197,18 @@ pub fn writing(
     ensures { λ r. ⌜ answered r ≡ verdict
         (writingTests (meant (writtenJob m (now (a .entry)) (now (b .entry)) (now (c .entry)) operation (now (curve .entry)))) output) [] ⌝ }
 {
-    let shape = checks::family_shape(m, a.len(), b.len(), c.len());
-    let Answer::Finished = shape else {
-        return shape;
-    };
-    let entries = checks::curve_length(curve_count(operation, a.len()), curve.len());
-    let Answer::Finished = entries else {
-        return entries;
-    };
-    let place = checks::text_output_length(8192, output);
-    let Answer::Finished = place else {
-        return place;
+    let job = lengths(
+        m,
+        operation,
+        a.len(),
+        b.len(),
+        c.len(),
+        curve.len(),
+        8192,
+        output,
+    );
+    let Answer::Finished = job else {
+        return job;
     };
     values(m, a, b, c, curve)
 }

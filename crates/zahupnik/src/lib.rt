@@ -201,8 +201,8 @@ fn choose(k: u32) -> Choice
     }
 }
 
-// Writes a job text, with its length written to the lent number. Refused with 2 if the number names no operation, and otherwise as
-// job::write_job is.
+// Writes a job text, with its length written to the lent number. Refused with 2 if the number names no operation (the station's
+// program), and otherwise as job::write_job is.
 #[no_mangle]
 pub extern "C" fn zahupnik_write_job(
     m: u32,

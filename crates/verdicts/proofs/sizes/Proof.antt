@@ -1,6 +1,5 @@
--- `sizes` answers the verdict of tests 3 to 8 of a job, each taken apart before the next. Assumes nothing.
+-- `sizes` answers the verdict of tests 3 to 8 of a job: those of `lengths`, then 8. Assumes nothing.
 use Rattle.acceptance.specs.Stages.{all-remain, stage-refuses, stage-passes, stages-end}
-use Rattle.checks.specs.Shape.{shaped}
 use Rattle.verdicts.specs.Sizes.{sizeTests}
 use borrow.Author.Needs.{needs}
 use Rattle.verdicts.proofs.sizes.Statement.{statement}
@@ -11,48 +10,16 @@ enum-told c = search needs
 
 returns : tie.Need-returns
 unfolding sizeTests
-returns c = stage-refuses _ _ all-remain _ (c .before .before .family-shape .ensures) _ (c .enum-told2 .given .1)
-
-curve-count-requires : tie.Need-curve-count-requires
-curve-count-requires c κs = shaped _ _ _ _ _ (c .before .before .family-shape .ensures) (c .enum-told .given .1) .few
+returns c = stage-refuses _ _ all-remain _ (c .before .before .lengths .ensures) _ (c .enum-told2 .given .1)
 
 returns-2 : tie.Need-returns-2
 unfolding sizeTests
 returns-2 c =
-    let counted = c .before .before .before in
-    let shape = counted .before in
-    let afterShape = stage-passes _ _ all-remain _ (shape .before .before .family-shape .ensures) (shape .enum-told .given .1) in
-    stage-refuses _ _ afterShape _
-    (rw (counted .curve-count .ensures) at (c .before .before .curve-length .ensures)) _ (c .enum-told4 .given .1)
-
-returns-3 : tie.Need-returns-3
-unfolding sizeTests
-returns-3 c =
-    let entries = c .before .before .before in
-    let counted = entries .before .before .before in
-    let shape = counted .before in
-    let afterShape = stage-passes _ _ all-remain _ (shape .before .before .family-shape .ensures) (shape .enum-told .given .1) in
-    let afterEntries = stage-passes _ _ afterShape _
-    (rw (counted .curve-count .ensures) at (entries .before .before .curve-length .ensures)) (entries .enum-told3 .given .1) in
-    stage-refuses _ _ afterEntries _ (c .before .before .text-output-length .ensures) _ (c .enum-told6 .given .1)
-
-returns-4 : tie.Need-returns-4
-unfolding sizeTests
-returns-4 c =
-    let place = c .before in
-    let entries = place .before .before .before in
-    let counted = entries .before .before .before in
-    let shape = counted .before in
-    let afterShape = stage-passes _ _ all-remain _ (shape .before .before .family-shape .ensures) (shape .enum-told .given .1) in
-    let afterEntries = stage-passes _ _ afterShape _
-    (rw (counted .curve-count .ensures) at (entries .before .before .curve-length .ensures)) (entries .enum-told3 .given .1) in
-    let afterPlace = stage-passes _ _ afterEntries _ (place .before .before .text-output-length .ensures)
-    (place .enum-told5 .given .1) in
-    stages-end _ afterPlace (c .work-length .result) (c .work-length .ensures)
+    let job = c .before in
+    let afterJob = stage-passes _ _ all-remain _ (job .before .before .lengths .ensures) (job .enum-told .given .1) in
+    stages-end _ afterJob (c .work-length .result) (c .work-length .ensures)
 
 pub sizes-spec : {M : Type 1} → statement M
 sizes-spec =
     tie.close
-    (tie.spec
-    (search needs) enum-told (search needs) returns curve-count-requires (search needs) (search needs) (search needs) returns-2
-    (search needs) (search needs) (search needs) returns-3 (search needs) returns-4)
+    (tie.spec (search needs) enum-told (search needs) returns (search needs) returns-2)

@@ -1,8 +1,9 @@
--- `writing` answers the verdict of the tests of the call that writes a job. Assumes nothing.
-use Rattle.definitions.specs.JobWriting.{writingTests}
-use Rattle.acceptance.specs.Stages.{all-remain, stage-refuses, stage-passes, stages-end}
-use Rattle.checks.specs.Shape.{shaped}
-use Rattle.verdicts.specs.Sizes.{valueTests}
+-- `writing` answers the verdict of the tests of the call that writes a job: those of `lengths`, then 9 to 12. Assumes nothing.
+use mathlib.Core.Path.{_∙_, sym, ap}
+use mathlib.Core.List.{[]}
+use Rattle.definitions.specs.Refusals.{verdict}
+use Rattle.acceptance.specs.Stages.{all-remain, stage-none, stage-refuses, stage-passes, stages-end}
+use Rattle.verdicts.specs.Sizes.{writing-tests, lengths-shaped}
 use borrow.Author.Needs.{needs}
 use Rattle.verdicts.proofs.writing.Statement.{statement}
 use Rattle.verdicts.proofs.writing.Tie as tie
@@ -11,54 +12,21 @@ enum-told : tie.Need-enum-told
 enum-told c = search needs
 
 returns : tie.Need-returns
-unfolding writingTests
-returns c = stage-refuses _ _ all-remain _ (c .before .before .family-shape .ensures) _ (c .enum-told2 .given .1)
-
-curve-count-requires : tie.Need-curve-count-requires
-curve-count-requires c κs = shaped _ _ _ _ _ (c .before .before .family-shape .ensures) (c .enum-told .given .1) .few
-
-returns-2 : tie.Need-returns-2
-unfolding writingTests
-returns-2 c =
-    let counted = c .before .before .before in
-    let shape = counted .before in
-    let afterShape = stage-passes _ _ all-remain _ (shape .before .before .family-shape .ensures) (shape .enum-told .given .1) in
-    stage-refuses _ _ afterShape _
-    (rw (counted .curve-count .ensures) at (c .before .before .curve-length .ensures)) _ (c .enum-told4 .given .1)
-
-returns-3 : tie.Need-returns-3
-unfolding writingTests
-returns-3 c =
-    let entries = c .before .before .before in
-    let counted = entries .before .before .before in
-    let shape = counted .before in
-    let afterShape = stage-passes _ _ all-remain _ (shape .before .before .family-shape .ensures) (shape .enum-told .given .1) in
-    let afterEntries = stage-passes _ _ afterShape _
-    (rw (counted .curve-count .ensures) at (entries .before .before .curve-length .ensures)) (entries .enum-told3 .given .1) in
-    stage-refuses _ _ afterEntries _ (c .before .before .text-output-length .ensures) _ (c .enum-told6 .given .1)
+returns c =
+    stage-refuses _ _ all-remain _ (c .before .before .lengths .ensures) _ (c .enum-told2 .given .1)
+    ∙ sym (ap (λ ts. verdict ts []) (writing-tests _ _))
 
 values-requires : tie.Need-values-requires
 values-requires c κs =
-    let shape = c .before .before .before .before .before .before .before in
-    shaped _ _ _ _ _ (shape .before .before .family-shape .ensures) (shape .enum-told .given .1)
+    lengths-shaped _ _ _ _ _ _ _ _ (stage-none _ _ (c .before .before .lengths .ensures) (c .enum-told .given .1))
 
-returns-4 : tie.Need-returns-4
-unfolding writingTests valueTests
-returns-4 c =
-    let place = c .before in
-    let entries = place .before .before .before in
-    let counted = entries .before .before .before in
-    let shape = counted .before in
-    let afterShape = stage-passes _ _ all-remain _ (shape .before .before .family-shape .ensures) (shape .enum-told .given .1) in
-    let afterEntries = stage-passes _ _ afterShape _
-    (rw (counted .curve-count .ensures) at (entries .before .before .curve-length .ensures)) (entries .enum-told3 .given .1) in
-    let afterPlace = stage-passes _ _ afterEntries _ (place .before .before .text-output-length .ensures)
-    (place .enum-told5 .given .1) in
-    stages-end _ afterPlace (c .values .result) (c .values .ensures)
+returns-2 : tie.Need-returns-2
+returns-2 c =
+    let job = c .before in
+    let afterJob = stage-passes _ _ all-remain _ (job .before .before .lengths .ensures) (job .enum-told .given .1) in
+    stages-end _ afterJob (c .values .result) (c .values .ensures) ∙ sym (ap (λ ts. verdict ts []) (writing-tests _ _))
 
 pub writing-spec : {M : Type 1} → statement M
 writing-spec =
     tie.close
-    (tie.spec
-    (search needs) enum-told (search needs) returns curve-count-requires (search needs) (search needs) (search needs) returns-2
-    (search needs) (search needs) (search needs) returns-3 values-requires returns-4)
+    (tie.spec (search needs) enum-told (search needs) returns values-requires returns-2)
