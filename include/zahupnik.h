@@ -37,7 +37,7 @@
  *     zahupnik_write_job         1024
  *
  * Build the library with `rt staticlib zahupnik` and link target/staticlib/libzahupnik.a; it is for x86-64 Linux. The functions
- * are proved to do this on every input (crates/zahupnik, and crates/text_laws for what is said there of two calls); that these
+ * are proved to do this on every input (crates/zahupnik; that a job that is written is carried out, crates/text_laws); that these
  * declarations fit them is tested (tests/library).
  */
 #ifndef ZAHUPNIK_H

@@ -71,11 +71,11 @@ module _ (tests : List Test) (values : List ℕ) (r : Valued) (is : valued r ≡
   valued-list : (new old list : List ℕ) → list ≡ after (valued r) new old → list ≡ after (verdict tests []) new old
   valued-list new old list e = e ∙ ap (λ v. after v new old) settled ∙ after-values values (verdict tests []) new old
 
-  pub valued-returned : (k : ℕ) → k ≡ number (valued r) → (result output output′ : List ℕ) → output′ ≡ after (valued r) result output
+  valued-returned : (k : ℕ) → k ≡ number (valued r) → (result output output′ : List ℕ) → output′ ≡ after (valued r) result output
       → Returned tests result k output output′
   valued-returned k e result output output′ w = record { answer = valued-number k e; written = valued-list result output output′ w }
 
-  pub valued-returned-in : (k : ℕ) → k ≡ number (valued r) → (result output output′ work work′ : List ℕ)
+  valued-returned-in : (k : ℕ) → k ≡ number (valued r) → (result output output′ work work′ : List ℕ)
       → output′ ≡ after (valued r) result output → work′ ≡ after (valued r) (cleared work) work
       → ReturnedIn tests result k output output′ work work′
   valued-returned-in k e result output output′ work work′ w q = record {
