@@ -1,7 +1,7 @@
 -- From the promises of the two calls to the law over them.
 -- Proved: what is promised where the first call refuses (write-refused) and where it finishes, so that the second is made on the very bytes
 -- that it wrote (text-front, write-answered). Assumes nothing.
-use mathlib.Core.Path.{_≡_, refl, sym, _∙_, ap, ap₂, subst}
+use mathlib.Core.Path.{_≡_, refl, sym, _∙_, ap, subst}
 use mathlib.Core.List.{List, [], _∷_, _++_}
 use Prim.Native.Nat.{ℕ, _≤_}
 use native.Mathlib.Omega.{arith}
@@ -9,7 +9,7 @@ use lib.ListN.{length, take, drop, length-append}
 use lib.Seq.{take-at}
 use Rattle.definitions.specs.Answers.{valued, after, cleared}
 use Rattle.definitions.specs.JobWriting.{AcceptedJob, JobWritten}
-use Rattle.definitions.specs.Reading.{found, readJob}
+use Rattle.definitions.specs.Reading.{readJob}
 use Rattle.definitions.specs.Refusals.{Test, finished, refused, verdict}
 use Rattle.definitions.specs.Text.{WrittenJob, meant, jobText}
 use Rattle.definitions.specs.TextCall.{reply, TextConverted}
@@ -17,7 +17,7 @@ use Rattle.definitions.specs.declared.Valued.{Valued}
 use Rattle.acceptance.specs.Given.{revalued}
 use Rattle.acceptance.specs.Jobs.{writing-finished}
 use Rattle.acceptance.specs.Verdicts.{None, withValues, refused-not-finished, verdict-finished, verdict-stops, verdict-goes-on}
-use Rattle.text_laws.specs.Laws.{answerTo, CarriedOutInput, CarriedOut, writeTests, answerTests, WrittenAndAnswered}
+use Rattle.text_laws.specs.Laws.{CarriedOutInput, CarriedOut, writeTests, answerTests, WrittenAndAnswered}
 use Rattle.text_laws.specs.Carried.{written-read, written-reply, written-carried}
 
 -- first: the answer of the call that writes; text′: what it left

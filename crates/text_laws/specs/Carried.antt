@@ -3,7 +3,7 @@
 -- long (written-within), and the text call that is lent enough finishes on it (written-carried) and answers with its operation's result
 -- (written-reply). A job of 32-bit numbers is written exactly if its text is carried out (written-exactly), and a text that is carried out
 -- is what is written of its own lists (carried-comes-back). Assumes nothing.
-use mathlib.Core.Path.{_≡_, refl, sym, _∙_, ap, subst}
+use mathlib.Core.Path.{_≡_, refl, sym, ap, subst}
 use mathlib.Core.Bool.{false, true≢false}
 use mathlib.Core.List.{List}
 use mathlib.Core.Logic.{_↔_, Iff·trans}

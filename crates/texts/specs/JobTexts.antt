@@ -3,7 +3,7 @@
 --                op=decompose 13, and v= with 128 such numbers 1,410
 -- Proved: the text of a writable job of at most 127 rows and 128 numbers for its curve has no more (length-job). Assumes nothing.
 use mathlib.Core.Path.{_≡_}
-use mathlib.Core.List.{List, []}
+use mathlib.Core.List.{[]}
 use Prim.Native.Nat.{ℕ, suc, _+_, _≤_}
 use native.Mathlib.Omega.{arith}
 use lib.ListN.{length}

@@ -1,6 +1,5 @@
 -- `write_job` meets its promise: a refusal by its tests, or the job text. Assumes nothing.
 use borrow.Author.Needs.{needs}
-use Rattle.definitions.specs.JobWriting.{writtenJob}
 use Rattle.job.specs.Writing.{job-refused, job-room, job-written}
 use Rattle.job.proofs.write_job.Statement.{statement}
 use Rattle.job.proofs.write_job.Tie as tie
