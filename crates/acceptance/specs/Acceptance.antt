@@ -15,10 +15,10 @@ use Rattle.definitions.specs.Family.{Family, Modulus, Accepted, Convertible, Cu
 use Rattle.definitions.specs.Family.{greatestModulus, firstC, ones, family, rows, rowAt, size}
 use Rattle.definitions.specs.Orthogonality.{momentCount}
 use Rattle.definitions.specs.Refusals.{Test, finished, verdict, workLength, curveLengthTest, outputTest}
-use Rattle.definitions.specs.Refusals.{workTest, curveEntriesTest, shapeTests, familyShape, familyRows}
+use Rattle.definitions.specs.Refusals.{workTest, curveEntriesTest, shapeTests, familyShape, rowInverses, familyRows, valueTests}
 use Rattle.definitions.specs.Refusals.{plainTests, treeTests, momentsTests, normsTests, inverseTests}
 use Rattle.numbers.specs.Inverse.{one-has-inverse}
-use Rattle.acceptance.specs.Verdicts.{None, none-append, verdict-finished, modulus-passes, lengths-pass, row-count-passes}
+use Rattle.acceptance.specs.Verdicts.{None, none-append, verdict-finished, modulus-passes, equal-lengths-pass, row-count-passes}
 use Rattle.acceptance.specs.Verdicts.{entries-pass, a-inverses-pass, c-inverses-pass, curve-length-passes}
 use Rattle.acceptance.specs.Verdicts.{curve-entries-pass, output-passes, work-passes, number-passes, number-inverse-passes}
 
@@ -29,14 +29,14 @@ accepted-convertible f acc = record {
   cInverse = λ i h. acc .cInverse (suc i) (omega arith) (omega arith);
 }
 
-pub curve-accepted : (f : Family) (u : List ℕ) → None (curveLengthTest (size f) (length u) ∷ curveEntriesTest f u ∷ []) ↔ Curve f u
+pub curve-accepted : (f : Family) (u : List ℕ) → None (curveLengthTest (size f) (length u) ∷ curveEntriesTest (f .m) u ∷ []) ↔ Curve f u
 curve-accepted f u = (
   λ n.
       let long : length u ≡ size f = curve-length-passes (size f) (length u) .0 (n .0) in
-      record { long = long; below = λ i h. curve-entries-pass f u 0 .0 (n .1 .0) i (omega arith) },
+      record { long = long; below = λ i h. curve-entries-pass (f .m) u 0 .0 (n .1 .0) i (omega arith) },
   λ curve.
       let long : length u ≡ size f = curve .long in
-      (curve-length-passes (size f) (length u) .1 long, (curve-entries-pass f u 0 .1 (λ i h. curve .below i (omega arith)), tt)),
+      (curve-length-passes (size f) (length u) .1 long, (curve-entries-pass (f .m) u 0 .1 (λ i h. curve .below i (omega arith)), tt)),
 )
 
 -- what each call accepts; lengths of output and working list are numbers
@@ -65,13 +65,13 @@ pub record InverseInput (m x : ℕ) : Type 0 where
 
 module _ (f : Family) where
   pub family-passes : (None (familyShape f) × None (familyRows f)) ↔ Accepted f
-  unfolding shapeTests familyRows
+  unfolding shapeTests rowInverses familyRows
   family-passes = (to, from)
     where
       to : None (familyShape f) × None (familyRows f) → Accepted f
       to ((e3, (e4, (e5, done))), (e9, (e10, (e11, done′)))) =
           let modulus : Modulus (f .m) = modulus-passes (f .m) .0 e3 in
-          let lengths = lengths-pass (rows f) (length (f .b)) (length (f .c)) .0 e4 in
+          let lengths = equal-lengths-pass (rows f) (length (f .b)) (length (f .c)) .0 e4 in
           let two : 2 ≤ f .m = modulus .least in
           record {
             modulus = modulus;
@@ -89,7 +89,7 @@ module _ (f : Family) where
             (
               modulus-passes (f .m) .1 (acc .modulus),
               (
-                lengths-pass (rows f) (length (f .b)) (length (f .c)) .1 (acc .bLength, acc .cLength),
+                equal-lengths-pass (rows f) (length (f .b)) (length (f .c)) .1 (acc .bLength, acc .cLength),
                 (row-count-passes (rows f) .1 (acc .rowCount), tt),
               ),
             ),
@@ -109,19 +109,19 @@ module _ (f : Family) where
       (λ p. ((p .0, p .1 .1 .0), p .1 .0, p .1 .1 .1), λ p. (p .0 .0, (p .1, (p .0 .1, p .2))))
 
   pub plain-passes : (u : List ℕ) (output : ℕ) → None (plainTests f u output) ↔ PlainInput f u output
-  unfolding plainTests
+  unfolding plainTests valueTests
   plain-passes u output =
-      Iff·trans (call-passes (curveLengthTest (size f) (length u) ∷ outputTest (size f) output ∷ []) (curveEntriesTest f u ∷ []))
+      Iff·trans (call-passes (curveLengthTest (size f) (length u) ∷ outputTest (size f) output ∷ []) (curveEntriesTest (f .m) u ∷ []))
       (simp output-passes (
         λ p. record { accepted = p .0; curve = curve-accepted f u .0 (p .1 .0, p .2); outputLength = p .1 .1 .0 },
         λ p. let curve = curve-accepted f u .1 (p .curve) in (p .accepted, (curve .0, (p .outputLength, tt)), curve .1),
       ))
 
   pub tree-passes : (u : List ℕ) (output work : ℕ) → None (treeTests f u output work) ↔ TreeInput f u output work
-  unfolding treeTests
+  unfolding treeTests valueTests
   tree-passes u output work =
       Iff·trans (call-passes (curveLengthTest (size f) (length u) ∷ outputTest (size f) output ∷ workTest work ∷ [])
-      (curveEntriesTest f u ∷ []))
+      (curveEntriesTest (f .m) u ∷ []))
       (simp (output-passes, work-passes) (
         λ p.
             record {

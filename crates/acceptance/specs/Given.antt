@@ -1,7 +1,8 @@
 -- Which numbers the tests of a call can give.
 --   Given P ts   each test of ts that holds has a number of which P is true
 --   revalued     a verdict with other values
--- Proved: of the number that is given P is true (refused-given); of tests in two parts; of the stages of a family, by their numbers.
+-- Proved: of the number that is given P is true (refused-given); of tests in two parts; of the stages of a family and of a job, by their
+-- numbers.
 -- Assumes nothing.
 use mathlib.Core.Path.{_≡_, refl, sym, _∙_, ap}
 use mathlib.Core.Bool.{Bool, true, false}
@@ -9,7 +10,10 @@ use mathlib.Core.List.{List, [], _∷_, _++_}
 use Prim.Native.Nat.{ℕ}
 use Rattle.definitions.specs.Family.{Family}
 use Rattle.definitions.specs.Refusals.{Test, Verdict, finished, refused, verdict}
-use Rattle.definitions.specs.Refusals.{modulusTest, lengthsTest, rowCountTest, entriesTest, aInverseTest, cInverseTest, shapeTests, familyRows}
+use Rattle.definitions.specs.Refusals.{modulusTest, equalLengthsTest, rowCountTest, curveLengthTest, entriesTest, aInverseTest, cInverseTest}
+use Rattle.definitions.specs.Refusals.{curveEntriesTest, shapeTests, rowInverses, familyRows, valueTests}
+use Rattle.definitions.specs.TextCall.{textOutputTest, lengthTests}
+use Rattle.definitions.specs.declared.Operation.{Operation}
 use Rattle.acceptance.specs.Verdicts.{withValues, refused-not-finished, verdict-here, verdict-next, verdict-values}
 
 -- ---- a verdict with other values
@@ -43,9 +47,19 @@ module _ (P : ℕ → Type 0) where
   given-append (t ∷ ts) us here later = (here .0, given-append ts us (here .1) later)
 
   pub shape-given : (m a b c : ℕ) → P 3 → P 4 → P 5 → Given P (shapeTests m a b c)
-  unfolding shapeTests modulusTest lengthsTest rowCountTest
+  unfolding shapeTests modulusTest equalLengthsTest rowCountTest
   shape-given m a b c three four five = (λ e. three, (λ e. four, (λ e. five, tt)))
 
   pub rows-given : (f : Family) → P 9 → P 10 → P 11 → Given P (familyRows f)
-  unfolding familyRows entriesTest aInverseTest cInverseTest
+  unfolding rowInverses familyRows entriesTest aInverseTest cInverseTest
   rows-given f nine ten eleven = (λ e. nine, (λ e. ten, (λ e. eleven, tt)))
+
+  pub values-given : (f : Family) (u : List ℕ) → P 9 → P 10 → P 11 → P 12 → Given P (valueTests f u)
+  unfolding valueTests curveEntriesTest
+  values-given f u nine ten eleven twelve = given-append (familyRows f) _ (rows-given f nine ten eleven) (λ e. twelve, tt)
+
+  pub lengths-given : (m : ℕ) (operation : Operation) (a b c u least output : ℕ) → P 3 → P 4 → P 5 → P 6
+      → (textOutputTest least output .holds ≡ true → P 7) → Given P (lengthTests m operation a b c u least output)
+  unfolding lengthTests curveLengthTest textOutputTest
+  lengths-given m operation a b c u least output three four five six seven =
+      given-append (shapeTests m a b c) _ (shape-given m a b c three four five) (λ e. six, (seven, tt))

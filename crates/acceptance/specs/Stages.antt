@@ -1,8 +1,8 @@
 -- The tests of a call, made stage by stage: the tests made so far have passed, and the others remain.
 --   Remaining all rest   of the tests all, those before rest have passed: the verdict of all is that of rest
 -- A stage is a part of the tests that a check answers for: its answer is the verdict of them. Proved: where a stage refuses, the call
--- does, whatever remains (stage-refuses); where it passes, the rest remains (stage-passes); the answer of the last stage is that of
--- the call (stages-end). Assumes nothing.
+-- does, whatever remains (stage-refuses); where it passes, the rest remains (stage-passes), and so where none of its tests holds
+-- (none-remain); the answer of the last stage is that of the call (stages-end). Assumes nothing.
 use mathlib.Core.Path.{_≡_, refl, sym, _∙_, ap}
 use mathlib.Core.List.{List, [], _++_}
 use Prim.Native.Nat.{ℕ}
@@ -16,6 +16,10 @@ pub record Remaining (all rest : List Test) : Type 0 where
 
 pub all-remain : {all : List Test} → Remaining all all
 all-remain = record { same = λ values. refl }
+
+-- tests that pass are behind
+pub none-remain : {all : List Test} (stage rest : List Test) → Remaining all (stage ++ rest) → None stage → Remaining all rest
+none-remain stage rest left none = record { same = λ values. sym (verdict-goes-on rest values stage none) ∙ left .same values }
 
 -- what a check that passes says of its tests
 pub stage-none : (stage : List Test) (r : Answer) → answered r ≡ verdict stage [] → r ≡ Answer.Finished → None stage
@@ -31,7 +35,7 @@ module _ {all : List Test} (stage rest : List Test) (left : Remaining all (stage
   stage-refuses k q = ap answered q ∙ stage-refuses-with [] k q
 
   pub stage-passes : r ≡ Answer.Finished → Remaining all rest
-  stage-passes q = record { same = λ values. sym (verdict-goes-on rest values stage (stage-none stage r is q)) ∙ left .same values }
+  stage-passes q = none-remain stage rest left (stage-none stage r is q)
 
 pub stages-end : {all : List Test} (stage : List Test) → Remaining all stage → (r : Answer) → answered r ≡ verdict stage []
     → answered r ≡ verdict all []

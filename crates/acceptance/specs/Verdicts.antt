@@ -18,9 +18,9 @@ use borrow.Author.Tests.{eq-eqb, eqb-true, le-ltb, leb-false, lt-leb, ltb-false,
 use Rattle.definitions.specs.Number.{HasInverse, inverse}
 use Rattle.definitions.specs.Family.{Row, Family, Modulus, RowBelow, mostRows, size, rowAt}
 use Rattle.definitions.specs.Refusals.{Test, Verdict, finished, refused, verdict, some, someFrom, someRow, differ, notBelow, noInverse}
-use Rattle.definitions.specs.Refusals.{workLength, modulusTest, lengthsTest, rowCountTest, curveLengthTest, outputTest, workTest}
+use Rattle.definitions.specs.Refusals.{workLength, modulusTest, equalLengthsTest, rowCountTest, curveLengthTest, outputTest, workTest}
 use Rattle.definitions.specs.Refusals.{entriesTest, aInverseTest, cInverseTest, curveEntriesTest, numberTest, numberInverseTest}
-use Rattle.definitions.specs.TextCall.{textOutputTest}
+use Rattle.definitions.specs.TextCall.{mostBytes, textLengthTest, textOutputTest}
 use Rattle.numbers.specs.Inverse.{inverse-right}
 use Rattle.numbers.specs.Lists.{Each}
 
@@ -201,6 +201,10 @@ pub text-output-passes : (least output : ℕ) → (textOutputTest least output .
 unfolding textOutputTest
 text-output-passes least output = ltb-fails output least
 
+pub text-length-passes : (bytes : ℕ) → (textLengthTest bytes .holds ≡ false) ↔ (bytes ≤ mostBytes)
+unfolding textLengthTest
+text-length-passes bytes = ltb-fails mostBytes bytes
+
 pub work-passes : (work : ℕ) → (workTest work .holds ≡ false) ↔ (workLength ≤ work)
 unfolding workTest
 work-passes work = ltb-fails work workLength
@@ -213,9 +217,9 @@ pub number-inverse-passes : (m x : ℕ) → 0 < m → (numberInverseTest m x .ho
 unfolding numberInverseTest
 number-inverse-passes m x h = noInverse-false m x h
 
-pub lengths-pass : (a b c : ℕ) → (lengthsTest a b c .holds ≡ false) ↔ ((b ≡ a) × (c ≡ a))
-unfolding lengthsTest
-lengths-pass a b c = simp (or-false, differ-false) Iff·rfl
+pub equal-lengths-pass : (a b c : ℕ) → (equalLengthsTest a b c .holds ≡ false) ↔ ((b ≡ a) × (c ≡ a))
+unfolding equalLengthsTest
+equal-lengths-pass a b c = simp (or-false, differ-false) Iff·rfl
 
 pub row-count-passes : (rows : ℕ) → (rowCountTest rows .holds ≡ false) ↔ (rows ≤ mostRows)
 unfolding rowCountTest
@@ -224,6 +228,10 @@ row-count-passes rows = ltb-fails mostRows rows
 pub curve-length-passes : (wanted curve : ℕ) → (curveLengthTest wanted curve .holds ≡ false) ↔ (curve ≡ wanted)
 unfolding curveLengthTest
 curve-length-passes wanted curve = differ-false curve wanted
+
+pub curve-entries-pass : (m : ℕ) (u : List ℕ) (d : ℕ) → (curveEntriesTest m u .holds ≡ false) ↔ Each (λ x. x < m) u d
+unfolding curveEntriesTest
+curve-entries-pass m u d = some-notBelow-false m u d
 
 module _ (f : Family) where
   pub entries-pass : (entriesTest f .holds ≡ false) ↔ ((i : ℕ) → i < size f → RowBelow (f .m) (rowAt f i))
@@ -255,7 +263,3 @@ module _ (f : Family) where
       λ all i l h. noInverse-false (f .m) (rowAt f i .c) pos .0 (all i l h),
       λ all i l h. noInverse-false (f .m) (rowAt f i .c) pos .1 (all i l h),
     )
-
-  pub curve-entries-pass : (u : List ℕ) (d : ℕ) → (curveEntriesTest f u .holds ≡ false) ↔ Each (λ x. x < f .m) u d
-  unfolding curveEntriesTest
-  curve-entries-pass u d = some-notBelow-false (f .m) u d

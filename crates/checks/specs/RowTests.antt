@@ -1,5 +1,4 @@
 -- The tests on the rows of a lent family, by passes over its lists and a look at the closing row.
---   inverseRows first f   10 and 11 of a family: the inverses of the a, and of the c from place first on
 --   Entered               what 9 asks for: the entries of the three lists and those of the closing row are below m
 --   Inverted              what 10 and 11 ask for: the numbers of a column from place first on, that of the closing row too, have inverses
 --   LackAnswer            what is answered to whether one of them has none
@@ -16,8 +15,8 @@ use lib.ListN.{length, getD, take, drop, length-drop, List·getD-eq-default}
 use lib.Seq.{getD-take, getD-drop, length-take-le}
 use Rattle.definitions.specs.Family.{Row, Family, RowBelow, rowOf, rowAt, size}
 use Rattle.definitions.specs.Number.{HasInverse}
-use Rattle.definitions.specs.Refusals.{Test, Verdict, finished, refused, verdict, some, notBelow, noInverse}
-use Rattle.definitions.specs.Refusals.{entriesTest, aInverseTest, cInverseTest}
+use Rattle.definitions.specs.Refusals.{Verdict, finished, refused, verdict, some, notBelow, noInverse}
+use Rattle.definitions.specs.Refusals.{entriesTest, aInverseTest, cInverseTest, rowInverses}
 use Rattle.numbers.specs.Lists.{Each}
 use Rattle.acceptance.specs.Verdicts.{some-true, some-notBelow-false, some-noInverse-false, noInverse-true}
 use Rattle.acceptance.specs.Verdicts.{entries-pass, a-inverses-pass, c-inverses-pass}
@@ -30,9 +29,6 @@ use Rattle.checks.specs.Passes.{First, BelowAnswer, FactorAnswer}
 use Rattle.checks.specs.declared.Entries.{Entries}
 use Rattle.checks.specs.declared.Factors.{Factors}
 use Rattle.checks.specs.declared.Reason.{Reason}
-
-unfoldable pub inverseRows : ℕ → Family → List Test
-inverseRows first f = aInverseTest f ∷ cInverseTest first f ∷ []
 
 -- ---- what a pass found
 first-some : (bad : ℕ → Bool) (xs : List ℕ) (i : ℕ) → First bad xs i → some bad xs ≡ false → ⊥
@@ -141,7 +137,7 @@ module _ (m r : ℕ) (a c : List ℕ) (first closeA closeC : ℕ) (pos : 0 < m) 
   f = lent m r a b c (rowOf closeA closeB closeC)
 
   abbrev whole : Verdict
-  whole = verdict (inverseRows first f) []
+  whole = verdict (rowInverses first f) []
 
   n-is : size f ≡ suc r
   n-is = ap suc (length-take-le r a aLong)
@@ -157,12 +153,12 @@ module _ (m r : ℕ) (a c : List ℕ) (first closeA closeC : ℕ) (pos : 0 < m) 
       (λ all i l h. all i l (omega (arith, n-is)), λ all i l h. all i l (omega (arith, n-is)))
 
   pub a-refused : (Inverted m 0 r a closeA → ⊥) → refused 10 ≡ whole
-  unfolding inverseRows aInverseTest
+  unfolding rowInverses aInverseTest
   a-refused n = refuses (aInverseTest f) a-inverted (cInverseTest first f ∷ []) [] n
 
   module _ (p : Inverted m 0 r a closeA) where
     past-a : verdict (cInverseTest first f ∷ []) [] ≡ whole
-    unfolding inverseRows
+    unfolding rowInverses
     past-a = goes-on (aInverseTest f) a-inverted (cInverseTest first f ∷ []) [] p
 
     pub c-refused : (Inverted m first r c closeC → ⊥) → refused 11 ≡ whole

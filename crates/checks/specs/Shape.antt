@@ -10,7 +10,7 @@ use Rattle.definitions.specs.Family.{Modulus, mostRows}
 use Rattle.definitions.specs.Refusals.{verdict, modulusTest, shapeTests}
 use Rattle.definitions.specs.declared.Answer.{Answer}
 use Rattle.acceptance.specs.Stages.{stage-none}
-use Rattle.acceptance.specs.Verdicts.{None, modulus-passes, lengths-pass, row-count-passes}
+use Rattle.acceptance.specs.Verdicts.{None, modulus-passes, equal-lengths-pass, row-count-passes}
 
 pub record Shaped (m a b c : ℕ) : Type 0 where
   pub modulus : Modulus m
@@ -21,7 +21,7 @@ pub record Shaped (m a b c : ℕ) : Type 0 where
 pub shape-passes : (m a b c : ℕ) → None (shapeTests m a b c) → Shaped m a b c
 unfolding shapeTests
 shape-passes m a b c (e3, (e4, (e5, done))) =
-    let equal = lengths-pass a b c .0 e4 in
+    let equal = equal-lengths-pass a b c .0 e4 in
     record { modulus = modulus-passes m .0 e3; bLength = equal .0; cLength = equal .1; few = row-count-passes a .0 e5 }
 
 pub shaped : (m a b c : ℕ) (r : Answer) → answered r ≡ verdict (shapeTests m a b c) [] → r ≡ Answer.Finished → Shaped m a b c

@@ -4,17 +4,17 @@ ghost use mathlib.Core.Path.{_≡_};
 ghost use mathlib.Core.Bool.{true, false};
 ghost use mathlib.Core.List.{List, [], _∷_};
 ghost use Prim.Native.Nat.{ℕ, _≤_, _<_};
-ghost use lib.Dec.{ltb};
 ghost use lib.ListN.{length};
 ghost use Rattle.definitions.specs.Answers.{answered};
 ghost use Rattle.definitions.specs.Family.{rowOf};
-ghost use Rattle.definitions.specs.Refusals.{test, verdict, some, notBelow, modulusTest, lengthsTest, rowCountTest, curveLengthTest};
-ghost use Rattle.definitions.specs.Refusals.{outputTest, workTest, entriesTest, numberTest, shapeTests, familyRows};
-ghost use Rattle.definitions.specs.TextCall.{mostBytes, textOutputTest};
+ghost use Rattle.definitions.specs.Refusals.{verdict, some, notBelow, modulusTest, equalLengthsTest, rowCountTest, curveLengthTest};
+ghost use Rattle.definitions.specs.Refusals.{outputTest, workTest, entriesTest, curveEntriesTest, numberTest, shapeTests, rowInverses, familyRows};
+ghost use Rattle.definitions.specs.TextCall.{textLengthTest, textOutputTest};
 ghost use Rattle.lists.specs.Lent.{lent, Long};
 ghost use Rattle.checks.specs.Passes.{BelowAnswer, FactorAnswer};
-ghost use Rattle.checks.specs.RowTests.{LackAnswer, inverseRows};
+ghost use Rattle.checks.specs.RowTests.{LackAnswer};
 use definitions::Answer;
+use definitions::FIRST_C;
 use residue::Inversion;
 use residue::invert;
 use residue::running_product;
@@ -95,7 +95,7 @@ fn invertible(m: u32, list: &[u32]) -> Factors
 
 // 1: the number of bytes of a job text.
 pub fn text_length(count: usize) -> Answer
-    ensures { λ r. ⌜ answered r ≡ verdict (test 1 (ltb mostBytes count) ∷ []) [] ⌝ }
+    ensures { λ r. ⌜ answered r ≡ verdict (textLengthTest count ∷ []) [] ⌝ }
 {
     if 8192 < count {
         return Answer::Refused(1);
@@ -118,7 +118,7 @@ pub fn modulus(m: u32) -> Answer
 
 // 4: the lengths of the rows' lists.
 fn equal_lengths(a: usize, b: usize, c: usize) -> Answer
-    ensures { λ r. ⌜ answered r ≡ verdict (lengthsTest a b c ∷ []) [] ⌝ }
+    ensures { λ r. ⌜ answered r ≡ verdict (equalLengthsTest a b c ∷ []) [] ⌝ }
 {
     if b != a {
         return Answer::Refused(4);
@@ -262,7 +262,7 @@ fn row_inverses(
 ) -> Answer
     requires { ⌜ (0 < m) × (r ≤ length (now a)) × (r ≤ length (now c)) ⌝ }
     ensures { λ answer. ⌜ ((b : List ℕ) (closeB : ℕ) → answered answer ≡ verdict
-        (inverseRows first (lent m r (now (a .entry)) b (now (c .entry)) (rowOf «close_a» closeB «close_c»))) []) ⌝ }
+        (rowInverses first (lent m r (now (a .entry)) b (now (c .entry)) (rowOf «close_a» closeB «close_c»))) []) ⌝ }
 {
     let start = r - lists::excess(r, first);
     let closing = if first <= r { close_c } else { 1 };
@@ -280,7 +280,7 @@ fn row_inverses(
     Answer::Finished
 }
 
-// 9, 10 and 11 of the family of the first r rows and the closing row: every c must have an inverse, from place 0 on.
+// 9, 10 and 11 of the family of the first r rows and the closing row.
 pub fn family_rows(
     m: u32,
     a: &[u32],
@@ -299,12 +299,12 @@ pub fn family_rows(
     let Answer::Finished = entries else {
         return entries;
     };
-    row_inverses(m, a, c, r, 0, close_a, close_c)
+    row_inverses(m, a, c, r, FIRST_C, close_a, close_c)
 }
 
 // 12: the entries of a curve.
 pub fn curve_entries(m: u32, curve: &[u32]) -> Answer
-    ensures { λ r. ⌜ answered r ≡ verdict (test 12 (some (notBelow m) (now (curve .entry))) ∷ []) [] ⌝ }
+    ensures { λ r. ⌜ answered r ≡ verdict (curveEntriesTest m (now (curve .entry)) ∷ []) [] ⌝ }
 {
     let Entries::Residues = entries_below(m, curve) else {
         return Answer::Refused(12);

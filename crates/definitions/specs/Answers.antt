@@ -31,27 +31,28 @@ after (refused k) new old = old
 unfoldable pub cleared : List ℕ → List ℕ
 cleared work = replicate workLength 0 ++ drop workLength work
 
--- tests: the call's tests; result: the definition's list; r: the answer; output and output′: the output before and after
-pub record Converted (tests : List Test) (result : List ℕ) (r : Answer) (output output′ : List ℕ) : Type 0 where
-  pub answer : answered r ≡ verdict tests []
-  pub written : output′ ≡ after (answered r) result output
+-- tests: the call's tests; result: the definition's list; v: what the answer says; output and output′: the output before and after
+pub record Converted (tests : List Test) (result : List ℕ) (v : Verdict) (output output′ : List ℕ) : Type 0 where
+  pub answer : v ≡ verdict tests []
+  pub written : output′ ≡ after v result output
 
-pub record ConvertedIn (tests : List Test) (result : List ℕ) (r : Answer) (output output′ work work′ : List ℕ) : Type 0 where
-  pub answer : answered r ≡ verdict tests []
-  pub written : output′ ≡ after (answered r) result output
-  pub wiped : work′ ≡ after (answered r) (cleared work) work
+-- work and work′: the working list before and after
+pub record ConvertedIn (tests : List Test) (result : List ℕ) (v : Verdict) (output output′ work work′ : List ℕ) : Type 0 where
+  pub answer : v ≡ verdict tests []
+  pub written : output′ ≡ after v result output
+  pub wiped : work′ ≡ after v (cleared work) work
 
 -- the calls on a family f; convert is the definition of the conversion
-abbrev pub PlainCall : (Family → List ℕ → List ℕ) → Family → List ℕ → Answer → List ℕ → List ℕ → Type 0
-PlainCall convert f u r output output′ = Converted (plainTests f u (length output)) (convert f u) r output output′
+abbrev pub PlainCall : (Family → List ℕ → List ℕ) → Family → List ℕ → Verdict → List ℕ → List ℕ → Type 0
+PlainCall convert f u v output output′ = Converted (plainTests f u (length output)) (convert f u) v output output′
 
-abbrev pub TreeCall : (Family → List ℕ → List ℕ) → Family → List ℕ → Answer → List ℕ → List ℕ → List ℕ → List ℕ → Type 0
-TreeCall convert f u r output output′ work work′ =
-    ConvertedIn (treeTests f u (length output) (length work)) (convert f u) r output output′ work work′
+abbrev pub TreeCall : (Family → List ℕ → List ℕ) → Family → List ℕ → Verdict → List ℕ → List ℕ → List ℕ → List ℕ → Type 0
+TreeCall convert f u v output output′ work work′ =
+    ConvertedIn (treeTests f u (length output) (length work)) (convert f u) v output output′ work work′
 
-abbrev pub NormsCall : Family → Answer → List ℕ → List ℕ → Type 0
-NormsCall f r output output′ = Converted (normsTests f (length output)) (norms f) r output output′
+abbrev pub NormsCall : Family → Verdict → List ℕ → List ℕ → Type 0
+NormsCall f v output output′ = Converted (normsTests f (length output)) (norms f) v output output′
 
-abbrev pub MomentsCall : Family → Answer → List ℕ → List ℕ → List ℕ → List ℕ → Type 0
-MomentsCall f r output output′ work work′ =
-    ConvertedIn (momentsTests f (length output) (length work)) (moments f) r output output′ work work′
+abbrev pub MomentsCall : Family → Verdict → List ℕ → List ℕ → List ℕ → List ℕ → Type 0
+MomentsCall f v output output′ work work′ =
+    ConvertedIn (momentsTests f (length output) (length work)) (moments f) v output output′ work work′

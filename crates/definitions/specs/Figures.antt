@@ -13,9 +13,9 @@ use Rattle.definitions.specs.Conversion.{expand, adjoint, top, lessTop, 
 use Rattle.definitions.specs.Orthogonality.{reversal, nextQuotient, quotient, momentCount, moments, signedProduct}
 use Rattle.definitions.specs.Orthogonality.{norm, norms, product, momentTotal, normTotal}
 use Rattle.definitions.specs.Refusals.{Verdict, finished, refused, verdict, some, someFrom, someRow, differ, notBelow, noInverse}
-use Rattle.definitions.specs.Refusals.{workLength, modulusTest, lengthsTest, rowCountTest, curveLengthTest, outputTest, workTest}
-use Rattle.definitions.specs.Refusals.{entriesTest, aInverseTest, cInverseTest, curveEntriesTest, shapeTests, familyRows}
-use Rattle.definitions.specs.Refusals.{numberTest, numberInverseTest, plainTests, momentsTests, normsTests, inverseTests}
+use Rattle.definitions.specs.Refusals.{workLength, modulusTest, equalLengthsTest, rowCountTest, curveLengthTest, outputTest, workTest}
+use Rattle.definitions.specs.Refusals.{entriesTest, aInverseTest, cInverseTest, curveEntriesTest, shapeTests, rowInverses}
+use Rattle.definitions.specs.Refusals.{familyRows, valueTests, numberTest, numberInverseTest, plainTests, momentsTests, normsTests, inverseTests}
 
 pub data Call : Type 0 where
   Expand : Family → List ℕ → Call
@@ -30,9 +30,9 @@ pub data Call : Type 0 where
 unfoldable pub handed : Call → Verdict
 unfolding sum table negative inverseBelow inverse rowAt timesX term F G expand adjoint top lessTop decomposeBelow decompose
     reversal nextQuotient quotient moments signedProduct norm norms product momentTotal normTotal verdict some differ notBelow
-    noInverse someFrom someRow modulusTest lengthsTest rowCountTest curveLengthTest outputTest workTest entriesTest aInverseTest
-    cInverseTest curveEntriesTest shapeTests familyRows numberTest numberInverseTest plainTests momentsTests normsTests
-    inverseTests
+    noInverse someFrom someRow modulusTest equalLengthsTest rowCountTest curveLengthTest outputTest workTest entriesTest aInverseTest
+    cInverseTest curveEntriesTest shapeTests rowInverses familyRows valueTests numberTest numberInverseTest plainTests momentsTests
+    normsTests inverseTests
 handed (Expand f u) = verdict (plainTests f u (size f)) (expand f u)
 handed (Adjoint f u) = verdict (plainTests f u (size f)) (adjoint f u)
 handed (Decompose f p) = verdict (plainTests f p (size f)) (decompose f p)

@@ -11,10 +11,10 @@ use mathlib.Core.List.{List, [], _∷_, _++_}
 use Prim.Native.Nat.{ℕ, _<_}
 use lib.ListN.{length, drop, getD}
 use Rattle.definitions.specs.Family.{Accepted, rows}
-use Rattle.definitions.specs.Refusals.{Test, verdict, curveLengthTest, curveEntriesTest, familyShape, familyRows}
+use Rattle.definitions.specs.Refusals.{Test, verdict, valueTests}
 use Rattle.definitions.specs.Answers.{valued, after}
 use Rattle.definitions.specs.Text.{WrittenJob, Job, meant, jobText}
-use Rattle.definitions.specs.TextCall.{curveCount, textOutputTest}
+use Rattle.definitions.specs.TextCall.{curveCount, lengthsOf}
 use Rattle.definitions.specs.declared.Operation.{Operation}
 use Rattle.definitions.specs.declared.Valued.{Valued}
 
@@ -30,12 +30,7 @@ pub record AcceptedJob (j : Job) : Type 0 where
   pub curveBelow : (i : ℕ) → i < length (j .curve) → getD (j .curve) i 0 < j .family .m
 
 unfoldable pub writingTests : Job → ℕ → List Test
-writingTests j output =
-    familyShape (j .family)
-    ++ (curveLengthTest (curveCount (j .operation) (rows (j .family))) (length (j .curve))
-    ∷ textOutputTest jobOutputLength output
-    ∷ (familyRows (j .family)
-    ++ (curveEntriesTest (j .family) (j .curve) ∷ [])))
+writingTests j output = lengthsOf (j .operation) (j .family) (j .curve) jobOutputLength output ++ valueTests (j .family) (j .curve)
 
 -- w: what is to be written; r: the answer; output and output′: the output before and after
 pub record JobWritten (w : WrittenJob) (r : Valued) (output output′ : List ℕ) : Type 0 where

@@ -37,33 +37,33 @@ work = replicate 16384 3 ++ (8 ∷ 9 ∷ [])
 abbrev pub wiped : List ℕ
 wiped = replicate 16384 0 ++ (8 ∷ 9 ∷ [])
 
-pub plain-outcome : PlainCall expand R curve Answer.Finished output (1 ∷ 3 ∷ 2 ∷ [])
+pub plain-outcome : PlainCall expand R curve (answered Answer.Finished) output (1 ∷ 3 ∷ 2 ∷ [])
 unfolding handed
 plain-outcome = record { answer = refl; written = refl }
 
-pub plain-refusal : PlainCall expand R past (Answer.Refused 12) output output
+pub plain-refusal : PlainCall expand R past (answered (Answer.Refused 12)) output output
 unfolding handed
 plain-refusal = record { answer = refl; written = refl }
 
-pub plain-outcome-only : (r : Answer) (output′ : List ℕ) → PlainCall expand R curve r output output′
+pub plain-outcome-only : (r : Answer) (output′ : List ℕ) → PlainCall expand R curve (answered r) output output′
     → (answered r ≡ finished []) × (output′ ≡ 1 ∷ 3 ∷ 2 ∷ [])
 unfolding handed
 plain-outcome-only r output′ p = (p .answer, p .written ∙ ap (λ v. after v (expand R curve) output) (p .answer))
 
-pub plain-refusal-only : (r : Answer) (output′ : List ℕ) → PlainCall expand R past r output output′
+pub plain-refusal-only : (r : Answer) (output′ : List ℕ) → PlainCall expand R past (answered r) output output′
     → (answered r ≡ refused 12) × (output′ ≡ output)
 unfolding handed
 plain-refusal-only r output′ p = (p .answer, p .written ∙ ap (λ v. after v (expand R past) output) (p .answer))
 
-pub tree-outcome : TreeCall expand R curve Answer.Finished output (1 ∷ 3 ∷ 2 ∷ []) work wiped
+pub tree-outcome : TreeCall expand R curve (answered Answer.Finished) output (1 ∷ 3 ∷ 2 ∷ []) work wiped
 unfolding handed treeTests cleared
 tree-outcome = record { answer = refl; written = refl; wiped = refl }
 
-pub tree-refusal : TreeCall expand R past (Answer.Refused 12) output output work work
+pub tree-refusal : TreeCall expand R past (answered (Answer.Refused 12)) output output work work
 unfolding handed treeTests
 tree-refusal = record { answer = refl; written = refl; wiped = refl }
 
-pub tree-outcome-only : (r : Answer) (output′ work′ : List ℕ) → TreeCall expand R curve r output output′ work work′
+pub tree-outcome-only : (r : Answer) (output′ work′ : List ℕ) → TreeCall expand R curve (answered r) output output′ work work′
     → (answered r ≡ finished []) × (output′ ≡ 1 ∷ 3 ∷ 2 ∷ []) × (work′ ≡ wiped)
 unfolding handed treeTests cleared
 tree-outcome-only r output′ work′ p = (
@@ -72,7 +72,7 @@ tree-outcome-only r output′ work′ p = (
   p .wiped ∙ ap (λ v. after v (cleared work) work) (p .answer),
 )
 
-pub tree-refusal-only : (r : Answer) (output′ work′ : List ℕ) → TreeCall expand R past r output output′ work work′
+pub tree-refusal-only : (r : Answer) (output′ work′ : List ℕ) → TreeCall expand R past (answered r) output output′ work work′
     → (answered r ≡ refused 12) × (output′ ≡ output) × (work′ ≡ work)
 unfolding handed treeTests
 tree-refusal-only r output′ work′ p = (
@@ -81,11 +81,11 @@ tree-refusal-only r output′ work′ p = (
   p .wiped ∙ ap (λ v. after v (cleared work) work) (p .answer),
 )
 
-pub norms-outcome : NormsCall R Answer.Finished output (1 ∷ 1 ∷ 5 ∷ [])
+pub norms-outcome : NormsCall R (answered Answer.Finished) output (1 ∷ 1 ∷ 5 ∷ [])
 unfolding handed
 norms-outcome = record { answer = refl; written = refl }
 
-pub norms-outcome-only : (r : Answer) (output′ : List ℕ) → NormsCall R r output output′
+pub norms-outcome-only : (r : Answer) (output′ : List ℕ) → NormsCall R (answered r) output output′
     → (answered r ≡ finished []) × (output′ ≡ 1 ∷ 1 ∷ 5 ∷ [])
 unfolding handed
 norms-outcome-only r output′ p = (p .answer, p .written ∙ ap (λ v. after v (norms R) output) (p .answer))
@@ -94,11 +94,11 @@ norms-outcome-only r output′ p = (p .answer, p .written ∙ ap (λ v. after v 
 abbrev pub five : List ℕ
 five = 4 ∷ 5 ∷ 6 ∷ 7 ∷ 8 ∷ []
 
-pub moments-outcome : MomentsCall R Answer.Finished five (1 ∷ 0 ∷ 1 ∷ 2 ∷ 1 ∷ []) work wiped
+pub moments-outcome : MomentsCall R (answered Answer.Finished) five (1 ∷ 0 ∷ 1 ∷ 2 ∷ 1 ∷ []) work wiped
 unfolding handed cleared
 moments-outcome = record { answer = refl; written = refl; wiped = refl }
 
-pub moments-outcome-only : (r : Answer) (output′ work′ : List ℕ) → MomentsCall R r five output′ work work′
+pub moments-outcome-only : (r : Answer) (output′ work′ : List ℕ) → MomentsCall R (answered r) five output′ work work′
     → (answered r ≡ finished []) × (output′ ≡ 1 ∷ 0 ∷ 1 ∷ 2 ∷ 1 ∷ []) × (work′ ≡ wiped)
 unfolding handed cleared
 moments-outcome-only r output′ work′ p = (

@@ -30,8 +30,8 @@ pub record Lent : Type 0 where
   pub output : ℕ
   pub work : ℕ
 
-abbrev lent : Family → List ℕ → ℕ → ℕ → Lent
-lent family curve output work = record { family = family; curve = curve; output = output; work = work }
+abbrev lend : Family → List ℕ → ℕ → ℕ → Lent
+lend family curve output work = record { family = family; curve = curve; output = output; work = work }
 
 -- one row modulo 15
 abbrev pub row : ℕ → ℕ → ℕ → Family
@@ -43,23 +43,23 @@ many = replicate 128 15
 
 abbrev pub mended : ℕ → List Lent
 mended output =
-    lent (family 1 many [] []) (15 ∷ []) 0 0
-    ∷ lent (family 15 many [] []) (15 ∷ []) 0 0
-    ∷ lent (family 15 many [] many) (15 ∷ []) 0 0
-    ∷ lent (family 15 many many (15 ∷ many)) (15 ∷ []) 0 0
-    ∷ lent (family 15 many many many) (15 ∷ []) 0 0
-    ∷ lent (row 15 15 15) (15 ∷ []) 0 0
-    ∷ lent (row 15 15 15) (15 ∷ 15 ∷ 15 ∷ []) 0 0
-    ∷ lent (row 15 15 15) (15 ∷ 15 ∷ []) 0 0
-    ∷ lent (row 15 15 15) (15 ∷ 15 ∷ []) (suc output) 0
-    ∷ lent (row 15 15 15) (15 ∷ 15 ∷ []) output 16383
-    ∷ lent (row 15 0 0) (15 ∷ 15 ∷ []) output 16384
-    ∷ lent (row 0 15 0) (15 ∷ 15 ∷ []) output 16384
-    ∷ lent (row 0 0 15) (15 ∷ 15 ∷ []) output 16384
-    ∷ lent (row 0 0 0) (15 ∷ 15 ∷ []) output 16384
-    ∷ lent (row 1 0 0) (15 ∷ 15 ∷ []) output 16384
-    ∷ lent (row 1 0 1) (0 ∷ 15 ∷ []) output 16384
-    ∷ lent (row 1 0 1) (0 ∷ 14 ∷ []) output 16385
+    lend (family 1 many [] []) (15 ∷ []) 0 0
+    ∷ lend (family 15 many [] []) (15 ∷ []) 0 0
+    ∷ lend (family 15 many [] many) (15 ∷ []) 0 0
+    ∷ lend (family 15 many many (15 ∷ many)) (15 ∷ []) 0 0
+    ∷ lend (family 15 many many many) (15 ∷ []) 0 0
+    ∷ lend (row 15 15 15) (15 ∷ []) 0 0
+    ∷ lend (row 15 15 15) (15 ∷ 15 ∷ 15 ∷ []) 0 0
+    ∷ lend (row 15 15 15) (15 ∷ 15 ∷ []) 0 0
+    ∷ lend (row 15 15 15) (15 ∷ 15 ∷ []) (suc output) 0
+    ∷ lend (row 15 15 15) (15 ∷ 15 ∷ []) output 16383
+    ∷ lend (row 15 0 0) (15 ∷ 15 ∷ []) output 16384
+    ∷ lend (row 0 15 0) (15 ∷ 15 ∷ []) output 16384
+    ∷ lend (row 0 0 15) (15 ∷ 15 ∷ []) output 16384
+    ∷ lend (row 0 0 0) (15 ∷ 15 ∷ []) output 16384
+    ∷ lend (row 1 0 0) (15 ∷ 15 ∷ []) output 16384
+    ∷ lend (row 1 0 1) (0 ∷ 15 ∷ []) output 16384
+    ∷ lend (row 1 0 1) (0 ∷ 14 ∷ []) output 16385
     ∷ []
 
 abbrev pub number : Verdict → ℕ

@@ -2,6 +2,7 @@
 --   Test             a refusal number, and whether its condition holds
 --   verdict ts vs    refused with the number of the first test that holds; finished with the values vs if none does
 --   familyShape f    the tests 3 4 5 of a family, and familyRows f its tests 9 10 11: each call on a family makes both
+--   valueTests f u   the rows, and then 12 of the curve's entries: 9 10 11 12
 --   plainTests       of Expand, Adjoint and Decompose by the plain way;  treeTests  by the tree way
 --   momentsTests, normsTests, inverseTests
 -- So a number is given if its condition holds and none before it does, and otherwise not. A test on
@@ -62,8 +63,8 @@ test number holds = record { number = number; holds = holds }
 unfoldable pub modulusTest : ℕ → Test
 modulusTest m = test 3 (ltb m 2 || ltb greatestModulus m)
 
-unfoldable pub lengthsTest : ℕ → ℕ → ℕ → Test
-lengthsTest a b c = test 4 (differ b a || differ c a)
+unfoldable pub equalLengthsTest : ℕ → ℕ → ℕ → Test
+equalLengthsTest a b c = test 4 (differ b a || differ c a)
 
 unfoldable pub rowCountTest : ℕ → Test
 rowCountTest rows = test 5 (ltb mostRows rows)
@@ -89,8 +90,8 @@ unfoldable pub cInverseTest : ℕ → Family → Test
 cInverseTest first f = test 11 (someRow f first (λ row. noInverse (f .m) (row .c)))
 
 -- the sender of the curve
-unfoldable pub curveEntriesTest : Family → List ℕ → Test
-curveEntriesTest f u = test 12 (some (notBelow (f .m)) u)
+unfoldable pub curveEntriesTest : ℕ → List ℕ → Test
+curveEntriesTest m u = test 12 (some (notBelow m) u)
 
 unfoldable pub numberTest : ℕ → ℕ → Test
 numberTest m x = test 12 (notBelow m x)
@@ -100,28 +101,33 @@ numberInverseTest m x = test 13 (noInverse m x)
 
 -- the stages of a family: its shape, from the modulus and the lengths of its lists, and its rows
 unfoldable pub shapeTests : ℕ → ℕ → ℕ → ℕ → List Test
-shapeTests m a b c = modulusTest m ∷ lengthsTest a b c ∷ rowCountTest a ∷ []
+shapeTests m a b c = modulusTest m ∷ equalLengthsTest a b c ∷ rowCountTest a ∷ []
 
 abbrev pub familyShape : Family → List Test
 familyShape f = shapeTests (f .m) (length (f .a)) (length (f .b)) (length (f .c))
 
+unfoldable pub rowInverses : ℕ → Family → List Test
+rowInverses first f = aInverseTest f ∷ cInverseTest first f ∷ []
+
 unfoldable pub familyRows : Family → List Test
-familyRows f = entriesTest f ∷ aInverseTest f ∷ cInverseTest firstC f ∷ []
+familyRows f = entriesTest f ∷ rowInverses firstC f
+
+-- the rows of a family, and the entries of a curve
+unfoldable pub valueTests : Family → List ℕ → List Test
+valueTests f u = familyRows f ++ (curveEntriesTest (f .m) u ∷ [])
 
 -- the calls
 unfoldable pub plainTests : Family → List ℕ → ℕ → List Test
 plainTests f u output =
     familyShape f
     ++ (curveLengthTest (size f) (length u) ∷ outputTest (size f) output
-    ∷ (familyRows f
-    ++ (curveEntriesTest f u ∷ [])))
+    ∷ valueTests f u)
 
 unfoldable pub treeTests : Family → List ℕ → ℕ → ℕ → List Test
 treeTests f u output work =
     familyShape f
     ++ (curveLengthTest (size f) (length u) ∷ outputTest (size f) output ∷ workTest work
-    ∷ (familyRows f
-    ++ (curveEntriesTest f u ∷ [])))
+    ∷ valueTests f u)
 
 unfoldable pub momentsTests : Family → ℕ → ℕ → List Test
 momentsTests f output work =

@@ -1,4 +1,5 @@
 -- The text call: its tests in their order, what it hands out, and what it promises on every input.
+--   lengthTests, sizeTests    3 to 7 and 3 to 8 of a job, over the modulus and how many numbers or bytes each list has
 --   textTests t output work   the tests over the bytes t and the lengths of the output and of the working list
 --   result j                  the list that a job asks for
 --   reply t                   the answer text of the job that stands in t
@@ -12,10 +13,10 @@ use mathlib.Core.List.{List, [], _∷_, _++_}
 use Prim.Native.Nat.{ℕ, suc}
 use lib.Dec.{ltb}
 use lib.ListN.{length, drop}
-use Rattle.definitions.specs.Family.{Family, rows}
+use Rattle.definitions.specs.Family.{Family}
 use Rattle.definitions.specs.Conversion.{expand, adjoint, decompose}
 use Rattle.definitions.specs.Orthogonality.{moments, norms}
-use Rattle.definitions.specs.Refusals.{Test, test, verdict, curveLengthTest, workTest, curveEntriesTest, familyShape, familyRows}
+use Rattle.definitions.specs.Refusals.{Test, test, verdict, curveLengthTest, workTest, shapeTests, valueTests}
 use Rattle.definitions.specs.Answers.{valued, after, cleared}
 use Rattle.definitions.specs.Text.{Job, meant, answerText}
 use Rattle.definitions.specs.Reading.{Read, found, malformed, readJob}
@@ -29,8 +30,8 @@ abbrev pub textOutputLength : ℕ
 textOutputLength = 4096
 
 -- the sender of the job text
-unfoldable pub textLengthTest : List ℕ → Test
-textLengthTest t = test 1 (ltb mostBytes (length t))
+unfoldable pub textLengthTest : ℕ → Test
+textLengthTest bytes = test 1 (ltb mostBytes bytes)
 
 -- how many numbers an operation takes beside a family of r rows
 unfoldable pub curveCount : Operation → ℕ → ℕ
@@ -44,19 +45,32 @@ curveCount Operation.Norms r = 0
 unfoldable pub textOutputTest : ℕ → ℕ → Test
 textOutputTest least output = test 7 (ltb output least)
 
+-- the stages of a job: its sizes, which are known before a list is loaded, and then its values; a, b, c and u: how many numbers each list has
+unfoldable pub lengthTests : ℕ → Operation → ℕ → ℕ → ℕ → ℕ → ℕ → ℕ → List Test
+lengthTests m operation a b c u least output =
+    shapeTests m a b c ++ (curveLengthTest (curveCount operation a) u ∷ textOutputTest least output ∷ [])
+
+unfoldable pub sizeTests : ℕ → Operation → ℕ → ℕ → ℕ → ℕ → ℕ → ℕ → List Test
+sizeTests m operation a b c u output work = lengthTests m operation a b c u textOutputLength output ++ (workTest work ∷ [])
+
+-- those of an operation on a family and a curve
+abbrev pub lengthsOf : Operation → Family → List ℕ → ℕ → ℕ → List Test
+lengthsOf operation f u least output =
+    lengthTests (f .m) operation (length (f .a)) (length (f .b)) (length (f .c)) (length u) least output
+
+abbrev pub sizesOf : Operation → Family → List ℕ → ℕ → ℕ → List Test
+sizesOf operation f u output work =
+    sizeTests (f .m) operation (length (f .a)) (length (f .b)) (length (f .c)) (length u) output work
+
 unfoldable pub jobTests : Job → ℕ → ℕ → List Test
-jobTests j output work =
-    familyShape (j .family)
-    ++ (curveLengthTest (curveCount (j .operation) (rows (j .family))) (length (j .curve)) ∷ textOutputTest textOutputLength output ∷ workTest work
-    ∷ (familyRows (j .family)
-    ++ (curveEntriesTest (j .family) (j .curve) ∷ [])))
+jobTests j output work = sizesOf (j .operation) (j .family) (j .curve) output work ++ valueTests (j .family) (j .curve)
 
 unfoldable pub formTests : Read → ℕ → ℕ → List Test
 formTests malformed output work = test 2 true ∷ []
 formTests (found w) output work = test 2 false ∷ jobTests (meant w) output work
 
 unfoldable pub textTests : List ℕ → ℕ → ℕ → List Test
-textTests t output work = textLengthTest t ∷ formTests (readJob t) output work
+textTests t output work = textLengthTest (length t) ∷ formTests (readJob t) output work
 
 unfoldable pub converted : Operation → Family → List ℕ → List ℕ
 converted Operation.Expand f u = expand f u

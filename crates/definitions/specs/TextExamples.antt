@@ -17,7 +17,7 @@ use Rattle.definitions.specs.Text.{bytes, decimalWithin, decimal, spaced
 use Rattle.definitions.specs.Text.{name, WrittenJob, jobText, answerText, refusalText}
 use Rattle.definitions.specs.Reading.{found, readKey, isDigit, readDigits, readNumber, readOn, readSome}
 use Rattle.definitions.specs.Reading.{readNumbers, readName, ended, readLine, readLines, readJob}
-use Rattle.definitions.specs.TextCall.{textOutputLength, textLengthTest, curveCount, textOutputTest, jobTests}
+use Rattle.definitions.specs.TextCall.{textOutputLength, textLengthTest, curveCount, textOutputTest, lengthTests, sizeTests, jobTests}
 use Rattle.definitions.specs.TextCall.{formTests, textTests, converted, result, replyTo, reply}
 use Rattle.definitions.specs.JobWriting.{writtenJob}
 use Rattle.definitions.specs.Printing.{shown, printed}
@@ -78,8 +78,8 @@ text gives hands = record { text = text; output = textOutputLength; work = workL
 -- whoever unfolds it unfolds the definitions that it leads to
 unfoldable pub verdictOn : List ℕ → ℕ → ℕ → Verdict
 unfolding handed decimalWithin decimal spaced numbers line name answerText readKey isDigit readDigits readNumber readOn readSome
-    readNumbers readName ended readLine readLines readJob textLengthTest curveCount textOutputTest jobTests formTests textTests
-    converted result replyTo reply
+    readNumbers readName ended readLine readLines readJob textLengthTest curveCount textOutputTest lengthTests sizeTests
+    jobTests formTests textTests converted result replyTo reply
 verdictOn t output work = verdict (textTests t output work) (reply t)
 
 abbrev pub verdictOf : Sample → Verdict
@@ -118,16 +118,16 @@ unfolding verdictOn
 samples-hold = refl
 
 -- 8,192 bytes are looked at and 8,193 are not; 127 rows pass test 5, so that the missing curve gives 6, and 128 do not
-abbrev pub rowsOf : ℕ → WrittenJob
-rowsOf r = writtenJob 7 (replicate r 1) (replicate r 0) (replicate r 1) Operation.Expand []
+abbrev pub jobOfRows : ℕ → WrittenJob
+jobOfRows r = writtenJob 7 (replicate r 1) (replicate r 0) (replicate r 1) Operation.Expand []
 
 pub bytes-counted : (verdictOn (replicate 8192 48) textOutputLength workLength ≡ refused 2)
     × (verdictOn (replicate 8193 48) textOutputLength workLength ≡ refused 1)
 unfolding verdictOn
 bytes-counted = (refl, refl)
 
-pub rows-counted : (verdictOn (jobText (rowsOf 127)) textOutputLength workLength ≡ refused 6)
-    × (verdictOn (jobText (rowsOf 128)) textOutputLength workLength ≡ refused 5)
+pub rows-counted : (verdictOn (jobText (jobOfRows 127)) textOutputLength workLength ≡ refused 6)
+    × (verdictOn (jobText (jobOfRows 128)) textOutputLength workLength ≡ refused 5)
 unfolding verdictOn jobText
 rows-counted = (refl, refl)
 
@@ -148,7 +148,7 @@ printouts =
     ∷ [] prints "refused=2\n"
     ∷ bytes "mod=1\na=1 2\nb=0\nc=1 5\nop=norms\nv=9\n" prints "refused=3\n"
     ∷ bytes "mod=7\na=1 2\nb=0\nc=1 5\nop=norms\nv=9\n" prints "refused=4\n"
-    ∷ jobText (rowsOf 128) prints "refused=5\n"
+    ∷ jobText (jobOfRows 128) prints "refused=5\n"
     ∷ bytes "mod=7\na=1 2\nb=0 9\nc=1 5\nop=expand\nv=9\n" prints "refused=6\n"
     ∷ bytes "mod=7\na=1 0\nb=0 9\nc=1 5\nop=norms\nv=\n" prints "refused=9\n"
     ∷ bytes "mod=7\na=1 0\nb=0 0\nc=1 0\nop=norms\nv=\n" prints "refused=10\n"

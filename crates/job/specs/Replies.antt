@@ -13,15 +13,16 @@ use lib.ListN.{length, take, drop, length-take, length-append}
 use lib.Seq.{length-take-le, take-at}
 use Rattle.definitions.specs.Answers.{answered, valued, after, cleared}
 use Rattle.definitions.specs.Family.{Family, ones}
-use Rattle.definitions.specs.Refusals.{finished, refused, verdict}
+use Rattle.definitions.specs.Refusals.{finished, refused, verdict, valueTests}
 use Rattle.definitions.specs.Text.{answerText}
-use Rattle.definitions.specs.TextCall.{converted}
+use Rattle.definitions.specs.TextCall.{sizesOf, converted}
 use Rattle.definitions.specs.declared.Answer.{Answer}
 use Rattle.definitions.specs.declared.Operation.{Operation}
 use Rattle.definitions.specs.declared.Valued.{Valued}
+use Rattle.acceptance.specs.Stages.{stage-none}
 use Rattle.acceptance.specs.Verdicts.{None, verdict-finished, withValues, verdict-values}
 use Rattle.lists.specs.Lent.{lent, Long}
-use Rattle.verdicts.specs.Sizes.{valueTests, sizesOf, Fits, sizes-fit}
+use Rattle.verdicts.specs.Sizes.{Fits, sizes-fit}
 use Rattle.operations.specs.Results.{resultCount, result-length, result-few}
 use Rattle.operations.specs.Lists.{Parts, ConvertedFront, sized-by-tests}
 use Rattle.writer.specs.Answer.{Room, AnswerWritten}
@@ -74,7 +75,7 @@ module _ (operation : Operation) (m : ℕ) (a b c : List ℕ) (r : ℕ) (us : Li
 
     -- the conversion has answered, and its list stands at the front of list′
     module _ (tested : Answer) (list list′ work′ : List ℕ)
-        (done : ConvertedFront operation f u count tested list list′ work work′) where
+        (done : ConvertedFront operation f u count (answered tested) list list′ work work′) where
       pub values-refused : (k : ℕ) → tested ≡ Answer.Refused k → (v : Valued) → v ≡ withLength 0 tested → Replied operation f u v output output work work′
       values-refused k q v is =
           let n = length (replyText operation f u) in
@@ -101,7 +102,7 @@ module _ (operation : Operation) (m : ℕ) (a b c : List ℕ) (r : ℕ) (us : Li
             → Replied operation f u (Valued.Value n) output output′ work work′
         replied n output′ p =
             let size : n ≡ length (replyText operation f u) = p .answer ∙ ap length (sym text-is) in
-            let none = verdict-finished (valueTests f u) [] .0 (sym (done .answer) ∙ ap answered q) in
+            let none = stage-none (valueTests f u) tested (done .answer) q in
             record {
               answer = ap (λ k. finished (k ∷ [])) size ∙ sym (verdict-finished (valueTests f u) _ .1 none);
               written = p .written ∙ ap₂ (λ text k. text ++ drop k output) (sym text-is) size;

@@ -1,9 +1,11 @@
 -- The job text in the parts in which it is put into an output.
 --   rowLines a b c rest     the lines of the rows, and then what follows;  rowsRoom  the most bytes of the lines
+--   familyLines m a b c rest   the line of the modulus before these;  familyRoom  the most bytes of the four
 --   requestLines op u       the lines of the operation and of the curve;  requestRoom  the most bytes of them
 --   JobRoom out a b c u     the output has the 8,192 bytes that a job is lent, the lists at most 127 and 128 numbers
 --   TextWritten w r old new r is the length of the job text, at most 8,192, and new is that text and then what old held
--- Proved: the rows from their three lines, what is asked from its two, and the whole text from its parts. Assumes nothing.
+-- Proved: the rows from their three lines, the family from these and its first, what is asked from its two, and the whole text from its
+-- parts. Assumes nothing.
 use mathlib.Core.Path.{_≡_, _∙_, ap}
 use mathlib.Core.List.{List, [], _++_}
 use Prim.Native.Nat.{ℕ, suc, _+_, _*_, _≤_}
@@ -27,6 +29,12 @@ rowLines a b c rest = line aKey (numbers a) (line bKey (numbers b) (line cKey (n
 abbrev pub rowsRoom : List ℕ → List ℕ → List ℕ → ℕ
 rowsRoom a b c = numbersRoom aKey a + (numbersRoom bKey b + numbersRoom cKey c)
 
+unfoldable pub familyLines : ℕ → List ℕ → List ℕ → List ℕ → List ℕ → List ℕ
+familyLines m a b c rest = line modulusKey (decimal m) (rowLines a b c rest)
+
+abbrev pub familyRoom : List ℕ → List ℕ → List ℕ → ℕ
+familyRoom a b c = lineRoom modulusKey 10 + rowsRoom a b c
+
 unfoldable pub requestLines : Operation → List ℕ → List ℕ
 requestLines operation u = line operationKey (name operation) (line curveKey (numbers u) [])
 
@@ -39,6 +47,10 @@ rows-then a b c rest =
     lines-then aKey (numbers a) _ rest
     ∙ ap (line aKey (numbers a)) (lines-then bKey (numbers b) _ rest
     ∙ ap (line bKey (numbers b)) (lines-then cKey (numbers c) [] rest))
+
+family-then : (m : ℕ) (a b c rest : List ℕ) → familyLines m a b c [] ++ rest ≡ familyLines m a b c rest
+unfolding familyLines
+family-then m a b c rest = lines-then modulusKey (decimal m) _ rest ∙ ap (line modulusKey (decimal m)) (rows-then a b c rest)
 
 -- ---- the rows: the output and the place after the lines of a, of b and of c
 module _ (old : List ℕ) (at : ℕ) (a b c : List ℕ) (room : at + rowsRoom a b c ≤ length old)
@@ -56,6 +68,14 @@ module _ (old : List ℕ) (at : ℕ) (a b c : List ℕ) (room : at + rowsRoom a 
     put-rows out₃ at₃ p₃ =
         put-line-then old at _ _ _ out₁ at₁ p₁ (omega arith) _ _ out₃ at₃
         (put-line-then out₁ at₁ _ _ _ out₂ at₂ p₂ b-fits _ _ out₃ at₃ p₃)
+
+-- ---- the family
+module _ (old : List ℕ) (at m : ℕ) (a b c : List ℕ) (room : at + familyRoom a b c ≤ length old)
+    (out₁ : List ℕ) (at₁ : ℕ) (p₁ : Put old at (line modulusKey (decimal m) []) (lineRoom modulusKey 10) out₁ at₁) where
+  pub put-family : (out₂ : List ℕ) (at₂ : ℕ) → Put out₁ at₁ (rowLines a b c []) (rowsRoom a b c) out₂ at₂
+      → Put old at (familyLines m a b c []) (familyRoom a b c) out₂ at₂
+  unfolding familyLines
+  put-family out₂ at₂ p₂ = put-line-then old at _ _ _ out₁ at₁ p₁ (omega arith) _ _ out₂ at₂ p₂
 
 -- ---- what is asked
 module _ (old : List ℕ) (at : ℕ) (operation : Operation) (u : List ℕ) (room : at + requestRoom u ≤ length old)
@@ -77,20 +97,16 @@ abbrev pub TextWritten : WrittenJob → ℕ → List ℕ → List ℕ → Type 0
 TextWritten w r old new = Written (jobText w) jobOutputLength r old new
 
 module _ (old : List ℕ) (m : ℕ) (a b c : List ℕ) (operation : Operation) (u : List ℕ) (room : JobRoom old a b c u)
-    (out₁ : List ℕ) (at₁ : ℕ) (p₁ : Put old 0 (line modulusKey (decimal m) []) (lineRoom modulusKey 10) out₁ at₁) where
-  after-modulus : length out₁ ≡ length old
-  after-modulus = put-length old 0 _ _ out₁ at₁ p₁ (omega (arith, room .long))
+    (out₁ : List ℕ) (at₁ : ℕ) (p₁ : Put old 0 (familyLines m a b c []) (familyRoom a b c) out₁ at₁) where
+  family-fits : 0 + familyRoom a b c ≤ length old
+  family-fits = omega (arith, room .long, room .aFew, room .bFew, room .cFew)
 
-  rows-fit : at₁ + rowsRoom a b c ≤ length out₁
-  rows-fit = omega (arith, after-modulus, p₁ .place, p₁ .short, room .long, room .aFew, room .bFew, room .cFew)
-
-  module _ (out₂ : List ℕ) (at₂ : ℕ) (p₂ : Put out₁ at₁ (rowLines a b c []) (rowsRoom a b c) out₂ at₂) where
-    pub text-written : (new : List ℕ) (r : ℕ) → Put out₂ at₂ (requestLines operation u) (requestRoom u) new r
-        → TextWritten (writtenJob m a b c operation u) r old new
-    unfolding jobText rowLines requestLines
-    text-written new r p₃ =
-        let rest = requestLines operation u in
-        let rows = put-then out₁ at₁ (rowLines a b c []) (rowsRoom a b c) out₂ at₂ p₂ rest (requestRoom u) new r rows-fit p₃ in
-        let named = put-as out₁ at₁ _ _ new r rows (rowLines a b c rest) (rowsRoom a b c + requestRoom u) (rows-then a b c rest) (omega arith) in
-        put-front old _ _ new r (put-line-then old 0 _ _ _ out₁ at₁ p₁ (omega (arith, room .long)) _ _ new r named) jobOutputLength
-        (omega (arith, room .aFew, room .bFew, room .cFew, room .curveFew))
+  pub text-written : (new : List ℕ) (r : ℕ) → Put out₁ at₁ (requestLines operation u) (requestRoom u) new r
+      → TextWritten (writtenJob m a b c operation u) r old new
+  unfolding jobText familyLines rowLines requestLines
+  text-written new r p₂ =
+      let rest = requestLines operation u in
+      let whole = put-then old 0 (familyLines m a b c []) (familyRoom a b c) out₁ at₁ p₁ rest (requestRoom u) new r family-fits p₂ in
+      let named = put-as old 0 _ _ new r whole (familyLines m a b c rest) (familyRoom a b c + requestRoom u) (family-then m a b c rest)
+      (omega arith) in
+      put-front old _ _ new r named jobOutputLength (omega (arith, room .aFew, room .bFew, room .cFew, room .curveFew))

@@ -5,7 +5,8 @@ ghost use Prim.Native.Nat.{_+_, _≤_};
 ghost use lib.ListN.{length};
 ghost use Rattle.definitions.specs.JobWriting.{writtenJob};
 ghost use Rattle.writer.specs.Putting.{Put};
-ghost use Rattle.job_text.specs.Parts.{rowLines, rowsRoom, requestLines, requestRoom, JobRoom, TextWritten};
+ghost use Rattle.job_text.specs.Parts.{rowLines, rowsRoom, familyLines, familyRoom};
+ghost use Rattle.job_text.specs.Parts.{requestLines, requestRoom, JobRoom, TextWritten};
 use definitions::Operation;
 
 // The lines of the rows: a, b and c.
@@ -19,6 +20,18 @@ fn put_rows(out: &mut [u8], at: usize, a: &[u32], b: &[u32], c: &[u32]) -> usize
     let after_a = writer::put_line(out, at, b"a=", a);
     let after_b = writer::put_line(out, after_a, b"b=", b);
     writer::put_line(out, after_b, b"c=", c)
+}
+
+// The lines of a family: its modulus and its rows.
+pub fn put_family(out: &mut [u8], at: usize, modulus: u32, a: &[u32], b: &[u32], c: &[u32]) -> usize
+    requires { ⌜ at + familyRoom (now a) (now b) (now c) ≤ length (now out) ⌝ }
+    ensures { λ next. ⌜ Put
+        (now (out .entry)) at
+        (familyLines modulus (now (a .entry)) (now (b .entry)) (now (c .entry)) []) (familyRoom (now (a .entry)) (now (b .entry)) (now (c .entry)))
+        (now (out .exit)) next ⌝ }
+{
+    let rows = writer::put_number_line(out, at, b"mod=", modulus);
+    put_rows(out, rows, a, b, c)
 }
 
 // The lines of what is asked: the operation and the curve.
@@ -48,7 +61,6 @@ pub fn write_text(
         (writtenJob modulus (now (a .entry)) (now (b .entry)) (now (c .entry)) operation (now (curve .entry))) r
         (now (out .entry)) (now (out .exit)) ⌝ }
 {
-    let rows = writer::put_number_line(out, 0, b"mod=", modulus);
-    let request = put_rows(out, rows, a, b, c);
+    let request = put_family(out, 0, modulus, a, b, c);
     put_request(out, request, operation, curve)
 }

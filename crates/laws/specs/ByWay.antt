@@ -4,22 +4,21 @@
 -- turn the last that clears decides.
 -- Assumes nothing.
 use mathlib.Core.Path.{_≡_, refl, sym, _∙_, ap}
-use mathlib.Core.List.{List, [], _++_}
-use Prim.Native.Nat.{ℕ, _+_, _-_, _≤_}
-use native.Mathlib.Omega.{arith}
-use lib.ListN.{length, drop, replicate, length-replicate, length-append, length-drop}
-use lib.Seq.{drop-at}
-use Rattle.definitions.specs.Answers.{answered, after, cleared, Converted, ConvertedIn}
+use mathlib.Core.List.{List, []}
+use Prim.Native.Nat.{ℕ}
+use lib.ListN.{length}
+use Rattle.definitions.specs.Answers.{answered, after, cleared, PlainCall, TreeCall}
 use Rattle.definitions.specs.Family.{Family, Curve}
-use Rattle.definitions.specs.Refusals.{verdict, plainTests, treeTests, workLength}
+use Rattle.definitions.specs.Refusals.{verdict}
 use Rattle.definitions.specs.declared.Answer.{Answer}
 use Rattle.acceptance.specs.Acceptance.{PlainInput, TreeInput, plain-passes, tree-passes, tree-finished}
 use Rattle.acceptance.specs.Verdicts.{None}
+use Rattle.lists.specs.Entries.{cleared-length, cleared-twice}
 use Rattle.laws.specs.Laws.{TwoCallsInput, wayTests, workLeft, Made}
 use Rattle.laws.specs.declared.Way.{Way}
 
 module _ (convert : Family → List ℕ → List ℕ) (f : Family) (u : List ℕ) (r : Answer) (output output′ work : List ℕ) where
-  pub by-plain : Converted (plainTests f u (length output)) (convert f u) r output output′
+  pub by-plain : PlainCall convert f u (answered r) output output′
       → Made convert Way.Plain f u r output output′ work work
   by-plain made = record { answer = made .answer; written = made .written; worked = at r }
     where
@@ -27,7 +26,7 @@ module _ (convert : Family → List ℕ → List ℕ) (f : Family) (u : List ℕ
       at Answer.Finished = refl
       at (Answer.Refused k) = refl
 
-  pub by-tree : (work′ : List ℕ) → ConvertedIn (treeTests f u (length output) (length work)) (convert f u) r output output′ work work′
+  pub by-tree : (work′ : List ℕ) → TreeCall convert f u (answered r) output output′ work work′
       → Made convert Way.Tree f u r output output′ work work′
   by-tree work′ made = record { answer = made .answer; written = made .written; worked = made .wiped }
 
@@ -56,16 +55,6 @@ two-calls-pass first second f u v one two work input curve = (
 )
 
 -- ---- the working list
-cleared-length : (work : List ℕ) → workLength ≤ length work → length (cleared work) ≡ length work
-unfolding cleared
-cleared-length work h = length-append (replicate workLength 0) (drop workLength work)
-    ∙ rw (length-replicate {A = ℕ} workLength 0, length-drop workLength work) (omega (arith, h))
-
-cleared-twice : (work : List ℕ) → cleared (cleared work) ≡ cleared work
-unfolding cleared
-cleared-twice work =
-    ap (λ w. replicate workLength 0 ++ w) (drop-at (replicate workLength 0) (drop workLength work) workLength (length-replicate {A = ℕ} workLength 0))
-
 pub cleared-after : (way : Way) (work : List ℕ) → cleared (workLeft way work) ≡ cleared work
 cleared-after Way.Plain work = refl
 cleared-after Way.Tree work = cleared-twice work

@@ -108,7 +108,7 @@ module _ (first second : Way) (f : Family) (u v : List ℕ) (lent : Lists) (r₁
         }
 
     module _ (q₂ : r₂ ≡ Answer.Finished) (r₃ : Answer) (moment′ w₃ : List ℕ)
-        (three : MomentsCall f r₃ (lent .moment) moment′ w₂ w₃) where
+        (three : MomentsCall f (answered r₃) (lent .moment) moment′ w₂ w₃) where
       length₂ : length w₂ ≡ length (lent .work)
       length₂ = ap length (two .worked ∙ ap (λ x. after (answered x) (workLeft second w₁) w₁) q₂)
           ∙ work-length second f v r₂ (length (lent .t)) w₁ (two .answer) q₂ ∙ length₁
@@ -137,7 +137,7 @@ module _ (first second : Way) (f : Family) (u v : List ℕ) (lent : Lists) (r₁
             };
           }
 
-      module _ (q₃ : r₃ ≡ Answer.Finished) (r₄ : Answer) (norm′ : List ℕ) (four : NormsCall f r₄ (lent .norm) norm′) where
+      module _ (q₃ : r₃ ≡ Answer.Finished) (r₄ : Answer) (norm′ : List ℕ) (four : NormsCall f (answered r₄) (lent .norm) norm′) where
         pub all-handed-out : HandedOut first second f u v lent r₄ (lists s′ t′ moment′ norm′ w₃)
         all-handed-out =
             let e₄ = stages-end later₄ (stage-passes T₃ later₄ all-remain r₃ e₃ q₃) r₄ (four .answer) in

@@ -20,7 +20,7 @@ use Rattle.theory.specs.ProductLaw.{product-law}
 use Rattle.acceptance.specs.Verdicts.{None, verdict-finished, none-append, withValues, verdict-values}
 use Rattle.totals.specs.Totals.{MomentTotalInput, NormTotalInput}
 use Rattle.laws.specs.ByWay.{way-input, two-calls-pass, cleared-after}
-use Rattle.acceptance.specs.Stages.{list-new}
+use Rattle.acceptance.specs.Stages.{stage-none, list-new}
 use Rattle.laws.specs.Laws.{Lists, ProductLawInput, told, bothTotals, ProductLawHolds, wayTests, workLeft}
 use Rattle.laws.specs.Laws.{tests₁, tests₂, tests₃, lawTests, work₁, work₂, ListsHanded, HandedOut, Weighed}
 use Rattle.laws.specs.declared.Totals.{Totals}
@@ -136,7 +136,7 @@ module _ (first second : Way) (f : Family) (u v : List ℕ) (lent : Lists) where
 
     module _ (q : r ≡ Answer.Finished) where
       none : None T₄
-      none = verdict-finished T₄ [] .0 (sym (out .answer) ∙ ap answered q)
+      none = stage-none T₄ r (out .answer) q
 
       pub rows-few : rows f ≤ 127
       rows-few = u-input none .accepted .rowCount

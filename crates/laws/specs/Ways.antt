@@ -15,7 +15,7 @@ use Rattle.laws.specs.Laws.{TwoCallsInput, WaysAgree, Agreed}
 use Rattle.laws.specs.declared.Way.{Way}
 
 module _ (convert : Family → List ℕ → List ℕ) (f : Family) (u plain plain′ tree work : List ℕ) (s : Answer)
-    (one : PlainCall convert f u s plain plain′) where
+    (one : PlainCall convert f u (answered s) plain plain′) where
   abbrev first : List Test
   first = plainTests f u (length plain)
 
@@ -33,7 +33,7 @@ module _ (convert : Family → List ℕ → List ℕ) (f : Family) (u plain plai
       let new : plain′ ≡ convert f u = plain-is ∙ list-new first (none .0) (convert f u) plain in
       record { finishes = done; plainIs = new; law = w ∙ ap (λ v. after v (convert f u) tree) done ∙ sym new }
 
-  pub ways-agree : s ≡ Answer.Finished → (r : Answer) (tree′ work′ : List ℕ) → TreeCall convert f u r tree tree′ work work′
+  pub ways-agree : s ≡ Answer.Finished → (r : Answer) (tree′ work′ : List ℕ) → TreeCall convert f u (answered r) tree tree′ work work′
       → Agreed convert f u r plain plain′ tree tree′ work work′
   ways-agree q r tree′ work′ two =
       let e = stages-end later (stage-passes first later all-remain s (one .answer) q) r (two .answer) in

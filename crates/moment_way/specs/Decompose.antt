@@ -19,7 +19,7 @@ use Rattle.definitions.specs.Number.{sum, table, negative, HasInverse, inverse}
 use Rattle.definitions.specs.Orthogonality.{moments, norm}
 use Rattle.theory.specs.Alone.{decompose-alone}
 use Rattle.theory.specs.Closing.{closedBy}
-use Rattle.theory.specs.Gram.{hankelProduct, gramDecompose, hankelProduct-curve, gram-decompose}
+use Rattle.theory.specs.ByMoments.{hankelProduct, momentsDecompose, hankelProduct-curve, moments-decompose}
 use Rattle.theory.specs.Moments.{moments-length, moments-below}
 use Rattle.theory.specs.NormInverse.{signedInverse, norm-inverse}
 use Rattle.numbers.specs.Lists.{Filling, filled, table-length, table-equal, table-entries}
@@ -34,7 +34,8 @@ use Rattle.lists.specs.Held.{Output, held-below}
 use Rattle.lists.specs.Inverses.{inverts-at}
 use Rattle.lists.specs.Lent.{lent}
 use Rattle.products.specs.Places.{ListInput}
-use Rattle.tree.specs.Core.{Input, alone-output}
+use Rattle.tree.specs.Input.{Input}
+use Rattle.tree.specs.Core.{alone-output}
 use Rattle.moment_way.specs.Input.{DecomposeInput}
 use Rattle.moment_way.specs.Moments.{Front, entryOr, front, front-below}
 use Rattle.moment_way.specs.Polynomials.{closed-size, closed-lengths}
@@ -234,11 +235,11 @@ module _ {m : ℕ} {a b c aInverses cInverses : List ℕ} {close : Row} {closeAI
               (ap (λ t. getD t j 0) adjoint-is ∙ List·getD-append entries (drop n output) 0 j (omega (arith, entries-long))) (norm-is j)
 
           quotients-are : table n quotients ≡ decompose f u
-          unfolding gramDecompose
+          unfolding momentsDecompose
           quotients-are =
               let curve : Curve f u = record { long = decompose-length ∙ sym sized; below = λ i _. u-below i } in
               table-equal n _ _ quotient-is ∙ ap (λ k. table k (λ j. getD entries j 0 * inverse m (norm f j) % m)) (sym sized)
-              ∙ gram-decompose f convertible u curve
+              ∙ moments-decompose f convertible u curve
 
           rest-is : drop n output₁ ≡ drop n output
           rest-is = ap (drop n) adjoint-is ∙ ap (λ k. drop k (entries ++ drop n output)) (sym entries-long)

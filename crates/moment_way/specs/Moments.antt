@@ -24,7 +24,7 @@ use Rattle.lists.specs.Held.{Output}
 use Rattle.lists.specs.Inverses.{inverts-at}
 use Rattle.lists.specs.Lent.{lent}
 use Rattle.series.specs.Division.{reversed, QuotientInput}
-use Rattle.moment_way.specs.Input.{PolynomialsInput, Polynomials, MomentsInput}
+use Rattle.moment_way.specs.Input.{PolynomialsInput, Polynomials, MomentsCoreInput}
 use Rattle.moment_way.specs.Polynomials.{closed-size}
 
 -- ---- the product of the inverses
@@ -85,7 +85,7 @@ reversal-equal zero p q e = refl
 reversal-equal (suc k) p q e = ap₂ _∷_ (e k (omega arith)) (reversal-equal k p q (λ i l. e i (omega arith)))
 
 module _ {m : ℕ} {a b c aInverses : List ℕ} {close : Row} {closeAInverse n : ℕ} {output work : List ℕ}
-    (input : MomentsInput m a b c aInverses close closeAInverse n output work) where
+    (input : MomentsCoreInput m a b c aInverses close closeAInverse n output work) where
   abbrev f : Family
   f = lent m (n - 1) a b c close
 

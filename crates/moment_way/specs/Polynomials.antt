@@ -23,7 +23,7 @@ use Rattle.tree_model.specs.Tree.{withTree, treeExpand}
 use Rattle.lists.specs.Entries.{cleared-length, cleared-twice}
 use Rattle.lists.specs.Held.{Holds, Output}
 use Rattle.lists.specs.Lent.{LentRows, lent}
-use Rattle.tree.specs.Core.{Input}
+use Rattle.tree.specs.Input.{Input}
 use Rattle.moment_way.specs.Input.{ClosedInput, PolynomialsInput, Polynomials}
 
 -- ---- the rows with the closing row

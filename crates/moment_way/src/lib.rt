@@ -16,7 +16,7 @@ ghost use Rattle.tree_model.specs.Tree.{treeExpand};
 ghost use Rattle.lists.specs.Held.{Output};
 ghost use Rattle.lists.specs.Lent.{lent};
 ghost use Rattle.moment_way.specs.Decompose.{DivideInput, divided};
-ghost use Rattle.moment_way.specs.Input.{PolynomialsInput, Polynomials, MomentsInput, DecomposeInput};
+ghost use Rattle.moment_way.specs.Input.{PolynomialsInput, Polynomials, MomentsCoreInput, DecomposeInput};
 ghost use Rattle.moment_way.specs.Moments.{entryOr};
 ghost use Rattle.moment_way.specs.Polynomials.{Extends, LastInput};
 use lists::clear;
@@ -128,7 +128,7 @@ pub fn moments(
     output: &mut [u32],
     work: &mut [u32],
 )
-    requires { ⌜ MomentsInput m (now a) (now b) (now c) (now «a_inverses») (rowOf «close_a» «close_b» «close_c») «close_a_inverse» n
+    requires { ⌜ MomentsCoreInput m (now a) (now b) (now c) (now «a_inverses») (rowOf «close_a» «close_b» «close_c») «close_a_inverse» n
         (now output) (now work) ⌝ }
     ensures { λ _. ⌜ Output
         (moments (lent m (n - 1) (now (a .entry)) (now (b .entry)) (now (c .entry)) (rowOf «close_a» «close_b» «close_c»))) (2 * n - 1)

@@ -13,19 +13,19 @@ use native.Mathlib.Nat.{sub-zero}
 use native.Mathlib.Omega.{arith}
 use lib.ListN.{length, take, drop, take-append-drop}
 use lib.Seq.{length-take-le}
-use Rattle.definitions.specs.Answers.{answered, after, cleared, ConvertedIn, TreeCall, NormsCall, MomentsCall}
+use Rattle.definitions.specs.Answers.{after, cleared, ConvertedIn, TreeCall, NormsCall, MomentsCall}
 use Rattle.definitions.specs.Conversion.{expand, adjoint, decompose}
 use Rattle.definitions.specs.Family.{Family, ones, rows, size}
 use Rattle.definitions.specs.Orthogonality.{momentCount, moments, norms}
-use Rattle.definitions.specs.Refusals.{Test, verdict, some, workLength, curveLengthTest, outputTest, workTest, curveEntriesTest}
-use Rattle.definitions.specs.Refusals.{familyShape, familyRows, treeTests, momentsTests, normsTests}
-use Rattle.definitions.specs.TextCall.{curveCount, converted}
-use Rattle.definitions.specs.declared.Answer.{Answer}
+use Rattle.definitions.specs.Refusals.{Test, Verdict, finished, refused, verdict, some, workLength, curveLengthTest, outputTest, workTest, curveEntriesTest}
+use Rattle.definitions.specs.Refusals.{familyShape, familyRows, valueTests, treeTests, momentsTests, normsTests}
+use Rattle.definitions.specs.TextCall.{curveCount, sizesOf, converted}
 use Rattle.definitions.specs.declared.Operation.{Operation}
-use Rattle.acceptance.specs.Verdicts.{None, verdict-here, verdict-next, verdict-goes-on}
+use Rattle.acceptance.specs.Verdicts.{None, verdict-here, verdict-next}
+use Rattle.acceptance.specs.Stages.{Remaining, all-remain, none-remain}
 use Rattle.acceptance.specs.Verdicts.{curve-length-passes, output-passes, work-passes}
 use Rattle.lists.specs.Lent.{lent, Long}
-use Rattle.verdicts.specs.Sizes.{valueTests, sizesOf, sizes-shape, sizes-fit}
+use Rattle.verdicts.specs.Sizes.{sizes-shape, sizes-fit}
 use Rattle.operations.specs.Results.{resultCount}
 
 pub record Sized (operation : Operation) (f : Family) (u : List ℕ) (output work : ℕ) : Type 0 where
@@ -41,13 +41,13 @@ pub record Parts (operation : Operation) (m : ℕ) (a b c : List ℕ) (r : ℕ) 
   pub outputFront : count ≤ length output
   pub sized : Sized operation (lent m r a b c ones) (take entries u) count work
 
-abbrev pub ConvertedValues : Operation → Family → List ℕ → Answer → List ℕ → List ℕ → List ℕ → List ℕ → Type 0
-ConvertedValues operation f u r output output′ work work′ =
-    ConvertedIn (valueTests f u) (converted operation f u) r output output′ work work′
+abbrev pub ConvertedValues : Operation → Family → List ℕ → Verdict → List ℕ → List ℕ → List ℕ → List ℕ → Type 0
+ConvertedValues operation f u v output output′ work work′ =
+    ConvertedIn (valueTests f u) (converted operation f u) v output output′ work work′
 
-abbrev pub ConvertedFront : Operation → Family → List ℕ → ℕ → Answer → List ℕ → List ℕ → List ℕ → List ℕ → Type 0
-ConvertedFront operation f u count r output output′ work work′ =
-    ConvertedIn (valueTests f u) (converted operation f u ++ drop count output) r output output′ work work′
+abbrev pub ConvertedFront : Operation → Family → List ℕ → ℕ → Verdict → List ℕ → List ℕ → List ℕ → List ℕ → Type 0
+ConvertedFront operation f u count v output output′ work work′ =
+    ConvertedIn (valueTests f u) (converted operation f u ++ drop count output) v output output′ work work′
 
 pub sized-by-tests : (operation : Operation) (f : Family) (u : List ℕ) (text work count : ℕ) → None (sizesOf operation f u text work)
     → count ≡ resultCount operation (rows f) → Sized operation f u count work
@@ -72,11 +72,11 @@ spare-test (s ∷ ts) t values q = split (s .holds) refl (spare-test ts t values
     split false p rest = verdict-next s (ts ++ t ∷ []) values p ∙ rest ∙ sym (verdict-next s ts values p)
 
 module _ (f : Family) (u : List ℕ) (output work : ℕ) (shape : None (familyShape f)) where
-  curve-left : length u ≡ size f → output ≡ size f → workLength ≤ work
-      → verdict (treeTests f u output work) [] ≡ verdict (valueTests f u) []
-  unfolding treeTests valueTests
-  curve-left curve result room = verdict-goes-on _ [] (familyShape f) shape
-      ∙ verdict-goes-on (valueTests f u) [] (curveLengthTest (size f) (length u) ∷ outputTest (size f) output ∷ workTest work ∷ [])
+  curve-left : length u ≡ size f → output ≡ size f → workLength ≤ work → Remaining (treeTests f u output work) (valueTests f u)
+  unfolding treeTests
+  curve-left curve result room =
+      none-remain (curveLengthTest (size f) (length u) ∷ outputTest (size f) output ∷ workTest work ∷ []) (valueTests f u)
+      (none-remain (familyShape f) _ all-remain shape)
       (curve-length-passes (size f) (length u) .1 curve, (output-passes (size f) output .1 result, (work-passes work .1 room, tt)))
 
   -- no curve, so nothing of it to test
@@ -85,28 +85,26 @@ module _ (f : Family) (u : List ℕ) (output work : ℕ) (shape : None (familySh
   no-curve e = none u e
     where
       none : (u : List ℕ) → length u ≡ 0 → verdict (familyRows f) [] ≡ verdict (valueTests f u) []
-      none [] z = sym (spare-test (familyRows f) (curveEntriesTest f []) [] refl)
+      none [] z = sym (spare-test (familyRows f) (curveEntriesTest (f .m) []) [] refl)
       none (x ∷ xs) z = absurd (omega arith)
 
-  moments-left : length u ≡ 0 → output ≡ momentCount f → workLength ≤ work
-      → verdict (momentsTests f output work) [] ≡ verdict (valueTests f u) []
+  moments-left : output ≡ momentCount f → workLength ≤ work → Remaining (momentsTests f output work) (familyRows f)
   unfolding momentsTests
-  moments-left curve result room = verdict-goes-on _ [] (familyShape f) shape
-      ∙ verdict-goes-on (familyRows f) [] (outputTest (momentCount f) output ∷ workTest work ∷ [])
+  moments-left result room =
+      none-remain (outputTest (momentCount f) output ∷ workTest work ∷ []) (familyRows f) (none-remain (familyShape f) _ all-remain shape)
       (output-passes (momentCount f) output .1 result, (work-passes work .1 room, tt))
-      ∙ no-curve curve
 
-  norms-left : length u ≡ 0 → output ≡ size f → verdict (normsTests f output) [] ≡ verdict (valueTests f u) []
+  norms-left : output ≡ size f → Remaining (normsTests f output) (familyRows f)
   unfolding normsTests
-  norms-left curve result = verdict-goes-on _ [] (familyShape f) shape
-      ∙ verdict-goes-on (familyRows f) [] (outputTest (size f) output ∷ []) (output-passes (size f) output .1 result, tt)
-      ∙ no-curve curve
+  norms-left result =
+      none-remain (outputTest (size f) output ∷ []) (familyRows f) (none-remain (familyShape f) _ all-remain shape)
+      (output-passes (size f) output .1 result, tt)
 
 -- ---- each operation
 module _ (operation : Operation) (f : Family) (u output work : List ℕ) (sized : Sized operation f u (length output) (length work))
-    (r : Answer) (output′ work′ : List ℕ) where
+    (v : Verdict) (output′ work′ : List ℕ) where
   abbrev Promise : Type 0
-  Promise = ConvertedValues operation f u r output output′ work work′
+  Promise = ConvertedValues operation f u v output output′ work work′
 
   module _ (o : Operation) (e : operation ≡ o) where
     takes : length u ≡ curveCount o (rows f)
@@ -116,54 +114,56 @@ module _ (operation : Operation) (f : Family) (u output work : List ℕ) (sized 
     hands = sized .result ∙ ap (λ p. resultCount p (rows f)) e
 
     -- the promise from what a call did and from its verdict
-    by-call : (result : List ℕ) → converted o f u ≡ result → answered r ≡ verdict (valueTests f u) []
-        → output′ ≡ after (answered r) result output → work′ ≡ after (answered r) (cleared work) work → Promise
+    by-call : (result : List ℕ) → converted o f u ≡ result → v ≡ verdict (valueTests f u) []
+        → output′ ≡ after v result output → work′ ≡ after v (cleared work) work → Promise
     by-call result is answer written wiped = record {
       answer = answer;
-      written = written ∙ ap (λ list. after (answered r) list output) (sym (ap (λ p. converted p f u) e ∙ is));
+      written = written ∙ ap (λ list. after v list output) (sym (ap (λ p. converted p f u) e ∙ is));
       wiped = wiped;
     }
 
-  module _ (result : List ℕ) (done : ConvertedIn (treeTests f u (length output) (length work)) result r output output′ work work′) where
+  module _ (result : List ℕ) (done : ConvertedIn (treeTests f u (length output) (length work)) result v output output′ work work′) where
     by-tree-call : (o : Operation) → operation ≡ o → curveCount o (rows f) ≡ size f → resultCount o (rows f) ≡ size f
         → converted o f u ≡ result → Promise
     by-tree-call o e all n is =
         let left = curve-left f u (length output) (length work) (sized .shape) (takes o e ∙ all) (hands o e ∙ n) (sized .room) in
-        by-call o e result is (done .answer ∙ left) (done .written) (done .wiped)
+        by-call o e result is (done .answer ∙ sym (left .same [])) (done .written) (done .wiped)
 
-  pub expand-promised : operation ≡ Operation.Expand → TreeCall expand f u r output output′ work work′ → Promise
+  pub expand-promised : operation ≡ Operation.Expand → TreeCall expand f u v output output′ work work′ → Promise
   unfolding curveCount resultCount converted
   expand-promised e done = by-tree-call _ done Operation.Expand e refl refl refl
 
-  pub adjoint-promised : operation ≡ Operation.Adjoint → TreeCall adjoint f u r output output′ work work′ → Promise
+  pub adjoint-promised : operation ≡ Operation.Adjoint → TreeCall adjoint f u v output output′ work work′ → Promise
   unfolding curveCount resultCount converted
   adjoint-promised e done = by-tree-call _ done Operation.Adjoint e refl refl refl
 
-  pub decompose-promised : operation ≡ Operation.Decompose → TreeCall decompose f u r output output′ work work′ → Promise
+  pub decompose-promised : operation ≡ Operation.Decompose → TreeCall decompose f u v output output′ work work′ → Promise
   unfolding curveCount resultCount converted
   decompose-promised e done = by-tree-call _ done Operation.Decompose e refl refl refl
 
-  pub moments-promised : operation ≡ Operation.Moments → MomentsCall f r output output′ work work′ → Promise
+  pub moments-promised : operation ≡ Operation.Moments → MomentsCall f v output output′ work work′ → Promise
   unfolding curveCount resultCount converted
   moments-promised e done =
-      let left = moments-left f u (length output) (length work) (sized .shape) (takes _ e) (hands _ e) (sized .room) in
-      by-call Operation.Moments e (moments f) refl (done .answer ∙ left) (done .written) (done .wiped)
+      let left = moments-left f u (length output) (length work) (sized .shape) (hands _ e) (sized .room) in
+      let none = no-curve f u (length output) (length work) (sized .shape) (takes _ e) in
+      by-call Operation.Moments e (moments f) refl (done .answer ∙ sym (left .same []) ∙ none) (done .written) (done .wiped)
 
   -- the working list is cleared by itself
-  pub norms-promised : operation ≡ Operation.Norms → NormsCall f r output output′ → work′ ≡ after (answered r) (cleared work) work
+  pub norms-promised : operation ≡ Operation.Norms → NormsCall f v output output′ → work′ ≡ after v (cleared work) work
       → Promise
   unfolding curveCount resultCount converted
   norms-promised e done wiped =
-      let left = norms-left f u (length output) (length work) (sized .shape) (takes _ e) (hands _ e) in
-      by-call Operation.Norms e (norms f) refl (done .answer ∙ left) (done .written) wiped
+      let left = norms-left f u (length output) (length work) (sized .shape) (hands _ e) in
+      let none = no-curve f u (length output) (length work) (sized .shape) (takes _ e) in
+      by-call Operation.Norms e (norms f) refl (done .answer ∙ sym (left .same []) ∙ none) (done .written) wiped
 
 -- ---- the fronts of longer lists: a part is lent from place 0 to its end
-front-promised : (ts : List Test) (result : List ℕ) (r : Answer) (count : ℕ) (output front work work′ : List ℕ)
-    → ConvertedIn ts result r (take count output) front work work′
-    → ConvertedIn ts (result ++ drop count output) r output (front ++ drop count output) work work′
-front-promised ts result Answer.Finished count output front work work′ p =
+front-promised : (ts : List Test) (result : List ℕ) (v : Verdict) (count : ℕ) (output front work work′ : List ℕ)
+    → ConvertedIn ts result v (take count output) front work work′
+    → ConvertedIn ts (result ++ drop count output) v output (front ++ drop count output) work work′
+front-promised ts result (finished values) count output front work work′ p =
     record { answer = p .answer; written = ap (λ list. list ++ drop count output) (p .written); wiped = p .wiped }
-front-promised ts result (Answer.Refused k) count output front work work′ p =
+front-promised ts result (refused k) count output front work work′ p =
     record { answer = p .answer; written = ap (λ list. list ++ drop count output) (p .written) ∙ take-append-drop count output; wiped = p .wiped }
 
 module _ (operation : Operation) (m : ℕ) (a b c : List ℕ) (r : ℕ) (u : List ℕ) (entries : ℕ) (output : List ℕ) (count : ℕ) where
@@ -177,8 +177,8 @@ module _ (operation : Operation) (m : ℕ) (a b c : List ℕ) (r : ℕ) (u : Lis
       → Sized operation parts (take (entries - 0) u) (length (take (count - 0) output)) work
   parts-sized work p = rw (sub-zero r, sub-zero entries, sub-zero count, length-take-le count output (p .outputFront)) (p .sized)
 
-  pub parts-promised : (answer : Answer) (front work work′ : List ℕ)
-      → ConvertedValues operation parts (take (entries - 0) u) answer (take (count - 0) output) front work work′
-      → ConvertedFront operation fronts (take entries u) count answer output (front ++ drop (count - 0) output) work work′
-  parts-promised answer front work work′ p =
-      rw (sub-zero count) (front-promised _ _ answer count output front work work′ (rw (sub-zero r, sub-zero entries, sub-zero count) at p))
+  pub parts-promised : (v : Verdict) (front work work′ : List ℕ)
+      → ConvertedValues operation parts (take (entries - 0) u) v (take (count - 0) output) front work work′
+      → ConvertedFront operation fronts (take entries u) count v output (front ++ drop (count - 0) output) work work′
+  parts-promised v front work work′ p =
+      rw (sub-zero count) (front-promised _ _ v count output front work work′ (rw (sub-zero r, sub-zero entries, sub-zero count) at p))

@@ -3,6 +3,7 @@
 ghost use mathlib.Core.Path.{_≡_};
 ghost use Prim.Native.Nat.{_≤_};
 ghost use lib.ListN.{length, take};
+ghost use Rattle.definitions.specs.Answers.{answered};
 ghost use Rattle.definitions.specs.Family.{family, ones};
 ghost use Rattle.lists.specs.Lent.{lent};
 ghost use Rattle.operations.specs.Results.{resultCount};
@@ -37,7 +38,7 @@ fn convert_lists(
     work: &mut [u32],
 ) -> Answer
     requires { ⌜ Sized operation (family m (now a) (now b) (now c)) (now curve) (length (now output)) (length (now work)) ⌝ }
-    ensures { λ r. ⌜ ConvertedValues operation (family m (now (a .entry)) (now (b .entry)) (now (c .entry))) (now (curve .entry)) r
+    ensures { λ r. ⌜ ConvertedValues operation (family m (now (a .entry)) (now (b .entry)) (now (c .entry))) (now (curve .entry)) (answered r)
         (now (output .entry)) (now (output .exit)) (now (work .entry)) (now (work .exit)) ⌝ }
 {
     match operation {
@@ -72,7 +73,7 @@ pub fn convert_parts(
 ) -> Answer
     requires { ⌜ Parts operation m (now a) (now b) (now c) rows (now curve) entries (now output) count (length (now work)) ⌝ }
     ensures { λ r. ⌜ ConvertedFront operation (lent m rows (now (a .entry)) (now (b .entry)) (now (c .entry)) ones)
-        (take entries (now (curve .entry))) count r
+        (take entries (now (curve .entry))) count (answered r)
         (now (output .entry)) (now (output .exit)) (now (work .entry)) (now (work .exit)) ⌝ }
 {
     convert_lists(

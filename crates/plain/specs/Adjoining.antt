@@ -26,7 +26,7 @@ use Rattle.plain_model.specs.PlainModels.{State, zeros, zeros-entry, adjointEnt
 use Rattle.plain_model.specs.PlainSteps.{Agree, adjointEntry-agree}
 use Rattle.row_steps.specs.Row.{RowInput, Stepped}
 use Rattle.plain.specs.Input.{ConvertInput}
-use Rattle.plain.specs.Shaped.{Shaped, RowsBelow, input-shaped, input-below}
+use Rattle.plain.specs.Fitting.{Fitting, RowsBelow, input-fitting, input-below}
 
 filled-residues : (m count : ℕ) (g : ℕ → ℕ) (old : List ℕ) → ((t : ℕ) → t < count → g t < m) → Below m old
     → Below m (filled g count old)
@@ -58,22 +58,22 @@ module _ (f : Family) (u : List ℕ) (n : ℕ) where
     pub currentBelow : Below (f .m) current
     pub olderBelow : Below (f .m) older
     pub currentIs : Agree (n - j) current (state j .current)
-    pub olderIs : Agree (n - j) older (state j .previous)
+    pub olderIs : Agree (n - j) older (state j .older)
     pub written : Filling answer j output₀ output
 
-  module _ (shaped : Shaped f u n) where
+  module _ (fitting : Fitting f u n) where
     pub adjoining-starts : (g : ℕ → ℕ) → ((t : ℕ) → t < n → g t ≡ getD u t 0) → (output current older : List ℕ)
         → current ≡ filled g n (zeros 128) → older ≡ zeros 128 → Adjoining output current older output 0
     unfolding adjointState
     adjoining-starts g same output current older p q =
-        let sized : size f ≡ n = shaped .sized in
-        let zeros-below : Below (f .m) (zeros 128) = λ t. rw (zeros-entry 128 t) (shaped .positive) in
+        let sized : size f ≡ n = fitting .sized in
+        let zeros-below : Below (f .m) (zeros 128) = λ t. rw (zeros-entry 128 t) (fitting .positive) in
         record {
           reached = omega arith;
-          currentLong = ap length p ∙ filled-length g (zeros 128) n (shaped .fits);
+          currentLong = ap length p ∙ filled-length g (zeros 128) n (fitting .fits);
           olderLong = ap length q;
           currentBelow = rw p
-              (filled-residues (f .m) n g (zeros 128) (λ t h. rw (same t h) (shaped .curve .below t (omega arith))) zeros-below);
+              (filled-residues (f .m) n g (zeros 128) (λ t h. rw (same t h) (fitting .curve .below t (omega arith))) zeros-below);
           olderBelow = rw q zeros-below;
           currentIs = λ t h. ap (λ s. getD s t 0) p ∙ filled-below g (zeros 128) n t 0 (omega arith) ∙ same t (omega arith);
           olderIs = λ t h. ap (λ s. getD s t 0) q ∙ zeros-entry 128 t ∙ sym (zeros-entry (size f) t);
@@ -84,10 +84,10 @@ module _ (f : Family) (u : List ℕ) (n : ℕ) where
       pub adjoining-input : RowsBelow f
           → RowInput (f .m) 0 (rowAt f j .a) (rowAt f j .b) (rowAt f j .c) current older (n - 1 - j) × (n - 1 - j < length current)
       adjoining-input below =
-          let fits : n ≤ 128 = shaped .fits in (
+          let fits : n ≤ 128 = fitting .fits in (
             record {
-              most = shaped .greatest;
-              xBelow = shaped .positive;
+              most = fitting .greatest;
+              xBelow = fitting .positive;
               aBelow = below j .aBelow;
               bBelow = below j .bBelow;
               cBelow = below j .cBelow;
@@ -103,14 +103,14 @@ module _ (f : Family) (u : List ℕ) (n : ℕ) where
       current-next : Agree (n - (j + 1)) (filled (next current older j) (n - 1 - j) current) (state (suc j) .current)
       unfolding adjointState adjointStep
       current-next t g =
-          let sized : size f ≡ n = shaped .sized in
+          let sized : size f ≡ n = fitting .sized in
           filled-below _ current (n - 1 - j) t 0 (omega arith)
-          ∙ adjointEntry-agree (n - 1 - j) current (state j .current) older (state j .previous)
+          ∙ adjointEntry-agree (n - 1 - j) current (state j .current) older (state j .older)
           (f .m) (rowAt f j .a) (rowAt f j .b) (rowAt f j .c)
           (λ s k. h .currentIs s (omega arith)) (λ s k. h .olderIs s (omega arith)) t (omega arith)
           ∙ sym (table-entry (size f) _ t 0 (omega arith))
 
-      older-next : Agree (n - (j + 1)) (filled (λ t. getD current t 0) (n - 1 - j) older) (state (suc j) .previous)
+      older-next : Agree (n - (j + 1)) (filled (λ t. getD current t 0) (n - 1 - j) older) (state (suc j) .older)
       unfolding adjointState adjointStep
       older-next t g = filled-below (λ t. getD current t 0) older (n - 1 - j) t 0 (omega arith) ∙ h .currentIs t (omega arith)
 
@@ -118,9 +118,9 @@ module _ (f : Family) (u : List ℕ) (n : ℕ) where
           → Stepped (next current older j) (n - 1 - j) current current′ older older′
           → Adjoining output₀ current′ older′ (set output j (getD current 0 0)) (j + 1)
       adjoining-next room e =
-          let fits : n ≤ 128 = shaped .fits in
+          let fits : n ≤ 128 = fitting .fits in
           let entry-below : (t : ℕ) → t < n - 1 - j → next current older j t < f .m =
-          λ t _. adjointEntry-below (f .m) _ _ _ current older t (shaped .positive) in
+          λ t _. adjointEntry-below (f .m) _ _ _ current older t (fitting .positive) in
           record {
             reached = omega arith;
             currentLong = ap length (e .currentIs) ∙ filled-length _ current (n - 1 - j) (omega arith) ∙ h .currentLong;
@@ -131,7 +131,7 @@ module _ (f : Family) (u : List ℕ) (n : ℕ) where
             currentIs = λ t g. ap (λ s. getD s t 0) (e .currentIs) ∙ current-next t g
                 ∙ ap (λ k. getD (state k .current) t 0) (sym (add-one j));
             olderIs = λ t g. ap (λ s. getD s t 0) (e .olderIs) ∙ older-next t g
-                ∙ ap (λ k. getD (state k .previous) t 0) (sym (add-one j));
+                ∙ ap (λ k. getD (state k .older) t 0) (sym (add-one j));
             written = filling-next (h .written) (omega arith) (h .currentIs 0 (omega arith));
           }
 
@@ -140,7 +140,7 @@ module _ (f : Family) (u : List ℕ) (n : ℕ) where
     unfolding filled plainAdjoint
     adjoining-ends {output₀} l h = filling-stop (h .written) n (omega (arith, h .reached))
         ∙ ap (λ s. s ++ drop n output₀)
-        (ap (λ k. table k answer) (sym (shaped .sized)) ∙ plainAdjoint-adjoint f (shaped .positive) u (shaped .curve))
+        (ap (λ k. table k answer) (sym (fitting .sized)) ∙ plainAdjoint-adjoint f (fitting .positive) u (fitting .curve))
 
 -- ---- over the lists that are lent
 module _ {m n : ℕ} {a b c curve output₀ : List ℕ} (input : ConvertInput m a b c curve n output₀) where
@@ -150,26 +150,26 @@ module _ {m n : ℕ} {a b c curve output₀ : List ℕ} (input : ConvertInput m 
   abbrev u : List ℕ
   u = take n curve
 
-  shaped : Shaped f u n
-  shaped = input-shaped input a (input .rows .aHolds .long)
+  fitting : Fitting f u n
+  fitting = input-fitting input a (input .rows .aHolds .long)
 
   pub adjoint-starts : {none current older : List ℕ} → none ≡ zeros 128 → older ≡ zeros 128 → current ≡ filled (λ t. getD curve t 0) n none
       → Adjoining f u n output₀ current older output₀ 0
   adjoint-starts {none} {current} {older} z q p =
-      adjoining-starts f u n shaped (λ t. getD curve t 0) (λ t h. sym (getD-take n curve t 0 h)) output₀ current older
+      adjoining-starts f u n fitting (λ t. getD curve t 0) (λ t h. sym (getD-take n curve t 0 h)) output₀ current older
       (p ∙ ap (filled (λ t. getD curve t 0) n) z) q
 
   module _ {current older output : List ℕ} {j p q r : ℕ} (l : j < n) (h : Adjoining f u n output₀ current older output j)
       (ep : p ≡ getD (take (n - 1) a) j 1) (eq : q ≡ getD (take (n - 1) b) j 1) (er : r ≡ getD (take (n - 1) c) j 1) where
     pub adjoint-step-input : RowInput m 0 p q r current older (n - 1 - j) × (n - 1 - j < length current)
     unfolding rowAt
-    adjoint-step-input = rw (ep, eq, er) (adjoining-input f u n shaped l h (input-below input))
+    adjoint-step-input = rw (ep, eq, er) (adjoining-input f u n fitting l h (input-below input))
 
     pub adjoint-step : {current′ older′ : List ℕ} → Stepped (adjointEntry m p q r current older) (n - 1 - j) current current′ older older′
         → Adjoining f u n output₀ current′ older′ (set output j (getD current 0 0)) (j + 1)
     unfolding rowAt
-    adjoint-step e = adjoining-next f u n shaped l h (input .outputLong) (rw (ep, eq, er) at e)
+    adjoint-step e = adjoining-next f u n fitting l h (input .outputLong) (rw (ep, eq, er) at e)
 
   pub adjoint-ends : {current older output : List ℕ} {j : ℕ} → n ≤ j → Adjoining f u n output₀ current older output j
       → output ≡ adjoint f u ++ drop n output₀
-  adjoint-ends l h = adjoining-ends f u n shaped l h
+  adjoint-ends l h = adjoining-ends f u n fitting l h

@@ -31,7 +31,7 @@ use Rattle.plain_model.specs.PlainModels.{zeros, zeros-entry, decomposeStep, de
 use Rattle.row_steps.specs.DecomposeRow.{DecomposeRowInput}
 use Rattle.plain.specs.Input.{ConvertInput}
 use Rattle.plain.specs.Matching.{Match, curve-below, filled-matches, table-matches}
-use Rattle.plain.specs.Shaped.{Shaped, input-shaped}
+use Rattle.plain.specs.Fitting.{Fitting, input-fitting}
 
 unfoldable pub negativeProduct : ℕ → List ℕ → List ℕ → ℕ → ℕ
 negativeProduct m xs ys i = negative m (getD xs i 0) * getD ys i 0 % m
@@ -140,7 +140,7 @@ module _ {m n : ℕ} {v b c p output : List ℕ} (input : ConvertInput m v b c p
       step-is : (a : List ℕ) → n - 1 ≤ length a
           → Match (filled (basisEntry m (getD p k 0) rise stay fall current) (i + 1) current) (decomposeState (of a) d u (suc i))
       step-is a r =
-          let sized : size (of a) ≡ n = input-shaped input a r .sized in
+          let sized : size (of a) ≡ n = input-fitting input a r .sized in
           let at : rows (of a) - i ≡ k = omega arith in
           step-matches (of a) pos d u rise stay fall (basis a) (getD p k 0) i current (omega arith)
           (rw at (sym (getD-take n p k 0 (omega arith)))) (h .is a r)
@@ -153,7 +153,7 @@ module _ {m n : ℕ} {v b c p output : List ℕ} (input : ConvertInput m v b c p
         is = λ a r t. ap (λ s. getD s t 0) e ∙ step-is a r t ∙ ap (λ j. getD (decomposeState (of a) d u j) t 0) (sym (add-one i));
       }
 
-  inverts : (a : List ℕ) → Inverts m 0 (n - 1) a v 1 1 → PlainDecompose.Inverts (of a) d
+  inverts : (a : List ℕ) → Inverts m 0 (n - 1) a v 1 1 → PlainDecompose.InvertsA (of a) d
   unfolding rowAt
   inverts a h = record {
     modulus = input .rows .modulus .least;
@@ -167,7 +167,7 @@ module _ {m n : ℕ} {v b c p output : List ℕ} (input : ConvertInput m v b c p
       → (a : List ℕ) → Inverts m 0 (n - 1) a v 1 1 → output′ ≡ decompose (of a) u ++ drop n output
   unfolding filled plainDecompose
   decompose-ends {current} {output′} {i} l h e a inverses =
-      let whole : Shaped (of a) u n = input-shaped input a (inverts-long inverses) in
+      let whole : Fitting (of a) u n = input-fitting input a (inverts-long inverses) in
       let sized : size (of a) ≡ n = whole .sized in
       let done : i ≡ size (of a) = omega (arith, h .reached) in
       let long : length (plainDecompose (of a) d u) ≡ n = decomposeState-curve (of a) pos d u (size (of a)) .long ∙ sized in

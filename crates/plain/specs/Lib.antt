@@ -1,6 +1,6 @@
 -- What the contracts of the plain ways cite, and the laws of their loops. Assumes nothing.
 pub mod Input
-pub mod Shaped
+pub mod Fitting
 pub mod Matching
 pub mod Expanding
 pub mod Adjoining

@@ -20,7 +20,7 @@ use Rattle.numbers.specs.Inverse.{inverse-unique}
 use Rattle.numbers.specs.Lists.{Filling, table-equal, filled, filling-start, filling-next, filling-stop}
 use Rattle.lists.specs.Inverses.{Inverts, inverts-long, inverts-at}
 use Rattle.lists.specs.Lent.{lent}
-use Rattle.plain.specs.Input.{NormsInput}
+use Rattle.plain.specs.Input.{NormsCoreInput}
 
 unfoldable pub signedTo : ℕ → List ℕ → ℕ → ℕ → ℕ
 signedTo m c close zero = 1
@@ -69,7 +69,7 @@ module _ {m n : ℕ} {v c output₀ : List ℕ} {y close : ℕ} where
   unfolding signedTo
   norming-starts = record { reached = omega arith; signedIs = refl; written = filling-start }
 
-  module _ (input : NormsInput m v c n output₀) where
+  module _ (input : NormsCoreInput m v c n output₀) where
     pub norming-next : {output : List ℕ} {signed i p q r s t : ℕ} → i < n → Norming m n v c y close output₀ output signed i
         → p ≡ getD (take (n - 1) v) i y → q ≡ signed * p % m
         → r ≡ getD (take (n - 1) c) (i + 1) close → s ≡ negative m r → t ≡ signed * s % m

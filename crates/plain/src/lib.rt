@@ -12,7 +12,7 @@ ghost use Rattle.lists.specs.Inverses.{Inverts};
 ghost use Rattle.lists.specs.Lent.{lent};
 ghost use Rattle.numbers.specs.Lists.{filled};
 ghost use Rattle.plain.specs.Decomposing.{negativeProduct};
-ghost use Rattle.plain.specs.Input.{ConvertInput, NormsInput};
+ghost use Rattle.plain.specs.Input.{ConvertInput, NormsCoreInput};
 use lists::copy;
 use lists::row_entry;
 use lists::zeros;
@@ -135,7 +135,7 @@ pub fn norms(
     n: usize,
     output: &mut [u32],
 )
-    requires { ⌜ NormsInput m (now «a_inverses») (now c) n (now output) ⌝ }
+    requires { ⌜ NormsCoreInput m (now «a_inverses») (now c) n (now output) ⌝ }
     ensures { λ _. ⌜ ((a b : List ℕ) (closeA closeB : ℕ) → Inverts m 0 (n - 1) a (now («a_inverses» .entry)) closeA «close_a_inverse»
         → now (output .exit)
         ≡ norms (lent m (n - 1) a b (now (c .entry)) (rowOf closeA closeB «close_c»)) ++ drop n (now (output .entry))) ⌝ }

@@ -12,14 +12,14 @@ use Rattle.acceptance.specs.Acceptance.{PlainInput, NormsInput, plain-finished,
 use Rattle.acceptance.specs.Stages.{list-stays}
 
 module _ (tests : List Test) (r : Answer) (is : answered r ≡ verdict tests []) where
-  pub tests-refuse : {result output : List ℕ} (k : ℕ) → r ≡ Answer.Refused k → Converted tests result r output output
+  pub tests-refuse : {result output : List ℕ} (k : ℕ) → r ≡ Answer.Refused k → Converted tests result (answered r) output output
   tests-refuse {result} {output} k q = record { answer = is; written = list-stays r k result output q }
 
   pub tests-passed : r ≡ Answer.Finished → finished [] ≡ verdict tests []
   tests-passed q = sym (ap answered q) ∙ is
 
   pub tests-finish : {result output output′ : List ℕ} → r ≡ Answer.Finished → output′ ≡ result
-      → Converted tests result Answer.Finished output output′
+      → Converted tests result (answered Answer.Finished) output output′
   tests-finish q e = record { answer = tests-passed q; written = e }
 
 module _ {f : Family} where

@@ -2,7 +2,7 @@
 // paper's number and touches nothing: none has a 'requires', and each has one 'ensures' that settles answer and output on every input.
 ghost use mathlib.Core.Path.{_≡_};
 ghost use mathlib.Core.List.{[], _∷_};
-ghost use Rattle.definitions.specs.Answers.{valued, PlainCall, NormsCall};
+ghost use Rattle.definitions.specs.Answers.{answered, valued, PlainCall, NormsCall};
 ghost use Rattle.definitions.specs.Conversion.{expand, adjoint, decompose};
 ghost use Rattle.definitions.specs.Family.{family};
 ghost use Rattle.definitions.specs.Number.{inverse};
@@ -29,7 +29,7 @@ pub fn plain_expand(
     curve: &[u32],
     output: &mut [u32],
 ) -> Answer
-    ensures { λ r. ⌜ PlainCall expand (family m (now (a .entry)) (now (b .entry)) (now (c .entry))) (now (curve .entry)) r
+    ensures { λ r. ⌜ PlainCall expand (family m (now (a .entry)) (now (b .entry)) (now (c .entry))) (now (curve .entry)) (answered r)
         (now (output .entry)) (now (output .exit)) ⌝ }
 {
     let tested = verdicts::plain(m, a, b, c, curve, output.len());
@@ -50,7 +50,7 @@ pub fn plain_adjoint(
     curve: &[u32],
     output: &mut [u32],
 ) -> Answer
-    ensures { λ r. ⌜ PlainCall adjoint (family m (now (a .entry)) (now (b .entry)) (now (c .entry))) (now (curve .entry)) r
+    ensures { λ r. ⌜ PlainCall adjoint (family m (now (a .entry)) (now (b .entry)) (now (c .entry))) (now (curve .entry)) (answered r)
         (now (output .entry)) (now (output .exit)) ⌝ }
 {
     let tested = verdicts::plain(m, a, b, c, curve, output.len());
@@ -71,7 +71,7 @@ pub fn plain_decompose(
     coefficients: &[u32],
     output: &mut [u32],
 ) -> Answer
-    ensures { λ r. ⌜ PlainCall decompose (family m (now (a .entry)) (now (b .entry)) (now (c .entry))) (now (coefficients .entry)) r
+    ensures { λ r. ⌜ PlainCall decompose (family m (now (a .entry)) (now (b .entry)) (now (c .entry))) (now (coefficients .entry)) (answered r)
         (now (output .entry)) (now (output .exit)) ⌝ }
 {
     let tested = verdicts::plain(m, a, b, c, coefficients, output.len());
@@ -87,7 +87,7 @@ pub fn plain_decompose(
 // Norms: d_i = (-1)^i c_2 .. c_{i+1} / a_{i+1} for i from 0 to n - 1, with the closing row 1 1 1 as row n.
 // Refused with 3, 4, 5 and 7 (the station's program), and with 9 to 11 (the maker of the element).
 pub fn norms(m: u32, a: &[u32], b: &[u32], c: &[u32], output: &mut [u32]) -> Answer
-    ensures { λ r. ⌜ NormsCall (family m (now (a .entry)) (now (b .entry)) (now (c .entry))) r
+    ensures { λ r. ⌜ NormsCall (family m (now (a .entry)) (now (b .entry)) (now (c .entry))) (answered r)
         (now (output .entry)) (now (output .exit)) ⌝ }
 {
     let tested = verdicts::norms(m, a, b, c, output.len());

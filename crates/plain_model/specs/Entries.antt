@@ -31,7 +31,7 @@ module _ (m : ℕ) (pos : 0 < m) where
 
   pub record Holding (s : State) (now before : ℕ → Car) : Type 0 where
     pub currentHolds : (t : ℕ) → entries m pos (s .current) t ≡ now t
-    pub previousHolds : (t : ℕ) → entries m pos (s .previous) t ≡ before t
+    pub olderHolds : (t : ℕ) → entries m pos (s .older) t ≡ before t
 
 pub entry-zero : (f : Family) (pos : 0 < f .m) (u : List ℕ) → Curve f u → (i : ℕ)
     → entries (f .m) pos u i ≡ Zmod (f .m) pos .zero → getD u i 0 ≡ 0

@@ -46,17 +46,17 @@ module _ (f : Family) (pos : 0 < f .m) (u : List ℕ) (cu : Curve f u) where
   unfolding adjointStep adjointEntry
   adjointStep-pairing j s e = record {
     currentHolds = entries-table m pos (size f) _ (W (suc (suc j)))
-        (λ t h. simp (res-mod m pos, res-add m pos, res-mul m pos, e .currentHolds, e .previousHolds)
+        (λ t h. simp (res-mod m pos, res-add m pos, res-mul m pos, e .currentHolds, e .olderHolds)
         (sym (pairing-follows Q (size f) (E u) ends ρ j t)))
         (pairing-past Q (size f) (E u) ends (term Q ρ (suc (suc j))));
-    previousHolds = e .currentHolds;
+    olderHolds = e .currentHolds;
   }
 
   adjointState-pairing : (j : ℕ) → Holds (adjointState f u j) j
   unfolding adjointState
   adjointState-pairing zero = record {
     currentHolds = λ t. sym (pairing-one Q (size f) (E u) ends ρ t);
-    previousHolds = λ t. entries-zeros m pos (size f) t ∙ sym (pairing-none Q (size f) (E u) ρ t);
+    olderHolds = λ t. entries-zeros m pos (size f) t ∙ sym (pairing-none Q (size f) (E u) ρ t);
   }
   adjointState-pairing (suc j) = adjointStep-pairing j (adjointState f u j) (adjointState-pairing j)
 

@@ -1,5 +1,5 @@
 -- Horner's rule in the basis F is Decompose.
---   Inverts f d   2 ≤ m, and d holds inverses of the a of rows 1 to r
+--   InvertsA f d   2 ≤ m, and d holds inverses of the a of rows 1 to r
 -- Proves that the plain model after i steps is the curve of the i top powers of p, each lowered by n - i, so that its answer is the
 -- one curve that Expand takes to p. Nothing is asked of the c. The scope paper, 'The definitions': decomposing works down from the
 -- top power. Assumes nothing.
@@ -29,11 +29,11 @@ use Rattle.plain_model.specs.Horner.{timesVariable, timesVariable-ends, 
 use Rattle.plain_model.specs.PlainModels.{constant, divide, decomposeEntry, decomposeStep}
 use Rattle.plain_model.specs.PlainModels.{decomposeState, plainDecompose, decomposeState-curve}
 
-pub record Inverts (f : Family) (d : List ℕ) : Type 0 where
+pub record InvertsA (f : Family) (d : List ℕ) : Type 0 where
   pub modulus : 2 ≤ f .m
   pub inverts : (i : ℕ) → i < rows f → rowAt f i .a *ℕ getD d i 0 % f .m ≡ 1
 
-pub inverts-decomposable : (f : Family) (d : List ℕ) → Inverts f d → Decomposable f
+pub inverts-decomposable : (f : Family) (d : List ℕ) → InvertsA f d → Decomposable f
 unfolding HasInverse
 inverts-decomposable f d v = record { modulus = v .modulus; aInverse = λ i h. (getD d i 0, v .inverts i h) }
 
@@ -97,7 +97,7 @@ module _ (f : Family) (pos : 0 < f .m) (d : List ℕ) where
     decomposeStep-ends j h = decomposeStep-entries j ∙ next-ends j h
 
     -- a_{j+1} times what was divided by it; the last place is still empty
-    module _ (inverts : Inverts f d) where
+    module _ (inverts : InvertsA f d) where
       restored-entry : (j : ℕ) → j < rows f → ρ .a j ⊗ E q j ≡ E w j
       restored-entry j h =
           let inverse-at = residue-product-one m pos (rowAt f j .a) (getD d j 0) (inverts .inverts j h) in
@@ -133,7 +133,7 @@ module _ (f : Family) (pos : 0 < f .m) (d : List ℕ) where
     powers-next k (suc t) = ap (λ x. x ⊕ E p (suc k +ℕ t)) (Ring.mul-zero Q (E p k)) ∙ Ring.zero-add Q (E p (suc k +ℕ t))
         ∙ ap (E p) (omega arith)
 
-    module _ (inverts : Inverts f d) (short : length p ≤ size f) where
+    module _ (inverts : InvertsA f d) (short : length p ≤ size f) where
       state-powers : (i k : ℕ) → k +ℕ i ≡ size f → (t : ℕ) → combination Q ρ (size f) (E (decomposeState f d p i)) t ≡ E p (k +ℕ t)
       unfolding decomposeState
       state-powers zero k e t = sum-vanish Q (size f)
@@ -150,7 +150,7 @@ module _ (f : Family) (pos : 0 < f .m) (d : List ℕ) where
           (expand-curve f pos (plainDecompose f d p)) cp pos
           (λ i h. entries-expand f pos (plainDecompose f d p) i h ∙ state-powers (size f) 0 (zero-add (size f)) i ∙ ap (E p) (zero-add i))
 
-pub plainDecompose-decompose : (f : Family) (d p : List ℕ) → Inverts f d → Curve f p → plainDecompose f d p ≡ decompose f p
+pub plainDecompose-decompose : (f : Family) (d p : List ℕ) → InvertsA f d → Curve f p → plainDecompose f d p ≡ decompose f p
 unfolding plainDecompose
 plainDecompose-decompose f d p v cp =
     let two : 2 ≤ f .m = v .modulus in

@@ -107,14 +107,14 @@ module _ (f : Family) (pos : 0 < f .m) where
   abbrev E : List ℕ → ℕ → Q .Car
   E = entries m pos
 
-  entry-series : (y a b c : ℕ) (current previous : List ℕ) (s t : Series) → ((i : ℕ) → E current i ≡ co Q s i)
-      → ((i : ℕ) → E previous i ≡ co Q t i)
-      → (i : ℕ) → ι (expandEntry m y a b c current previous i)
+  entry-series : (y a b c : ℕ) (current older : List ℕ) (s t : Series) → ((i : ℕ) → E current i ≡ co Q s i)
+      → ((i : ℕ) → E older i ≡ co Q t i)
+      → (i : ℕ) → ι (expandEntry m y a b c current older i)
       ≡ co Q (C Q (ι y) + C Q (ι a) * (X Q * s) + C Q (ι b) * s + C Q (ι c) * t) i
   unfolding expandEntry constant timesX
-  entry-series y a b c current previous s t p q zero =
+  entry-series y a b c current older s t p q zero =
       simp (res-mod m pos, res-add m pos, res-mul m pos, res-zero m pos, p, q, coefficients)
-  entry-series y a b c current previous s t p q (suc i) =
+  entry-series y a b c current older s t p q (suc i) =
       simp (res-mod m pos, res-add m pos, res-mul m pos, res-zero m pos, p, q, coefficients)
 
   module _ (u : List ℕ) where
@@ -132,17 +132,17 @@ module _ (f : Family) (pos : 0 < f .m) where
     unfolding expandStep
     expandStep-partial i k s h e = record {
       currentHolds = entries-table m pos (size f) _ (co Q (B k (suc (suc i))))
-          (λ t l. entry-series (getD u k 0) (rowAt f k .a) (rowAt f k .b) (rowAt f (suc k) .c) (s .current) (s .previous)
-          (B (suc k) (suc i)) (B (suc (suc k)) i) (e .currentHolds) (e .previousHolds) t
+          (λ t l. entry-series (getD u k 0) (rowAt f k .a) (rowAt f k .b) (rowAt f (suc k) .c) (s .current) (s .older)
+          (B (suc k) (suc i)) (B (suc (suc k)) i) (e .currentHolds) (e .olderHolds) t
           ∙ ap (λ p. co Q p t) (sym (partial-step Q ρ (E u) k i)))
           (λ t l. partial-degree Q ρ (E u) k (suc (suc i)) t (omega arith));
-      previousHolds = e .currentHolds;
+      olderHolds = e .currentHolds;
     }
 
     expandState-partial : (i k : ℕ) → k +ℕ i ≡ size f → Holds (expandState f u i) k i
     unfolding expandState
     expandState-partial zero k e =
-        record { currentHolds = λ t. zeros-partial k 1 t (omega arith); previousHolds = λ t. zeros-partial (suc k) 0 t (omega arith) }
+        record { currentHolds = λ t. zeros-partial k 1 t (omega arith); olderHolds = λ t. zeros-partial (suc k) 0 t (omega arith) }
     expandState-partial (suc i) k e =
         let here : rows f -ℕ i ≡ k = omega arith in
         rw here (expandStep-partial i k (expandState f u i) (omega arith) (expandState-partial i (suc k) (omega arith)))

@@ -19,7 +19,7 @@ use Rattle.theory.specs.Curves.{table-curve}
 
 pub record State : Type 0 where
   pub current : List ℕ
-  pub previous : List ℕ
+  pub older : List ℕ
 
 abbrev pub zeros : ℕ → List ℕ
 zeros n = replicate n 0
@@ -30,17 +30,17 @@ constant y (suc i) = 0
 
 -- ---- Expand: B_k = u_k + (a_{k+1} x + b_{k+1}) B_{k+1} + c_{k+2} B_{k+2}, for k = n - 1 down to 0
 unfoldable pub expandEntry : ℕ → ℕ → ℕ → ℕ → ℕ → List ℕ → List ℕ → ℕ → ℕ
-expandEntry m y a b c current previous i =
-    (constant y i + a * timesX (λ j. getD current j 0) i + b * getD current i 0 + c * getD previous i 0) % m
+expandEntry m y a b c current older i =
+    (constant y i + a * timesX (λ j. getD current j 0) i + b * getD current i 0 + c * getD older i 0) % m
 
 unfoldable pub expandStep : Family → List ℕ → ℕ → State → State
 expandStep f u k s = record {
-  current = table (size f) (expandEntry (f .m) (getD u k 0) (rowAt f k .a) (rowAt f k .b) (rowAt f (suc k) .c) (s .current) (s .previous));
-  previous = s .current;
+  current = table (size f) (expandEntry (f .m) (getD u k 0) (rowAt f k .a) (rowAt f k .b) (rowAt f (suc k) .c) (s .current) (s .older));
+  older = s .current;
 }
 
 unfoldable pub expandState : Family → List ℕ → ℕ → State
-expandState f u zero = record { current = zeros (size f); previous = zeros (size f) }
+expandState f u zero = record { current = zeros (size f); older = zeros (size f) }
 expandState f u (suc i) = expandStep f u (rows f - i) (expandState f u i)
 
 unfoldable pub plainExpand : Family → List ℕ → List ℕ
@@ -48,16 +48,16 @@ plainExpand f u = expandState f u (size f) .current
 
 -- ---- Adjoint: W_j[t] = a_j W_{j-1}[t+1] + b_j W_{j-1}[t] + c_j W_{j-2}[t]; entry j of the answer is W_j[0]
 unfoldable pub adjointEntry : ℕ → ℕ → ℕ → ℕ → List ℕ → List ℕ → ℕ → ℕ
-adjointEntry m a b c current previous t = (a * getD current (suc t) 0 + b * getD current t 0 + c * getD previous t 0) % m
+adjointEntry m a b c current older t = (a * getD current (suc t) 0 + b * getD current t 0 + c * getD older t 0) % m
 
 unfoldable pub adjointStep : Family → ℕ → State → State
 adjointStep f j s = record {
-  current = table (size f) (adjointEntry (f .m) (rowAt f j .a) (rowAt f j .b) (rowAt f j .c) (s .current) (s .previous));
-  previous = s .current;
+  current = table (size f) (adjointEntry (f .m) (rowAt f j .a) (rowAt f j .b) (rowAt f j .c) (s .current) (s .older));
+  older = s .current;
 }
 
 unfoldable pub adjointState : Family → List ℕ → ℕ → State
-adjointState f u zero = record { current = u; previous = zeros (size f) }
+adjointState f u zero = record { current = u; older = zeros (size f) }
 adjointState f u (suc j) = adjointStep f j (adjointState f u j)
 
 unfoldable pub plainAdjoint : Family → List ℕ → List ℕ
@@ -88,7 +88,7 @@ zeros-entry (suc n) (suc i) = zeros-entry n i
 
 pub record CurveState (f : Family) (s : State) : Type 0 where
   pub currentCurve : Curve f (s .current)
-  pub previousCurve : Curve f (s .previous)
+  pub olderCurve : Curve f (s .older)
 
 module _ (f : Family) (pos : 0 < f .m) where
   zeros-curve : Curve f (zeros (size f))
@@ -96,15 +96,15 @@ module _ (f : Family) (pos : 0 < f .m) where
 
   pub expandState-curves : (u : List ℕ) (i : ℕ) → CurveState f (expandState f u i)
   unfolding expandState expandStep expandEntry
-  expandState-curves u zero = record { currentCurve = zeros-curve; previousCurve = zeros-curve }
+  expandState-curves u zero = record { currentCurve = zeros-curve; olderCurve = zeros-curve }
   expandState-curves u (suc i) =
-      record { currentCurve = table-curve f _ (λ i h. mod-lt _ pos); previousCurve = expandState-curves u i .currentCurve }
+      record { currentCurve = table-curve f _ (λ i h. mod-lt _ pos); olderCurve = expandState-curves u i .currentCurve }
 
   pub adjointState-curves : (u : List ℕ) → Curve f u → (j : ℕ) → CurveState f (adjointState f u j)
   unfolding adjointState adjointStep adjointEntry
-  adjointState-curves u cu zero = record { currentCurve = cu; previousCurve = zeros-curve }
+  adjointState-curves u cu zero = record { currentCurve = cu; olderCurve = zeros-curve }
   adjointState-curves u cu (suc j) =
-      record { currentCurve = table-curve f _ (λ i h. mod-lt _ pos); previousCurve = adjointState-curves u cu j .currentCurve }
+      record { currentCurve = table-curve f _ (λ i h. mod-lt _ pos); olderCurve = adjointState-curves u cu j .currentCurve }
 
   pub decomposeStep-curve : (y : ℕ) (q : List ℕ) → Curve f (decomposeStep f y q)
   unfolding decomposeStep decomposeEntry

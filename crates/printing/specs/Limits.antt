@@ -15,10 +15,10 @@ use borrow.Author.Tests.{lt-ltb, ltb-false, ltb-true}
 use Rattle.definitions.specs.Family.{Family, Modulus, Curve, mostRows, rows}
 use Rattle.definitions.specs.Printing.{shown, printed}
 use Rattle.definitions.specs.Reading.{Read, found, malformed, readJob}
-use Rattle.definitions.specs.Refusals.{Test, Verdict, finished, refused, verdict, workLength, curveLengthTest, workTest, curveEntriesTest}
-use Rattle.definitions.specs.Refusals.{shapeTests, familyShape, familyRows}
+use Rattle.definitions.specs.Refusals.{Test, Verdict, finished, refused, verdict, workLength, workTest}
 use Rattle.definitions.specs.Text.{Job, decimal, meant, refusalKey, refusalText, answerText}
-use Rattle.definitions.specs.TextCall.{mostBytes, textOutputLength, textLengthTest, textOutputTest, jobTests, formTests, textTests}
+use Rattle.definitions.specs.TextCall.{mostBytes, textOutputLength, textLengthTest, textOutputTest, sizeTests, lengthsOf, sizesOf}
+use Rattle.definitions.specs.TextCall.{jobTests, formTests, textTests}
 use Rattle.definitions.specs.TextCall.{converted, result, replyTo, reply}
 use Rattle.definitions.specs.declared.Operation.{Operation}
 use Rattle.texts.specs.AnswerTexts.{all-writable, length-answer, length-line}
@@ -26,8 +26,9 @@ use Rattle.theory.specs.Bridge.{expand-curve, adjoint-curve}
 use Rattle.texts.specs.Decimal.{length-decimal}
 use Rattle.theory.specs.Moments.{moments-below, moments-length, norms-curve}
 use Rattle.theory.specs.RoundTrip.{decompose-curve}
-use Rattle.acceptance.specs.Verdicts.{None, withValues, verdict-here, verdict-finished, modulus-passes, row-count-passes}
-use Rattle.acceptance.specs.Given.{Given, revalued, refused-given, given-append, shape-given, rows-given}
+use Rattle.acceptance.specs.Verdicts.{None, withValues, verdict-here, verdict-finished}
+use Rattle.acceptance.specs.Jobs.{carried-passes}
+use Rattle.acceptance.specs.Given.{Given, revalued, refused-given, given-append, lengths-given, values-given}
 
 abbrev pub lentTests : List ℕ → List Test
 lentTests t = textTests t textOutputLength workLength
@@ -46,20 +47,14 @@ late k h = record { least = omega (arith, h .0); greatest = h .1; not7 = λ e. o
 
 -- the output is not under 4,096 bytes, and the working list not under 16,384 numbers
 job-given : (j : Job) → Given Causable (jobTests j textOutputLength workLength)
-unfolding jobTests curveLengthTest textOutputTest workTest curveEntriesTest
-job-given j = given-append Causable (familyShape (j .family)) _
-    (shape-given Causable _ _ _ _ (early 3 (omega arith)) (early 4 (omega arith)) (early 5 (omega arith))) (
-      λ e. early 6 (omega arith),
-      (
-        λ e. absurd (true≢false (sym e)),
-        (
-          λ e. absurd (true≢false (sym e)),
-          given-append Causable (familyRows (j .family)) _
-              (rows-given Causable (j .family) (late 9 (omega arith)) (late 10 (omega arith)) (late 11 (omega arith)))
-              (λ e. late 12 (omega arith), tt),
-        ),
-      ),
-    )
+unfolding jobTests sizeTests textOutputTest workTest
+job-given j =
+    given-append Causable (sizesOf (j .operation) (j .family) (j .curve) textOutputLength workLength) _
+    (given-append Causable (lengthsOf (j .operation) (j .family) (j .curve) textOutputLength textOutputLength) _
+    (lengths-given Causable _ _ _ _ _ _ _ _ (early 3 (omega arith)) (early 4 (omega arith)) (early 5 (omega arith)) (early 6 (omega arith))
+    (λ e. absurd (true≢false (sym e))))
+    (λ e. absurd (true≢false (sym e)), tt))
+    (values-given Causable (j .family) (j .curve) (late 9 (omega arith)) (late 10 (omega arith)) (late 11 (omega arith)) (late 12 (omega arith)))
 
 form-given : (r : Read) → Given Causable (formTests r textOutputLength workLength)
 unfolding formTests
@@ -96,11 +91,11 @@ module _ (operation : Operation) (f : Family) (modulus : Modulus (f .m)) (few : 
   result-fits Operation.Norms u = curve-fits _ (norms-curve f positive)
 
 reply-fits : (r : Read) → None (formTests r textOutputLength workLength) → length (replyTo r) ≤ textOutputLength
-unfolding formTests jobTests shapeTests replyTo result
+unfolding formTests replyTo result
 reply-fits malformed none = omega arith
 reply-fits (found w) none =
-    let few = row-count-passes (rows (meant w .family)) .0 (none .1 .1 .1 .0) in
-    result-fits (w .operation) (meant w .family) (modulus-passes (w .modulus) .0 (none .1 .0)) few (w .operation) (w .curve)
+    let accepted = carried-passes (meant w) textOutputLength workLength .0 (none .1) .job .accepted in
+    result-fits (w .operation) (meant w .family) (accepted .modulus) (accepted .rowCount) (w .operation) (w .curve)
 
 refusal-fits : (k : ℕ) → k ≤ 12 → length (refusalText k) ≤ textOutputLength
 unfolding refusalText
@@ -120,7 +115,7 @@ printed-fits t = split (verdict (lentTests t) (reply t)) refl
 too-long : (t : List ℕ) → mostBytes < length t → printed t ≡ refusalText 1
 unfolding printed shown textTests textLengthTest
 too-long t h = ap shown
-    (verdict-here (textLengthTest t) (formTests (readJob t) textOutputLength workLength) (reply t) (lt-ltb mostBytes (length t) h))
+    (verdict-here (textLengthTest (length t)) (formTests (readJob t) textOutputLength workLength) (reply t) (lt-ltb mostBytes (length t) h))
 
 pub printed-first-bytes : (t : List ℕ) → printed (take (suc mostBytes) t) ≡ printed t
 printed-first-bytes t = split (ltb mostBytes (length t)) refl

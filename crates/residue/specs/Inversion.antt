@@ -1,7 +1,7 @@
 -- What `invert` answers, on every input.
 --   IsInverse m x y      y is the inverse of x modulo m
 --   SharesFactor m x g   no number below m is an inverse of x, and g is the greatest common factor of x and m
---   Inverted m x r       what the answer r says of x and m: the one or the other
+--   InversionAnswer m x r       what the answer r says of x and m: the one or the other
 -- Proved: this settles the answer; and which of the two it is says whether `definitions`' test for an inverse holds.
 -- Assumes nothing.
 use mathlib.Core.Path.{_≡_, sym, _∙_, ap, subst}
@@ -24,11 +24,11 @@ pub record SharesFactor (m x g : ℕ) : Type 0 where
   pub none : (y : ℕ) → y < m → x * y % m ≡ 1 → ⊥
   pub factor : GreatestFactor g x m
 
-abbrev pub Inverted : ℕ → ℕ → Inversion → Type 0
-Inverted m x (Inversion.Found y) = IsInverse m x y
-Inverted m x (Inversion.Absent g) = SharesFactor m x g
+abbrev pub InversionAnswer : ℕ → ℕ → Inversion → Type 0
+InversionAnswer m x (Inversion.Found y) = IsInverse m x y
+InversionAnswer m x (Inversion.Absent g) = SharesFactor m x g
 
-pub inverted-unique : (m x : ℕ) (r r′ : Inversion) → Inverted m x r → Inverted m x r′ → r ≡ r′
+pub inverted-unique : (m x : ℕ) (r r′ : Inversion) → InversionAnswer m x r → InversionAnswer m x r′ → r ≡ r′
 inverted-unique m x (Inversion.Found y) (Inversion.Found y′) p q = ap Inversion.Found (p .value ∙ sym (q .value))
 inverted-unique m x (Inversion.Found y) (Inversion.Absent g) p q = absurd (q .none y (p .below) (p .product))
 inverted-unique m x (Inversion.Absent g) (Inversion.Found y) p q = absurd (p .none y (q .below) (q .product))
@@ -36,11 +36,11 @@ inverted-unique m x (Inversion.Absent g) (Inversion.Absent g′) p q = ap Invers
 
 -- an answer that is matched on, and the answer against the test of the refusals
 module _ (m x : ℕ) where
-  pub inverted-found : {r : Inversion} {y : ℕ} → Inverted m x r → r ≡ Inversion.Found y → IsInverse m x y
-  inverted-found answer e = subst (Inverted m x) e answer
+  pub inverted-found : {r : Inversion} {y : ℕ} → InversionAnswer m x r → r ≡ Inversion.Found y → IsInverse m x y
+  inverted-found answer e = subst (InversionAnswer m x) e answer
 
-  pub inverted-absent : {r : Inversion} {g : ℕ} → Inverted m x r → r ≡ Inversion.Absent g → SharesFactor m x g
-  inverted-absent answer e = subst (Inverted m x) e answer
+  pub inverted-absent : {r : Inversion} {g : ℕ} → InversionAnswer m x r → r ≡ Inversion.Absent g → SharesFactor m x g
+  inverted-absent answer e = subst (InversionAnswer m x) e answer
 
   pub found-has : (y : ℕ) → IsInverse m x y → HasInverse m x
   unfolding HasInverse

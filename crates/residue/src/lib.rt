@@ -7,7 +7,7 @@ ghost use lib.ListN.{length, getD};
 ghost use Rattle.definitions.specs.Number.{negative};
 ghost use Rattle.numbers.specs.RunningProduct.{runningProduct};
 ghost use Rattle.reduction.specs.Reciprocal.{Reciprocal};
-ghost use Rattle.residue.specs.Inversion.{Inverted};
+ghost use Rattle.residue.specs.Inversion.{InversionAnswer};
 ghost use Rattle.residue.specs.Summands.{Summands};
 
 // The remainder of x, of 64 bits.
@@ -97,7 +97,7 @@ pub enum Inversion {
 // amounts of the cofactors, whose signs take turns: modulo m, r is -t x and s is u x; and r u + s t = m, so that t and u fit.
 // Absent: no number times x leaves 1, and the greatest common factor of x and m is told. No number has an inverse modulo 0 or 1.
 pub fn invert(m: u32, x: u32) -> Inversion
-    ensures { λ r. ⌜ Inverted m x r ⌝ }
+    ensures { λ r. ⌜ InversionAnswer m x r ⌝ }
 {
     if m == 0 {
         return Inversion::Absent(x);

@@ -24,7 +24,7 @@ use Rattle.numbers.specs.Regions.{part, Apart, KeptOutside, part-left, part-rig
 use Rattle.numbers.specs.Products.{Below}
 use Rattle.tree_model.specs.Tree.{Matrix, Pair, node}
 use Rattle.tree_model.specs.TreeLengths.{MatrixLength, PairLength, node-length}
-use Rattle.tree_model.specs.TreeBelow.{MatrixBelow, PairBelow, node-below}
+use Rattle.tree_model.specs.TreeBelow.{MatrixBelow, PairBelow, append-below, node-below}
 use Rattle.products.specs.Places.{Aside, aside-within, aside-kept}
 
 unfoldable pub treeSize : ℕ → ℕ
@@ -292,11 +292,6 @@ module _ {lo hi : ℕ} {w w′ : List ℕ} (kept : KeptOutside lo hi w w′) (at
   listsAt-kept q a b = rw (kept-part lo hi w w′ kept at n a, kept-part lo hi w w′ kept q n b)
 
 -- ---- entries below m
-append-below : (m : ℕ) (xs ys : List ℕ) → Below m xs → Below m ys → Below m (xs ++ ys)
-append-below m [] ys p q i = q i
-append-below m (x ∷ xs) ys p q zero = p 0
-append-below m (x ∷ xs) ys p q (suc i) = append-below m xs ys (λ j. p (suc j)) q i
-
 pub matrixList-below : (m : ℕ) (x : Matrix) → MatrixBelow m x → Below m (matrixList x)
 unfolding matrixList
 matrixList-below m x h = append-below m (x .e00 ++ x .e01) (x .e10 ++ x .e11)

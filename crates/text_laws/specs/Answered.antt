@@ -16,7 +16,8 @@ use Rattle.definitions.specs.TextCall.{reply, TextConverted}
 use Rattle.definitions.specs.declared.Valued.{Valued}
 use Rattle.acceptance.specs.Given.{revalued}
 use Rattle.acceptance.specs.Jobs.{writing-finished}
-use Rattle.acceptance.specs.Verdicts.{None, withValues, refused-not-finished, verdict-finished, verdict-stops, verdict-goes-on}
+use Rattle.acceptance.specs.Stages.{all-remain, none-remain}
+use Rattle.acceptance.specs.Verdicts.{None, withValues, refused-not-finished, verdict-finished, verdict-stops}
 use Rattle.text_laws.specs.Laws.{CarriedOutInput, CarriedOut, writeTests, answerTests, WrittenAndAnswered}
 use Rattle.text_laws.specs.Carried.{written-read, written-reply, written-carried}
 
@@ -90,7 +91,7 @@ module _ (w : WrittenJob) (text output work : List ℕ) (first : Valued) (text�
 
       pub write-answered : WrittenAndAnswered w text output work r text′ output′ work′
       write-answered = record {
-        answer = second .answer ∙ sym (verdict-goes-on (answerTests w text output work) _ tests none);
+        answer = second .answer ∙ none-remain tests (answerTests w text output work) all-remain none .same _;
         textIs = sheet-is ∙ sym (ap (λ v. after v sheet text) (verdict-finished tests [] .1 none));
         written = second .written;
         wiped = second .wiped;

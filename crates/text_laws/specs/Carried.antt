@@ -70,7 +70,7 @@ module _ (w : WrittenJob) (output work : ℕ) where
   found-passes r e = rw e (λ n. n .1, λ n. (refl, n))
 
   text-passes : readJob (jobText w) ≡ found w
-      → None (textTests (jobText w) output work) ↔ ((textLengthTest (jobText w) .holds ≡ false) × CarriedInput (meant w) output work)
+      → None (textTests (jobText w) output work) ↔ ((textLengthTest (length (jobText w)) .holds ≡ false) × CarriedInput (meant w) output work)
   unfolding textTests
   text-passes e =
       let form = Iff·trans (found-passes (readJob (jobText w)) e) (carried-passes (meant w) output work) in

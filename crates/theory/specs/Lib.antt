@@ -4,7 +4,7 @@
 --   families closed by another row, and the family of no rows: Closing, Alone
 --   round trips, linearity, the transposed identity: RoundTrip, Linear, TransposedIdentity
 --   moments, norms and the product law (demand 3): Reversal, Determinant, Favard, BilinearForm, Orthogonal, Quotient, Moments,
---   ProductLaw, Gram, NormInverse
+--   ProductLaw, ByMoments, NormInverse
 -- docs/THEOREMS.md leads from the demands to the statements. Assumes nothing.
 pub mod Recurrence
 pub mod Operator
@@ -24,5 +24,5 @@ pub mod Orthogonal
 pub mod Quotient
 pub mod Moments
 pub mod ProductLaw
-pub mod Gram
+pub mod ByMoments
 pub mod NormInverse

@@ -1,5 +1,4 @@
 -- Expand and Adjoint by the tree, from the lent lists to the answer.
---   Input         what the cores are handed: n - 1 rows and n entries of a curve, all below m, and room
 --   storedTree f  the least subproduct tree that covers the family, as it is stored
 --   expandVectors f u    the pair of the root to which Expand has climbed
 --   adjointVectors f u   the pair of the root from which Adjoint descends, and behind it the entries to which it has come
@@ -35,15 +34,8 @@ use Rattle.subproduct.specs.Layout.{pairList-length, pairList-below, pair-reads
 use Rattle.subproduct.specs.Build.{BuildInput, padded-below}
 use Rattle.subproduct.specs.Climb.{ClimbInput, ClimbOutput, climbed, climbed-up, climbed-length, climbed-below}
 use Rattle.subproduct.specs.Descend.{DescendInput, DescendOutput, descended-down}
+use Rattle.tree.specs.Input.{Input}
 use Rattle.tree.specs.Root.{LevelOf, RootInput, PairInput, rootLists}
-
-pub record Input (m : ℕ) (a b c curve : List ℕ) (n : ℕ) (output work : List ℕ) : Type 0 where
-  pub rows : LentRows m (n - 1) a b c
-  pub curveHolds : Holds m n curve
-  pub least : 1 ≤ n
-  pub most : n ≤ 256
-  pub outputLong : n ≤ length output
-  pub workLong : workLength ≤ length work
 
 unfoldable pub storedTree : Family → List ℕ
 storedTree f = treeList (padded f) (levelFor (size f)) 0

@@ -1,47 +1,40 @@
 -- A call with a working list, and a call on a curve by the tree way.
--- Proved: what a refusal and what a core leaves is what such a call promises; an accepted family's rows are lent as the cores ask; from the
--- verdict of the tests to what the tree's cores are handed, and from their list, which is the model's, to the definition's.
--- Assumes nothing.
+-- Proved: what a refusal and what a core leaves is what such a call promises; from the verdict of the tests to what the tree's cores are
+-- handed, and from their list, which is the model's, to the definition's. Assumes nothing.
 use mathlib.Core.Path.{_≡_, sym, _∙_, ap, ap₂}
 use mathlib.Core.List.{List, []}
-use Prim.Native.Nat.{ℕ, suc, _+_, _-_, _≤_}
+use Prim.Native.Nat.{ℕ, suc, _+_, _-_}
 use native.Mathlib.Omega.{arith}
 use lib.ListN.{length, take}
 use lib.Seq.{take-all}
 use Rattle.definitions.specs.Answers.{answered, cleared, ConvertedIn, TreeCall}
 use Rattle.definitions.specs.Conversion.{expand, adjoint}
-use Rattle.definitions.specs.Family.{Family, Accepted, family, ones}
+use Rattle.definitions.specs.Family.{Family, family, ones}
 use Rattle.definitions.specs.Refusals.{Test, verdict, treeTests}
 use Rattle.definitions.specs.declared.Answer.{Answer}
 use Rattle.acceptance.specs.Acceptance.{TreeInput, tree-passes}
 use Rattle.acceptance.specs.Stages.{list-stays, stage-none}
 use Rattle.lists.specs.Held.{Output}
-use Rattle.lists.specs.Lent.{LentRows, lent, accepted-rows}
+use Rattle.lists.specs.Lent.{lent}
 use Rattle.tree_model.specs.Tree.{treeExpand, treeAdjoint}
 use Rattle.tree_model.specs.TreeExpand.{tree-expand-accepted}
 use Rattle.tree_model.specs.TreeAdjoint.{tree-adjoint-accepted}
-use Rattle.tree.specs.Core.{Input}
+use Rattle.tree.specs.Input.{Input, accepted-input}
 use Rattle.lists.specs.Whole.{accepted-long, accepted-lent, lent-family, curve-held, written-whole}
 
 -- ---- a call with a working list
 module _ {tests : List Test} {result output work : List ℕ} {r : Answer} (e : answered r ≡ verdict tests []) where
-  pub both-kept : {k : ℕ} → r ≡ Answer.Refused k → ConvertedIn tests result r output output work work
+  pub both-kept : {k : ℕ} → r ≡ Answer.Refused k → ConvertedIn tests result (answered r) output output work work
   both-kept {k} q = record { answer = e; written = list-stays r k result output q; wiped = list-stays r k (cleared work) work q }
 
   -- a core that fills the output
   pub both-made : {n : ℕ} {made output′ work′ : List ℕ} → r ≡ Answer.Finished → Output made n output output′ work work′ → length output ≡ n
-      → made ≡ result → ConvertedIn tests result Answer.Finished output output′ work work′
+      → made ≡ result → ConvertedIn tests result (answered Answer.Finished) output output′ work work′
   both-made {n} {made} q left long is = record {
     answer = sym (ap answered q) ∙ e;
     written = left .written ∙ written-whole made output n long ∙ is;
     wiped = left .wiped;
   }
-
--- the rows of an accepted family that is lent whole; the code counts n - 1 of them
-pub rows-lent : {m : ℕ} {a b c : List ℕ} → Accepted (family m a b c) → LentRows m (length a + 1 - 1) a b c
-rows-lent {m} {a} {b} {c} accepted =
-    let rows : length a + 1 - 1 ≡ length a = omega arith in
-    rw rows (accepted-rows m (length a) a b c ones (accepted-long accepted) (accepted-lent accepted))
 
 -- ---- by the tree way
 pub tree-input : {f : Family} {u : List ℕ} {output work : ℕ} {r : Answer} → answered r ≡ verdict (treeTests f u output work) []
@@ -51,22 +44,15 @@ tree-input {f} {u} {output} {work} {r} e q = tree-passes f u output work .0 (sta
 module _ {m : ℕ} {a b c u output work : List ℕ} (input : TreeInput (family m a b c) u (length output) (length work)) where
   pub core-input : Input m a b c u (length a + 1) output work
   core-input =
-      let few : length a ≤ 127 = input .plain .accepted .rowCount in
-      record {
-        rows = rows-lent (input .plain .accepted);
-        curveHolds = curve-held (input .plain .curve);
-        least = omega arith;
-        most = omega arith;
-        outputLong = omega (arith, input .plain .outputLength);
-        workLong = input .workLong;
-      }
+      accepted-input (accepted-long (input .plain .accepted)) (accepted-lent (input .plain .accepted)) (curve-held (input .plain .curve))
+      (omega (arith, input .plain .outputLength)) (input .workLong)
 
   -- way: what the core computes, which on this input is what is asked for
   pub tree-made : (way convert : Family → List ℕ → List ℕ) → way (family m a b c) u ≡ convert (family m a b c) u
       → {r : Answer} {output′ work′ : List ℕ}
       → answered r ≡ verdict (treeTests (family m a b c) u (length output) (length work)) [] → r ≡ Answer.Finished
       → Output (way (lent m (length a + 1 - 1) a b c ones) (take (length a + 1) u)) (length a + 1) output output′ work work′
-      → TreeCall convert (family m a b c) u Answer.Finished output output′ work work′
+      → TreeCall convert (family m a b c) u (answered Answer.Finished) output output′ work work′
   tree-made way convert same e q left =
       let long : length u ≡ suc (length a) = input .plain .curve .long in
       both-made e q left (omega (arith, input .plain .outputLength))

@@ -1,6 +1,6 @@
 // The public calls by the tree way, and Moments. Each makes every test itself, ends on every input, and either converts or refuses with the scope
 // paper's number and touches nothing: none has a 'requires', and each has one 'ensures' that settles answer, output and working list on every input.
-ghost use Rattle.definitions.specs.Answers.{TreeCall, MomentsCall};
+ghost use Rattle.definitions.specs.Answers.{answered, TreeCall, MomentsCall};
 ghost use Rattle.definitions.specs.Conversion.{expand, adjoint, decompose};
 ghost use Rattle.definitions.specs.Family.{family};
 use definitions::Answer;
@@ -16,7 +16,7 @@ pub fn tree_expand(
     output: &mut [u32],
     work: &mut [u32],
 ) -> Answer
-    ensures { λ r. ⌜ TreeCall expand (family m (now (a .entry)) (now (b .entry)) (now (c .entry))) (now (curve .entry)) r
+    ensures { λ r. ⌜ TreeCall expand (family m (now (a .entry)) (now (b .entry)) (now (c .entry))) (now (curve .entry)) (answered r)
         (now (output .entry)) (now (output .exit)) (now (work .entry)) (now (work .exit)) ⌝ }
 {
     let tested = verdicts::tree(m, a, b, c, curve, output.len(), work.len());
@@ -38,7 +38,7 @@ pub fn tree_adjoint(
     output: &mut [u32],
     work: &mut [u32],
 ) -> Answer
-    ensures { λ r. ⌜ TreeCall adjoint (family m (now (a .entry)) (now (b .entry)) (now (c .entry))) (now (curve .entry)) r
+    ensures { λ r. ⌜ TreeCall adjoint (family m (now (a .entry)) (now (b .entry)) (now (c .entry))) (now (curve .entry)) (answered r)
         (now (output .entry)) (now (output .exit)) (now (work .entry)) (now (work .exit)) ⌝ }
 {
     let tested = verdicts::tree(m, a, b, c, curve, output.len(), work.len());
@@ -60,7 +60,7 @@ pub fn tree_decompose(
     output: &mut [u32],
     work: &mut [u32],
 ) -> Answer
-    ensures { λ r. ⌜ TreeCall decompose (family m (now (a .entry)) (now (b .entry)) (now (c .entry))) (now (coefficients .entry)) r
+    ensures { λ r. ⌜ TreeCall decompose (family m (now (a .entry)) (now (b .entry)) (now (c .entry))) (now (coefficients .entry)) (answered r)
         (now (output .entry)) (now (output .exit)) (now (work .entry)) (now (work .exit)) ⌝ }
 {
     let tested = verdicts::tree(m, a, b, c, coefficients, output.len(), work.len());
@@ -102,7 +102,7 @@ pub fn moments(
     output: &mut [u32],
     work: &mut [u32],
 ) -> Answer
-    ensures { λ r. ⌜ MomentsCall (family m (now (a .entry)) (now (b .entry)) (now (c .entry))) r
+    ensures { λ r. ⌜ MomentsCall (family m (now (a .entry)) (now (b .entry)) (now (c .entry))) (answered r)
         (now (output .entry)) (now (output .exit)) (now (work .entry)) (now (work .exit)) ⌝ }
 {
     let tested = verdicts::moments(m, a, b, c, output.len(), work.len());

@@ -37,7 +37,7 @@ three-below : (m x y z : ℕ) → x < m → y < m → z < m → Below m (x ∷ y
 three-below m x y z p q r zero = p
 three-below m x y z p q r (suc i) = two-below m y z q r i
 
-append-below : (m : ℕ) (xs ys : List ℕ) → Below m xs → Below m ys → Below m (xs ++ ys)
+pub append-below : (m : ℕ) (xs ys : List ℕ) → Below m xs → Below m ys → Below m (xs ++ ys)
 append-below m [] ys p q i = q i
 append-below m (x ∷ xs) ys p q zero = p 0
 append-below m (x ∷ xs) ys p q (suc i) = append-below m xs ys (λ j. p (suc j)) q i

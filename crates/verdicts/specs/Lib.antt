@@ -1,3 +1,3 @@
--- Lists that are lent whole, and the tests of a job in their two parts. Assumes nothing.
+-- Lists that are lent whole, and the sizes of a job. Assumes nothing.
 pub mod WholeLists
 pub mod Sizes

@@ -1,5 +1,5 @@
 -- What the exported functions promise, and how the public calls' promises come to it. Assumes nothing.
 pub mod Returned
 pub mod Choices
+pub mod Positive
 pub mod Returning
-pub mod Zero

@@ -1,55 +1,30 @@
 -- From the answer of a public call to what its exported function returns and leaves.
--- Proved: a call that writes a list keeps its promise when its answer is turned into a number, with a working list or without;
--- so do Inverse, whether it finishes or refuses, the text call, and the call that writes a job, whether its number names an operation
--- or not. Assumes nothing.
-use mathlib.Core.Path.{_≡_, refl, sym, _∙_, ap}
+-- Proved: the number of a verdict says what the verdict does, where no test has the number 0 (returned-is); so a call that writes a list
+-- keeps its promise when its answer is turned into a number, with a working list or without, and so do Inverse, whether it finishes or
+-- refuses, the text call, and the call that writes a job, whether its number names an operation or not. Assumes nothing.
+use mathlib.Core.Path.{_≡_, refl, sym, _∙_, ap, subst}
 use mathlib.Core.Bool.{false}
 use mathlib.Core.List.{List, [], _∷_, _++_}
-use Prim.Native.Nat.{ℕ, zero, suc, _≤_}
+use Prim.Native.Nat.{ℕ, zero, suc, _<_, _≤_}
 use native.Mathlib.Omega.{arith}
 use lib.ListN.{length, drop}
-use Rattle.definitions.specs.Answers.{answered, valued, after, cleared, Converted, ConvertedIn}
+use Rattle.definitions.specs.Answers.{valued, after, cleared, Converted, ConvertedIn}
 use Rattle.definitions.specs.Refusals.{Test, Verdict, finished, refused, verdict, test}
 use Rattle.definitions.specs.Text.{WrittenJob, meant, jobText}
 use Rattle.definitions.specs.TextCall.{textTests, reply, TextConverted}
 use Rattle.definitions.specs.JobWriting.{writingTests, JobWritten}
-use Rattle.definitions.specs.declared.Answer.{Answer}
 use Rattle.definitions.specs.declared.Operation.{Operation}
 use Rattle.definitions.specs.declared.Valued.{Valued}
+use Rattle.acceptance.specs.Given.{revalued, refused-given}
 use Rattle.acceptance.specs.Verdicts.{refused-not-finished, verdict-next, withValues, verdict-values}
-use Rattle.zahupnik.specs.Returned.{number, Returned, ReturnedIn, operations, choiceOf, choice, chosenTests, chosenText, JobReturned}
+use Rattle.zahupnik.specs.Returned.{returned, number, operations, choiceOf, choice, chosenTests, chosenText, JobReturned}
+use Rattle.zahupnik.specs.Positive.{Positive, text-positive, chosen-positive}
 use Rattle.zahupnik.specs.declared.Choice.{Choice}
 
-pub list-returned : (tests : List Test) (result output output′ : List ℕ) (r : Answer) (k : ℕ)
-    → Converted tests result r output output′ → k ≡ number (answered r) → Returned tests result k output output′
-list-returned tests result output output′ r k converted e = record {
-  answer = e ∙ ap number (converted .answer);
-  written = converted .written ∙ ap (λ v. after v result output) (converted .answer);
-}
-
-pub list-returned-in : (tests : List Test) (result output output′ work work′ : List ℕ) (r : Answer) (k : ℕ)
-    → ConvertedIn tests result r output output′ work work′ → k ≡ number (answered r)
-    → ReturnedIn tests result k output output′ work work′
-list-returned-in tests result output output′ work work′ r k converted e = record {
-  answer = e ∙ ap number (converted .answer);
-  written = converted .written ∙ ap (λ v. after v result output) (converted .answer);
-  wiped = converted .wiped ∙ ap (λ v. after v (cleared work) work) (converted .answer);
-}
-
-module _ (tests : List Test) (x old : ℕ) where
-  pub value-returned : (y : ℕ) → finished (y ∷ []) ≡ verdict tests (x ∷ []) → Returned tests (x ∷ []) 0 (old ∷ []) (y ∷ [])
-  value-returned y e = at (verdict tests []) refl (e ∙ verdict-values (x ∷ []) tests)
-    where
-      at : (v : Verdict) → verdict tests [] ≡ v → finished (y ∷ []) ≡ withValues (x ∷ []) v → Returned tests (x ∷ []) 0 (old ∷ []) (y ∷ [])
-      at (finished none) q d = record { answer = sym (ap number q); written = rw q (cc) }
-      at (refused k) q d = absurd (refused-not-finished k (y ∷ []) (sym d))
-
-  pub refusal-returned : (k : ℕ) → refused k ≡ verdict tests (x ∷ []) → Returned tests (x ∷ []) k (old ∷ []) (old ∷ [])
-  refusal-returned k e = at (verdict tests []) refl (e ∙ verdict-values (x ∷ []) tests)
-    where
-      at : (v : Verdict) → verdict tests [] ≡ v → refused k ≡ withValues (x ∷ []) v → Returned tests (x ∷ []) k (old ∷ []) (old ∷ [])
-      at (finished none) q d = absurd (refused-not-finished k (x ∷ []) d)
-      at (refused j) q d = record { answer = rw q (cc); written = rw q }
+-- a number above 0 is that of a refusal
+refusal-is : (k : ℕ) → 0 < k → returned k ≡ refused k
+refusal-is zero h = absurd (omega arith)
+refusal-is (suc k) h = refl
 
 -- the values make no difference to the number, nor to what a list holds
 number-values : (values : List ℕ) (v : Verdict) → number (withValues values v) ≡ number v
@@ -60,35 +35,70 @@ after-values : (values : List ℕ) (v : Verdict) (new old : List ℕ) → after 
 after-values values (finished none) new old = refl
 after-values values (refused k) new old = refl
 
--- a call whose answer has a value
-module _ (tests : List Test) (values : List ℕ) (r : Valued) (is : valued r ≡ verdict tests values) where
-  settled : valued r ≡ withValues values (verdict tests [])
-  settled = is ∙ verdict-values values tests
+module _ (tests : List Test) (positive : Positive tests) where
+  pub returned-is : (v : Verdict) → v ≡ verdict tests [] → (k : ℕ) → k ≡ number v → returned k ≡ v
+  returned-is (finished values) e k q = ap returned q ∙ sym (e ∙ revalued tests [] [] ∙ ap (withValues []) (sym e))
+  returned-is (refused j) e k q = ap returned q ∙ refusal-is j (refused-given (λ i. 0 < i) [] j tests positive (sym e))
 
-  valued-number : (k : ℕ) → k ≡ number (valued r) → k ≡ number (verdict tests [])
-  valued-number k e = e ∙ ap number settled ∙ number-values values (verdict tests [])
+  -- a call that writes a list
+  pub list-returned : {result output output′ : List ℕ} (v : Verdict) (k : ℕ) → Converted tests result v output output′
+      → k ≡ number v → Converted tests result (returned k) output output′
+  list-returned {result} {output} {output′} v k made e =
+      subst (λ w. Converted tests result w output output′) (sym (returned-is v (made .answer) k e)) made
 
-  valued-list : (new old list : List ℕ) → list ≡ after (valued r) new old → list ≡ after (verdict tests []) new old
-  valued-list new old list e = e ∙ ap (λ v. after v new old) settled ∙ after-values values (verdict tests []) new old
+  pub list-returned-in : {result output output′ work work′ : List ℕ} (v : Verdict) (k : ℕ)
+      → ConvertedIn tests result v output output′ work work′ → k ≡ number v
+      → ConvertedIn tests result (returned k) output output′ work work′
+  list-returned-in {result} {output} {output′} {work} {work′} v k made e =
+      subst (λ w. ConvertedIn tests result w output output′ work work′) (sym (returned-is v (made .answer) k e)) made
 
-  valued-returned : (k : ℕ) → k ≡ number (valued r) → (result output output′ : List ℕ) → output′ ≡ after (valued r) result output
-      → Returned tests result k output output′
-  valued-returned k e result output output′ w = record { answer = valued-number k e; written = valued-list result output output′ w }
+  -- a call that hands out a number: x is the definition's, old what was lent
+  module _ (x old : ℕ) where
+    pub value-returned : (y : ℕ) → finished (y ∷ []) ≡ verdict tests (x ∷ []) → Converted tests (x ∷ []) (returned 0) (old ∷ []) (y ∷ [])
+    value-returned y e = at (verdict tests []) refl (e ∙ verdict-values (x ∷ []) tests)
+      where
+        at : (v : Verdict) → verdict tests [] ≡ v → finished (y ∷ []) ≡ withValues (x ∷ []) v
+            → Converted tests (x ∷ []) (returned 0) (old ∷ []) (y ∷ [])
+        at (finished none) q d = record { answer = sym (revalued tests [] [] ∙ ap (withValues []) q); written = cc }
+        at (refused k) q d = absurd (refused-not-finished k (y ∷ []) (sym d))
 
-  valued-returned-in : (k : ℕ) → k ≡ number (valued r) → (result output output′ work work′ : List ℕ)
-      → output′ ≡ after (valued r) result output → work′ ≡ after (valued r) (cleared work) work
-      → ReturnedIn tests result k output output′ work work′
-  valued-returned-in k e result output output′ work work′ w q = record {
-    answer = valued-number k e;
-    written = valued-list result output output′ w;
-    wiped = valued-list (cleared work) work work′ q;
-  }
+    pub refusal-returned : (k : ℕ) → refused k ≡ verdict tests (x ∷ []) → Converted tests (x ∷ []) (returned k) (old ∷ []) (old ∷ [])
+    refusal-returned k e =
+        let is : refused k ≡ verdict tests [] = ap (withValues []) e ∙ sym (revalued tests (x ∷ []) []) in
+        rw (returned-is (refused k) is k refl) (record { answer = is; written = refl })
+
+  -- a call whose answer has a value
+  module _ (values : List ℕ) (r : Valued) (is : valued r ≡ verdict tests values) where
+    without : withValues [] (valued r) ≡ verdict tests []
+    without = ap (withValues []) is ∙ sym (revalued tests values [])
+
+    module _ (k : ℕ) (e : k ≡ number (valued r)) where
+      says : returned k ≡ withValues [] (valued r)
+      says = returned-is (withValues [] (valued r)) without k (e ∙ sym (number-values [] (valued r)))
+
+      leaves : (new old list : List ℕ) → list ≡ after (valued r) new old → list ≡ after (returned k) new old
+      leaves new old list w = w ∙ sym (after-values [] (valued r) new old) ∙ ap (λ v. after v new old) (sym says)
+
+      pub valued-returned : (result output output′ : List ℕ) → output′ ≡ after (valued r) result output
+          → Converted tests result (returned k) output output′
+      valued-returned result output output′ w = record { answer = says ∙ without; written = leaves result output output′ w }
+
+      pub valued-returned-in : (result output output′ work work′ : List ℕ)
+          → output′ ≡ after (valued r) result output → work′ ≡ after (valued r) (cleared work) work
+          → ConvertedIn tests result (returned k) output output′ work work′
+      valued-returned-in result output output′ work work′ w q = record {
+        answer = says ∙ without;
+        written = leaves result output output′ w;
+        wiped = leaves (cleared work) work work′ q;
+      }
 
 pub text-returned : (t output output′ work work′ : List ℕ) (r : Valued) → TextConverted t r output output′ work work′
     → (k : ℕ) → k ≡ number (valued r)
-    → ReturnedIn (textTests t (length output) (length work)) (reply t ++ drop (length (reply t)) output) k output output′ work work′
-text-returned t output output′ work work′ r converted k e =
-    valued-returned-in _ _ r (converted .answer) k e _ output output′ work work′ (converted .written) (converted .wiped)
+    → ConvertedIn (textTests t (length output) (length work)) (reply t ++ drop (length (reply t)) output) (returned k)
+    output output′ work work′
+text-returned t output output′ work work′ r made k e =
+    valued-returned-in _ (text-positive t (length output) (length work)) _ r (made .answer) k e _ output output′ work work′
+    (made .written) (made .wiped)
 
 -- the function that writes a job, once its number has named an operation or none
 choice-past-all : (others : List Operation) (k : ℕ) → length others ≤ k → choiceOf others k ≡ Choice.Nothing
@@ -117,19 +127,23 @@ module _ (job : Operation → WrittenJob) (k : ℕ) (output : List ℕ) (count :
     abbrev tests : List Test
     tests = test 2 false ∷ writingTests (meant (job operation)) (length output)
 
+    positive : Positive tests
+    unfolding chosenTests
+    positive = chosen-positive (Choice.Named operation) job (length output)
+
     passed : valued r ≡ verdict tests (length (jobText (job operation)) ∷ [])
     passed = written .answer ∙ sym (verdict-next (test 2 false) _ _ refl)
 
     pub length-returned : (n : ℕ) → r ≡ Valued.Value n → JobReturned job k 0 output output′ count n
     unfolding chosenTests chosenText
     length-returned n q = record {
-      text = rw named (valued-returned tests _ r passed 0 (sym (ap (λ v. number (valued v)) q)) _ output output′ (written .written));
-      counted = rw named (value-returned tests _ count n (sym (ap valued q) ∙ passed));
+      text = rw named (valued-returned tests positive _ r passed 0 (sym (ap (λ v. number (valued v)) q)) _ output output′ (written .written));
+      counted = rw named (value-returned tests positive _ count n (sym (ap valued q) ∙ passed));
     }
 
     pub job-refusal-returned : (j : ℕ) → r ≡ Valued.Refused j → JobReturned job k j output output′ count count
     unfolding chosenTests chosenText
     job-refusal-returned j q = record {
-      text = rw named (valued-returned tests _ r passed j (sym (ap (λ v. number (valued v)) q)) _ output output′ (written .written));
-      counted = rw named (refusal-returned tests _ count j (sym (ap valued q) ∙ passed));
+      text = rw named (valued-returned tests positive _ r passed j (sym (ap (λ v. number (valued v)) q)) _ output output′ (written .written));
+      counted = rw named (refusal-returned tests positive _ count j (sym (ap valued q) ∙ passed));
     }

@@ -2,13 +2,12 @@
 // number. None has a 'requires', and each has one 'ensures' that settles the number and what is lent on every input.
 ghost use mathlib.Core.Path.{_≡_};
 ghost use mathlib.Core.List.{[], _∷_};
-ghost use Rattle.definitions.specs.Answers.{answered};
+ghost use Rattle.definitions.specs.Answers.{answered, Converted, PlainCall, TreeCall, NormsCall, MomentsCall};
 ghost use Rattle.definitions.specs.Conversion.{expand, adjoint, decompose};
 ghost use Rattle.definitions.specs.Family.{family};
 ghost use Rattle.definitions.specs.Number as Number;
 ghost use Rattle.definitions.specs.Refusals.{inverseTests};
-ghost use Rattle.zahupnik.specs.Returned.{number, Returned, PlainReturned, TreeReturned, NormsReturned, MomentsReturned, TextReturned};
-ghost use Rattle.zahupnik.specs.Returned.{choice, jobFor, JobReturned};
+ghost use Rattle.zahupnik.specs.Returned.{returned, number, TextReturned, choice, jobFor, JobReturned};
 use definitions::Answer;
 use definitions::Operation;
 use definitions::Valued;
@@ -32,7 +31,8 @@ fn number(answer: Answer) -> u32
 // Inverse, written to the lent number. Refused as plain_calls::invert is.
 #[no_mangle]
 pub extern "C" fn zahupnik_invert(m: u32, x: u32, inverse: &mut u32) -> u32
-    ensures { λ r. ⌜ Returned (inverseTests m x) (Number.inverse m x ∷ []) r (now (inverse .entry) ∷ []) (now (inverse .exit) ∷ []) ⌝ }
+    ensures { λ r. ⌜ Converted (inverseTests m x) (Number.inverse m x ∷ []) (returned r)
+        (now (inverse .entry) ∷ []) (now (inverse .exit) ∷ []) ⌝ }
 {
     match plain_calls::invert(m, x) {
         Valued::Value(y) => {
@@ -53,7 +53,7 @@ pub extern "C" fn zahupnik_plain_expand(
     curve: &[u32],
     output: &mut [u32],
 ) -> u32
-    ensures { λ r. ⌜ PlainReturned expand (family m (now (a .entry)) (now (b .entry)) (now (c .entry))) (now (curve .entry)) r
+    ensures { λ r. ⌜ PlainCall expand (family m (now (a .entry)) (now (b .entry)) (now (c .entry))) (now (curve .entry)) (returned r)
         (now (output .entry)) (now (output .exit)) ⌝ }
 {
     number(plain_calls::plain_expand(m, a, b, c, curve, output))
@@ -69,7 +69,7 @@ pub extern "C" fn zahupnik_plain_adjoint(
     curve: &[u32],
     output: &mut [u32],
 ) -> u32
-    ensures { λ r. ⌜ PlainReturned adjoint (family m (now (a .entry)) (now (b .entry)) (now (c .entry))) (now (curve .entry)) r
+    ensures { λ r. ⌜ PlainCall adjoint (family m (now (a .entry)) (now (b .entry)) (now (c .entry))) (now (curve .entry)) (returned r)
         (now (output .entry)) (now (output .exit)) ⌝ }
 {
     number(plain_calls::plain_adjoint(m, a, b, c, curve, output))
@@ -85,7 +85,7 @@ pub extern "C" fn zahupnik_plain_decompose(
     coefficients: &[u32],
     output: &mut [u32],
 ) -> u32
-    ensures { λ r. ⌜ PlainReturned decompose (family m (now (a .entry)) (now (b .entry)) (now (c .entry))) (now (coefficients .entry)) r
+    ensures { λ r. ⌜ PlainCall decompose (family m (now (a .entry)) (now (b .entry)) (now (c .entry))) (now (coefficients .entry)) (returned r)
         (now (output .entry)) (now (output .exit)) ⌝ }
 {
     number(plain_calls::plain_decompose(m, a, b, c, coefficients, output))
@@ -94,7 +94,7 @@ pub extern "C" fn zahupnik_plain_decompose(
 // Norms. Refused as plain_calls::norms is.
 #[no_mangle]
 pub extern "C" fn zahupnik_norms(m: u32, a: &[u32], b: &[u32], c: &[u32], output: &mut [u32]) -> u32
-    ensures { λ r. ⌜ NormsReturned (family m (now (a .entry)) (now (b .entry)) (now (c .entry))) r
+    ensures { λ r. ⌜ NormsCall (family m (now (a .entry)) (now (b .entry)) (now (c .entry))) (returned r)
         (now (output .entry)) (now (output .exit)) ⌝ }
 {
     number(plain_calls::norms(m, a, b, c, output))
@@ -111,7 +111,7 @@ pub extern "C" fn zahupnik_tree_expand(
     output: &mut [u32],
     work: &mut [u32],
 ) -> u32
-    ensures { λ r. ⌜ TreeReturned expand (family m (now (a .entry)) (now (b .entry)) (now (c .entry))) (now (curve .entry)) r
+    ensures { λ r. ⌜ TreeCall expand (family m (now (a .entry)) (now (b .entry)) (now (c .entry))) (now (curve .entry)) (returned r)
         (now (output .entry)) (now (output .exit)) (now (work .entry)) (now (work .exit)) ⌝ }
 {
     number(tree_calls::tree_expand(m, a, b, c, curve, output, work))
@@ -128,7 +128,7 @@ pub extern "C" fn zahupnik_tree_adjoint(
     output: &mut [u32],
     work: &mut [u32],
 ) -> u32
-    ensures { λ r. ⌜ TreeReturned adjoint (family m (now (a .entry)) (now (b .entry)) (now (c .entry))) (now (curve .entry)) r
+    ensures { λ r. ⌜ TreeCall adjoint (family m (now (a .entry)) (now (b .entry)) (now (c .entry))) (now (curve .entry)) (returned r)
         (now (output .entry)) (now (output .exit)) (now (work .entry)) (now (work .exit)) ⌝ }
 {
     number(tree_calls::tree_adjoint(m, a, b, c, curve, output, work))
@@ -145,7 +145,7 @@ pub extern "C" fn zahupnik_tree_decompose(
     output: &mut [u32],
     work: &mut [u32],
 ) -> u32
-    ensures { λ r. ⌜ TreeReturned decompose (family m (now (a .entry)) (now (b .entry)) (now (c .entry))) (now (coefficients .entry)) r
+    ensures { λ r. ⌜ TreeCall decompose (family m (now (a .entry)) (now (b .entry)) (now (c .entry))) (now (coefficients .entry)) (returned r)
         (now (output .entry)) (now (output .exit)) (now (work .entry)) (now (work .exit)) ⌝ }
 {
     number(tree_calls::tree_decompose(m, a, b, c, coefficients, output, work))
@@ -161,7 +161,7 @@ pub extern "C" fn zahupnik_moments(
     output: &mut [u32],
     work: &mut [u32],
 ) -> u32
-    ensures { λ r. ⌜ MomentsReturned (family m (now (a .entry)) (now (b .entry)) (now (c .entry))) r
+    ensures { λ r. ⌜ MomentsCall (family m (now (a .entry)) (now (b .entry)) (now (c .entry))) (returned r)
         (now (output .entry)) (now (output .exit)) (now (work .entry)) (now (work .exit)) ⌝ }
 {
     number(tree_calls::moments(m, a, b, c, output, work))

@@ -1,7 +1,6 @@
--- `family_rows` answers the verdict of tests 9, 10 and 11, the c from place 0 on. Assumes nothing.
+-- `family_rows` answers the verdict of tests 9, 10 and 11. Assumes nothing.
 use Rattle.definitions.specs.Refusals.{familyRows}
 use Rattle.acceptance.specs.Stages.{all-remain, stage-refuses, stage-passes, stages-end}
-use Rattle.checks.specs.RowTests.{inverseRows}
 use borrow.Author.Needs.{needs}
 use Rattle.checks.proofs.family_rows.Statement.{statement}
 use Rattle.checks.proofs.family_rows.Tie as tie
@@ -14,7 +13,7 @@ unfolding familyRows
 returns c = stage-refuses _ _ all-remain _ (c .before .before .row-entries .ensures) _ (c .enum-told2 .given .1)
 
 returns-2 : tie.Need-returns-2
-unfolding familyRows inverseRows
+unfolding familyRows
 returns-2 c =
     let first = c .before in
     let left = stage-passes _ _ all-remain _ (first .before .before .row-entries .ensures) (first .enum-told .given .1) in

@@ -58,7 +58,7 @@ enum-told-3 c = search needs
 returns-2 : tie.Need-returns-2
 returns-2 c =
     let fits = c .before .before .before .before .before .before .before .before .before .before .before .before .before .before .before in
-    no-form _ _ _ (short-text _ _ (fits .before .before .text-length .ensures) (fits .enum-told .given .1))
+    no-form _ _ _ (short-text _ _ _ _ (fits .before .before .text-length .ensures) (fits .enum-told .given .1))
     (subst (Formed _ _ _ _ _ _ _ _ _) (c .enum-told3 .given .1) (c .before .before .before .before .before .before .job-form .ensures))
 
 sizes-requires : tie.Need-sizes-requires
@@ -78,7 +78,7 @@ returns-3 c =
     let read = c .before .before .before .before .before in
     let lists = read .before .before .before .before .before .before .before .before .before .before .before in
     let fits = lists .before .before .before .before in
-    sizes-refused _ _ _ _ _ _ _ _ _ _ _ _ _ _ _ _ _ (short-text _ _ (fits .before .before .text-length .ensures) (fits .enum-told .given .1))
+    sizes-refused _ _ _ _ _ _ _ _ _ _ _ _ _ _ _ _ _ (short-text _ _ _ _ (fits .before .before .text-length .ensures) (fits .enum-told .given .1))
     (subst (Formed _ _ _ _ _ _ _ _ _) (read .modulus .given .1) (read .before .before .before .before .before .before .job-form .ensures))
     (lists .before .before .before .zeros .ensures) (lists .before .before .zeros2 .ensures) (lists .before .zeros3 .ensures) (lists .zeros4 .ensures)
     _ (c .before .before .before .sizes .ensures) _ (c .before .enum-told5 .given .1) _ (c .with-length2 .ensures)
@@ -101,7 +101,7 @@ answer-requires c κs =
     let read = sized .before .before .before .before in
     let lists = read .before .before .before .before .before .before .before .before .before .before .before in
     let fits = lists .before .before .before .before in
-    ready _ _ _ _ _ _ _ _ _ _ _ _ _ _ _ _ _ (short-text _ _ (fits .before .before .text-length .ensures) (fits .enum-told .given .1))
+    ready _ _ _ _ _ _ _ _ _ _ _ _ _ _ _ _ _ (short-text _ _ _ _ (fits .before .before .text-length .ensures) (fits .enum-told .given .1))
     (subst (Formed _ _ _ _ _ _ _ _ _) (read .modulus .given .1) (read .before .before .before .before .before .before .job-form .ensures))
     (lists .before .before .before .zeros .ensures) (lists .before .before .zeros2 .ensures) (lists .before .zeros3 .ensures) (lists .zeros4 .ensures)
     _ (sized .before .before .sizes .ensures) (sized .enum-told4 .given .1)
@@ -118,7 +118,7 @@ returns-4 c =
     let read = sized .before .before .before .before in
     let lists = read .before .before .before .before .before .before .before .before .before .before .before in
     let fits = lists .before .before .before .before in
-    text-answered _ _ _ _ _ _ _ _ _ _ _ _ _ _ _ _ _ (short-text _ _ (fits .before .before .text-length .ensures) (fits .enum-told .given .1))
+    text-answered _ _ _ _ _ _ _ _ _ _ _ _ _ _ _ _ _ (short-text _ _ _ _ (fits .before .before .text-length .ensures) (fits .enum-told .given .1))
     (subst (Formed _ _ _ _ _ _ _ _ _) (read .modulus .given .1) (read .before .before .before .before .before .before .job-form .ensures))
     (lists .before .before .before .zeros .ensures) (lists .before .before .zeros2 .ensures) (lists .before .zeros3 .ensures) (lists .zeros4 .ensures)
     _ (sized .before .before .sizes .ensures) (sized .enum-told4 .given .1) _ _ _ (c .before .before .before .before .answer .ensures)

@@ -2,8 +2,8 @@
 -- the definition's list and leaves the working list clear. Assumes nothing.
 use mathlib.Core.Path.{refl}
 use Rattle.definitions.specs.Conversion.{decompose}
-use Rattle.tree_calls.specs.MomentCore.{c-room, c-inverted, decompose-input}
-use Rattle.inverses.specs.InverseArray.{a-room, a-array}
+use Rattle.tree_calls.specs.MomentCore.{decompose-input}
+use Rattle.inverses.specs.InverseArray.{a-room, a-array, c-room, c-array}
 use Rattle.tree_calls.specs.TreeCore.{both-kept, tree-input, tree-made}
 use borrow.Author.Needs.{needs}
 use Rattle.tree_calls.proofs.tree_decompose.Statement.{statement}
@@ -62,7 +62,7 @@ decompose-requires c κs =
     let input = tree-input (passed .before .before .tree .ensures) (passed .enum-told .given .1) in
     decompose-input (input .plain .accepted)
     (a-array (input .plain .accepted) (first .before .before .zeros .ensures) (first .of-list .ensures))
-    (c-inverted (input .plain .accepted) (second .before .before .zeros2 .ensures) (second .of-list2 .ensures)) input
+    (c-array (input .plain .accepted) (second .before .before .zeros2 .ensures) (second .of-list2 .ensures)) input
 
 same-length : tie.Need-same-length
 same-length c = search needs

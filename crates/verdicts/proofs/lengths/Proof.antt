@@ -1,7 +1,7 @@
 -- `lengths` answers the verdict of tests 3 to 7 of a job, each taken apart before the next. Assumes nothing.
+use Rattle.definitions.specs.TextCall.{lengthTests}
 use Rattle.acceptance.specs.Stages.{all-remain, stage-refuses, stage-passes, stages-end}
 use Rattle.checks.specs.Shape.{shaped}
-use Rattle.verdicts.specs.Sizes.{lengthTests}
 use borrow.Author.Needs.{needs}
 use Rattle.verdicts.proofs.lengths.Statement.{statement}
 use Rattle.verdicts.proofs.lengths.Tie as tie

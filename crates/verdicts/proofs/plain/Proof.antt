@@ -3,7 +3,6 @@ use native.Mathlib.Numerals.{add-one}
 use Rattle.definitions.specs.Refusals.{plainTests}
 use Rattle.acceptance.specs.Stages.{all-remain, stage-refuses, stage-passes, stages-end}
 use Rattle.checks.specs.Shape.{shaped}
-use Rattle.verdicts.specs.Sizes.{valueTests}
 use borrow.Author.Needs.{needs}
 use Rattle.verdicts.proofs.plain.Statement.{statement}
 use Rattle.verdicts.proofs.plain.Tie as tie
@@ -38,7 +37,7 @@ values-requires c κs =
     shaped _ _ _ _ _ (shape .before .before .family-shape .ensures) (shape .enum-told .given .1)
 
 returns-4 : tie.Need-returns-4
-unfolding plainTests valueTests
+unfolding plainTests
 returns-4 c =
     let place = c .before in
     let entries = place .before .before .before in

@@ -1,6 +1,6 @@
 -- `sizes` answers the verdict of tests 3 to 8 of a job: those of `lengths`, then 8. Assumes nothing.
+use Rattle.definitions.specs.TextCall.{sizeTests}
 use Rattle.acceptance.specs.Stages.{all-remain, stage-refuses, stage-passes, stages-end}
-use Rattle.verdicts.specs.Sizes.{sizeTests}
 use borrow.Author.Needs.{needs}
 use Rattle.verdicts.proofs.sizes.Statement.{statement}
 use Rattle.verdicts.proofs.sizes.Tie as tie

@@ -3,7 +3,6 @@ use native.Mathlib.Numerals.{add-one}
 use Rattle.definitions.specs.Refusals.{treeTests}
 use Rattle.acceptance.specs.Stages.{all-remain, stage-refuses, stage-passes, stages-end}
 use Rattle.checks.specs.Shape.{shaped}
-use Rattle.verdicts.specs.Sizes.{valueTests}
 use borrow.Author.Needs.{needs}
 use Rattle.verdicts.proofs.tree.Statement.{statement}
 use Rattle.verdicts.proofs.tree.Tie as tie
@@ -51,7 +50,7 @@ values-requires c κs =
     shaped _ _ _ _ _ (shape .before .before .family-shape .ensures) (shape .enum-told .given .1)
 
 returns-5 : tie.Need-returns-5
-unfolding treeTests valueTests
+unfolding treeTests
 returns-5 c =
     let room = c .before in
     let place = room .before .before .before in

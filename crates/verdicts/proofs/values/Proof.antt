@@ -1,7 +1,6 @@
 -- `values` answers the verdict of tests 9 to 12: those of the rows, then those of the curve. Assumes what `rows` does.
-use Rattle.definitions.specs.Refusals.{curveEntriesTest}
+use Rattle.definitions.specs.Refusals.{valueTests}
 use Rattle.acceptance.specs.Stages.{all-remain, stage-refuses, stage-passes, stages-end}
-use Rattle.verdicts.specs.Sizes.{valueTests}
 use borrow.Author.Needs.{needs}
 use Rattle.verdicts.proofs.values.Statement.{statement}
 use Rattle.verdicts.proofs.values.Tie as tie
@@ -14,7 +13,7 @@ unfolding valueTests
 returns c = stage-refuses _ _ all-remain _ (c .before .before .rows .ensures) _ (c .enum-told2 .given .1)
 
 returns-2 : tie.Need-returns-2
-unfolding valueTests curveEntriesTest
+unfolding valueTests
 returns-2 c =
     let family = c .before in
     let afterFamily = stage-passes _ _ all-remain _ (family .before .before .rows .ensures) (family .enum-told .given .1) in

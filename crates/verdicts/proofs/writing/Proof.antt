@@ -1,9 +1,7 @@
 -- `writing` answers the verdict of the tests of the call that writes a job: those of `lengths`, then 9 to 12. Assumes nothing.
-use mathlib.Core.Path.{_∙_, sym, ap}
-use mathlib.Core.List.{[]}
-use Rattle.definitions.specs.Refusals.{verdict}
+use Rattle.definitions.specs.JobWriting.{writingTests}
 use Rattle.acceptance.specs.Stages.{all-remain, stage-none, stage-refuses, stage-passes, stages-end}
-use Rattle.verdicts.specs.Sizes.{writing-tests, lengths-shaped}
+use Rattle.verdicts.specs.Sizes.{lengths-shaped}
 use borrow.Author.Needs.{needs}
 use Rattle.verdicts.proofs.writing.Statement.{statement}
 use Rattle.verdicts.proofs.writing.Tie as tie
@@ -12,19 +10,19 @@ enum-told : tie.Need-enum-told
 enum-told c = search needs
 
 returns : tie.Need-returns
-returns c =
-    stage-refuses _ _ all-remain _ (c .before .before .lengths .ensures) _ (c .enum-told2 .given .1)
-    ∙ sym (ap (λ ts. verdict ts []) (writing-tests _ _))
+unfolding writingTests
+returns c = stage-refuses _ _ all-remain _ (c .before .before .lengths .ensures) _ (c .enum-told2 .given .1)
 
 values-requires : tie.Need-values-requires
 values-requires c κs =
     lengths-shaped _ _ _ _ _ _ _ _ (stage-none _ _ (c .before .before .lengths .ensures) (c .enum-told .given .1))
 
 returns-2 : tie.Need-returns-2
+unfolding writingTests
 returns-2 c =
     let job = c .before in
     let afterJob = stage-passes _ _ all-remain _ (job .before .before .lengths .ensures) (job .enum-told .given .1) in
-    stages-end _ afterJob (c .values .result) (c .values .ensures) ∙ sym (ap (λ ts. verdict ts []) (writing-tests _ _))
+    stages-end _ afterJob (c .values .result) (c .values .ensures)
 
 pub writing-spec : {M : Type 1} → statement M
 writing-spec =

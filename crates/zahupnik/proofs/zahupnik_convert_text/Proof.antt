@@ -2,6 +2,7 @@
 use mathlib.Core.Path.{sym, _∙_, ap}
 use Rattle.definitions.specs.Answers.{valued}
 use Rattle.zahupnik.specs.Returned.{number}
+use Rattle.zahupnik.specs.Positive.{text-positive}
 use Rattle.zahupnik.specs.Returning.{value-returned, refusal-returned, text-returned}
 use borrow.Author.Needs.{needs}
 use Rattle.zahupnik.proofs.zahupnik_convert_text.Statement.{statement}
@@ -28,7 +29,7 @@ returns c =
     let is = c .before .bytes .given .1 in
     record {
       text = text-returned _ _ _ _ _ _ call 0 (sym (ap (λ r. number (valued r)) is));
-      counted = value-returned _ _ _ _ (sym (ap valued is) ∙ call .answer);
+      counted = value-returned _ (text-positive _ _ _) _ _ _ (sym (ap valued is) ∙ call .answer);
     }
 
 same-length-3 : tie.Need-same-length-3
@@ -43,7 +44,7 @@ returns-2 c =
     let is = c .before .k .given .1 in
     record {
       text = text-returned _ _ _ _ _ _ call _ (sym (ap (λ r. number (valued r)) is));
-      counted = refusal-returned _ _ _ _ (sym (ap valued is) ∙ call .answer);
+      counted = refusal-returned _ (text-positive _ _ _) _ _ _ (sym (ap valued is) ∙ call .answer);
     }
 
 pub zahupnik-convert-text-spec : {M : Type 1} → statement M

@@ -1,4 +1,5 @@
 -- `zahupnik_plain_expand` returns the number of the answer of `plain_calls::plain_expand`, and leaves what that call leaves. Assumes nothing.
+use Rattle.zahupnik.specs.Positive.{plain-positive}
 use Rattle.zahupnik.specs.Returning.{list-returned}
 use borrow.Author.Needs.{needs}
 use Rattle.zahupnik.proofs.zahupnik_plain_expand.Statement.{statement}
@@ -14,7 +15,7 @@ same-length : tie.Need-same-length
 same-length c = search needs
 
 returns : tie.Need-returns
-returns c = list-returned _ _ _ _ _ _ (c .before .before .before .plain-expand .ensures) (c .number .ensures)
+returns c = list-returned _ (plain-positive _ _ _) _ _ (c .before .before .before .plain-expand .ensures) (c .number .ensures)
 
 pub zahupnik-plain-expand-spec : {M : Type 1} → statement M
 zahupnik-plain-expand-spec = tie.close (tie.spec plain-expand-requires number-requires same-length returns)

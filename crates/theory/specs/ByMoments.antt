@@ -1,6 +1,6 @@
 -- Decompose by the moments, as the tree way works it.
 --   hankelProduct f p   p times the matrix whose entry (i, k) is moment i + k
---   gramDecompose f p   Adjoint of that, each entry divided by its norm
+--   momentsDecompose f p   Adjoint of that, each entry divided by its norm
 -- Proves that this is Decompose, for every convertible family and every curve: F^t H F = D read as F^{-1} = D^{-1} F^t H.
 -- The report, Figure 3. Assumes nothing.
 use mathlib.Core.Path.{_≡_, refl, sym, _∙_, ap}
@@ -29,16 +29,16 @@ use Rattle.theory.specs.RoundTrip.{convertible-decomposable, decompose-c
 unfoldable pub hankelProduct : Family → List ℕ → List ℕ
 hankelProduct f p = table (size f) (λ i. sum (size f) (λ k. getD (moments f) (i + k) 0 * getD p k 0) % f .m)
 
-unfoldable pub gramDecompose : Family → List ℕ → List ℕ
-gramDecompose f p = table (size f) (λ j. getD (adjoint f (hankelProduct f p)) j 0 * inverse (f .m) (norm f j) % f .m)
+unfoldable pub momentsDecompose : Family → List ℕ → List ℕ
+momentsDecompose f p = table (size f) (λ j. getD (adjoint f (hankelProduct f p)) j 0 * inverse (f .m) (norm f j) % f .m)
 
 pub hankelProduct-curve : (f : Family) → 0 < f .m → (p : List ℕ) → Curve f (hankelProduct f p)
 unfolding hankelProduct
 hankelProduct-curve f pos p = table-curve f _ (λ i h. mod-lt _ pos)
 
-pub gramDecompose-curve : (f : Family) → 0 < f .m → (p : List ℕ) → Curve f (gramDecompose f p)
-unfolding gramDecompose
-gramDecompose-curve f pos p = table-curve f _ (λ i h. mod-lt _ pos)
+pub momentsDecompose-curve : (f : Family) → 0 < f .m → (p : List ℕ) → Curve f (momentsDecompose f p)
+unfolding momentsDecompose
+momentsDecompose-curve f pos p = table-curve f _ (λ i h. mod-lt _ pos)
 
 module _ (f : Family) (pos : 0 < f .m) where
   abbrev m : ℕ
@@ -66,9 +66,9 @@ module _ (f : Family) (pos : 0 < f .m) where
       ∙ simp (res-mod m pos, residue-sum m pos, res-mul m pos)
 
   -- entry j is F_j against p
-  entries-gram : (p : List ℕ) (j : ℕ) → j < size f → E (adjoint f (hankelProduct f p)) j
+  entries-hankel : (p : List ℕ) (j : ℕ) → j < size f → E (adjoint f (hankelProduct f p)) j
       ≡ form Q (size f) (E (moments f)) (term Q ρ (suc j)) (E p)
-  entries-gram p j h = entries-adjoint f pos (hankelProduct f p) j h
+  entries-hankel p j h = entries-adjoint f pos (hankelProduct f p) j h
       ∙ Sum.sum-cong Q (size f) (λ i g. Q .mul-comm (E (hankelProduct f p) i) (term Q ρ (suc j) i)
       ∙ ap (λ t. term Q ρ (suc j) i ⊗ t)
       (entries-hankelProduct p i g ∙ Sum.sum-cong Q (size f) (λ k l. Q .mul-comm (E (moments f) (i + k)) (E p k))))
@@ -76,25 +76,25 @@ module _ (f : Family) (pos : 0 < f .m) where
 
   module _ (c : Convertible f) where
     -- so it is entry j of the curve that expands to p, times norm j
-    entries-gram-expand : (u : List ℕ) (j : ℕ) → j < size f → E (adjoint f (hankelProduct f (expand f u))) j ≡ E u j ⊗ E (norms f) j
-    entries-gram-expand u j h = entries-gram (expand f u) j h ∙ form-cong Q (size f) (E (moments f)) (λ i l. refl) (entries-expand f pos u)
+    entries-hankel-expand : (u : List ℕ) (j : ℕ) → j < size f → E (adjoint f (hankelProduct f (expand f u))) j ≡ E u j ⊗ E (norms f) j
+    entries-hankel-expand u j h = entries-hankel (expand f u) j h ∙ form-cong Q (size f) (E (moments f)) (λ i l. refl) (entries-expand f pos u)
         ∙ form-row (convertible-moments f pos c) (convertible-norms f pos c) j (E u) (le-of-suc-le-suc h)
 
-    entries-gramDecompose : (u : List ℕ) (j : ℕ) → j < size f → E (gramDecompose f (expand f u)) j ≡ E u j
-    unfolding gramDecompose
-    entries-gramDecompose u j h =
+    entries-momentsDecompose : (u : List ℕ) (j : ℕ) → j < size f → E (momentsDecompose f (expand f u)) j ≡ E u j
+    unfolding momentsDecompose
+    entries-momentsDecompose u j h =
         ap ι (table-entry (size f) (λ j. getD (adjoint f (hankelProduct f (expand f u))) j 0 * inverse m (norm f j) % m) j 0 h)
-        ∙ simp (res-mod m pos, res-mul m pos) (ap (λ t. t ⊗ ι (inverse m (norm f j))) (entries-gram-expand u j h)
+        ∙ simp (res-mod m pos, res-mul m pos) (ap (λ t. t ⊗ ι (inverse m (norm f j))) (entries-hankel-expand u j h)
         ∙ Q .mul-assoc (E u j) (E (norms f) j) (ι (inverse m (norm f j))) ∙ ap (λ t. E u j ⊗ t) norm-inverse ∙ Q .mul-one (E u j))
       where
         norm-inverse : E (norms f) j ⊗ ι (inverse m (norm f j)) ≡ Q .one
         norm-inverse = rw (norms-entry f j h) (residue-inverse m pos (norm f j) (rw (norms-entry f j h) at (norms-have-inverses f c j h)))
 
-    pub gram-expand : (u : List ℕ) → Curve f u → gramDecompose f (expand f u) ≡ u
-    gram-expand u cu = curves-equal-residues f (gramDecompose f (expand f u)) u (gramDecompose-curve f pos (expand f u)) cu pos
-        (entries-gramDecompose u)
+    pub moments-expand : (u : List ℕ) → Curve f u → momentsDecompose f (expand f u) ≡ u
+    moments-expand u cu = curves-equal-residues f (momentsDecompose f (expand f u)) u (momentsDecompose-curve f pos (expand f u)) cu pos
+        (entries-momentsDecompose u)
 
-pub gram-decompose : (f : Family) → Convertible f → (p : List ℕ) → Curve f p → gramDecompose f p ≡ decompose f p
-gram-decompose f c p cp = let two : 2 ≤ f .m = c .modulus in let pos : 0 < f .m = omega arith in
-    ap (gramDecompose f) (sym (expand-decompose f (convertible-decomposable f c) p cp))
-    ∙ gram-expand f pos c (decompose f p) (decompose-curve f pos p)
+pub moments-decompose : (f : Family) → Convertible f → (p : List ℕ) → Curve f p → momentsDecompose f p ≡ decompose f p
+moments-decompose f c p cp = let two : 2 ≤ f .m = c .modulus in let pos : 0 < f .m = omega arith in
+    ap (momentsDecompose f) (sym (expand-decompose f (convertible-decomposable f c) p cp))
+    ∙ moments-expand f pos c (decompose f p) (decompose-curve f pos p)

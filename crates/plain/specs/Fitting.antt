@@ -1,5 +1,5 @@
 -- The family and the curve that a conversion's lists stand for, as the loops know them.
---   Shaped f u n   the family has n - 1 rows, the list is a curve of it, and both fit the local arrays
+--   Fitting f u n   the family has n - 1 rows, the list is a curve of it, and both fit the local arrays
 --   RowsBelow f    every row is below m, those past the end too, which read as the closing row
 -- Proved: the lists that a conversion is lent stand for such a family and curve.
 -- Assumes nothing.
@@ -15,7 +15,7 @@ use Rattle.definitions.specs.Family.{Family, Row, RowBelow, Curve, greatestModu
 use Rattle.lists.specs.Lent.{Long, LentRows, lent, lent-size, lent-inside, lent-past}
 use Rattle.plain.specs.Input.{ConvertInput}
 
-pub record Shaped (f : Family) (u : List ℕ) (n : ℕ) : Type 0 where
+pub record Fitting (f : Family) (u : List ℕ) (n : ℕ) : Type 0 where
   pub positive : 0 < f .m
   pub greatest : f .m ≤ greatestModulus
   pub sized : size f ≡ n
@@ -38,8 +38,8 @@ module _ {m n : ℕ} {a b c u output : List ℕ} (input : ConvertInput m a b c u
   two = input .rows .modulus .least
 
   -- whatever the list of the a, if it is long enough
-  pub input-shaped : (xs : List ℕ) → n - 1 ≤ length xs → Shaped (lent m (n - 1) xs b c ones) (take n u) n
-  input-shaped xs h =
+  pub input-fitting : (xs : List ℕ) → n - 1 ≤ length xs → Fitting (lent m (n - 1) xs b c ones) (take n u) n
+  input-fitting xs h =
       let long : Long (n - 1) xs b c = record { aLong = h; bLong = input .rows .bHolds .long; cLong = input .rows .cHolds .long } in
       let some : 1 ≤ n = input .least in
       let sized : size (lent m (n - 1) xs b c ones) ≡ n = lent-size m (n - 1) xs b c ones long ∙ omega arith in
