@@ -1,5 +1,6 @@
 // The scope paper's figures through the public calls, one line each: the figure, the answer, and what the output then holds. Each
-// output is lent full of fours, so that a refusal is seen to leave it.
+// output is lent full of fours, so that a refusal is seen to leave it. A figure is a function of its own: the more lists a function makes, the longer its
+// proof is sought.
 use definitions::Answer;
 use definitions::Valued;
 
@@ -95,20 +96,56 @@ fn norms(label: &[u8], m: u32, a: &[u32], b: &[u32], c: &[u32], output: &mut [u3
 }
 
 // R: m = 7, a = 1 2, b = 0 3, c = 1 5.
-fn on_r() {
+fn p1() {
     expand(b"P1", 7, &[1, 2], &[0, 3], &[1, 5], &[3, 0, 1], &mut [4; 3]);
+}
+
+fn p2() {
     adjoint(b"P2", 7, &[1, 2], &[0, 3], &[1, 5], &[1, 3, 2], &mut [4; 3]);
+}
+
+fn p3() {
     decompose(b"P3", 7, &[1, 2], &[0, 3], &[1, 5], &[1, 3, 2], &mut [4; 3]);
+}
+
+fn p5() {
     norms(b"P5", 7, &[1, 2], &[0, 3], &[1, 5], &mut [4; 3]);
 }
 
+fn on_r() {
+    p1();
+    p2();
+    p3();
+    p5();
+}
+
 // Families of one row or none.
-fn on_small_families() {
+fn p6() {
     expand(b"P6", 2, &[], &[], &[], &[1], &mut [4; 1]);
+}
+
+fn p7() {
     expand(b"P7", 2, &[1], &[1], &[1], &[1, 1], &mut [4; 2]);
+}
+
+fn p10() {
     expand(b"P10", 15, &[3], &[0], &[5], &[1, 1], &mut [4; 2]);
+}
+
+fn p11() {
     norms(b"P11", 7, &[], &[], &[], &mut [4; 1]);
+}
+
+fn p12() {
     norms(b"P12", 15, &[2], &[1], &[4], &mut [4; 2]);
+}
+
+fn on_small_families() {
+    p6();
+    p7();
+    p10();
+    p11();
+    p12();
 }
 
 fn on_inverses() {
@@ -117,8 +154,11 @@ fn on_inverses() {
 }
 
 // The limits of the modulus, of the number of rows and of an entry.
-fn on_limits() {
+fn modulus_1() {
     expand(b"m = 1", 1, &[], &[], &[], &[0], &mut [4; 1]);
+}
+
+fn modulus_2147483647() {
     expand(
         b"m = 2147483647",
         2147483647,
@@ -128,6 +168,9 @@ fn on_limits() {
         &[2147483646],
         &mut [4; 1],
     );
+}
+
+fn modulus_2147483648() {
     expand(
         b"m = 2147483648",
         2147483648,
@@ -137,8 +180,22 @@ fn on_limits() {
         &[0],
         &mut [4; 1],
     );
+}
+
+fn entry_6() {
     decompose(b"entry 6, m = 7", 7, &[], &[], &[], &[6], &mut [4; 1]);
+}
+
+fn entry_7() {
     decompose(b"entry 7, m = 7", 7, &[], &[], &[], &[7], &mut [4; 1]);
+}
+
+fn on_limits() {
+    modulus_1();
+    modulus_2147483647();
+    modulus_2147483648();
+    entry_6();
+    entry_7();
 }
 
 fn most_rows() -> [u32; 127] {
@@ -165,7 +222,7 @@ fn on_too_many_rows() {
 }
 
 // The row factor of last autumn: zero, m itself, or one that shares a factor with m, in a and in c.
-fn on_row_factors() {
+fn a_0_2() {
     decompose(
         b"a = 0 2",
         15,
@@ -175,6 +232,9 @@ fn on_row_factors() {
         &[1, 2, 3],
         &mut [4; 3],
     );
+}
+
+fn a_1_6() {
     decompose(
         b"a = 1 6",
         15,
@@ -184,6 +244,9 @@ fn on_row_factors() {
         &[1, 2, 3],
         &mut [4; 3],
     );
+}
+
+fn a_1_15() {
     decompose(
         b"a = 1 15",
         15,
@@ -193,6 +256,9 @@ fn on_row_factors() {
         &[1, 2, 3],
         &mut [4; 3],
     );
+}
+
+fn c_0_4() {
     decompose(
         b"c = 0 4",
         15,
@@ -202,6 +268,9 @@ fn on_row_factors() {
         &[1, 2, 3],
         &mut [4; 3],
     );
+}
+
+fn c_1_10() {
     decompose(
         b"c = 1 10",
         15,
@@ -211,6 +280,9 @@ fn on_row_factors() {
         &[1, 2, 3],
         &mut [4; 3],
     );
+}
+
+fn c_15_4() {
     decompose(
         b"c = 15 4",
         15,
@@ -220,6 +292,15 @@ fn on_row_factors() {
         &[1, 2, 3],
         &mut [4; 3],
     );
+}
+
+fn on_row_factors() {
+    a_0_2();
+    a_1_6();
+    a_1_15();
+    c_0_4();
+    c_1_10();
+    c_15_4();
 }
 
 // The tree way, in a working list of 16,389 nines: a second line shows its first number, the last that an accepted call clears, and
@@ -266,7 +347,7 @@ fn tree_adjoint(
     working(work[0], work[16383], work[16384]);
 }
 
-fn by_the_tree() {
+fn p1_by_the_tree() {
     tree_expand(
         b"P1 by the tree",
         7,
@@ -276,6 +357,9 @@ fn by_the_tree() {
         &[3, 0, 1],
         &mut [4; 3],
     );
+}
+
+fn p2_by_the_tree() {
     tree_adjoint(
         b"P2 by the tree",
         7,
@@ -285,8 +369,17 @@ fn by_the_tree() {
         &[1, 3, 2],
         &mut [4; 3],
     );
+}
+
+fn p6_by_the_tree() {
     tree_expand(b"P6 by the tree", 2, &[], &[], &[], &[1], &mut [4; 1]);
+}
+
+fn p7_by_the_tree() {
     tree_expand(b"P7 by the tree", 2, &[1], &[1], &[1], &[1, 1], &mut [4; 2]);
+}
+
+fn p10_by_the_tree() {
     tree_expand(
         b"P10 by the tree",
         15,
@@ -296,6 +389,14 @@ fn by_the_tree() {
         &[1, 1],
         &mut [4; 2],
     );
+}
+
+fn by_the_tree() {
+    p1_by_the_tree();
+    p2_by_the_tree();
+    p6_by_the_tree();
+    p7_by_the_tree();
+    p10_by_the_tree();
 }
 
 fn tree_decompose(
@@ -320,7 +421,7 @@ fn moments(label: &[u8], m: u32, a: &[u32], b: &[u32], c: &[u32], output: &mut [
     working(work[0], work[16383], work[16384]);
 }
 
-fn by_the_moments() {
+fn p3_by_the_tree() {
     tree_decompose(
         b"P3 by the tree",
         7,
@@ -330,10 +431,30 @@ fn by_the_moments() {
         &[1, 3, 2],
         &mut [4; 3],
     );
+}
+
+fn p4() {
     moments(b"P4", 7, &[1, 2], &[0, 3], &[1, 5], &mut [4; 5]);
+}
+
+fn moments_of_p11() {
     moments(b"moments of P11", 7, &[], &[], &[], &mut [4; 1]);
+}
+
+fn moments_of_p12() {
     moments(b"moments of P12", 15, &[2], &[1], &[4], &mut [4; 3]);
+}
+
+fn moments_of_p10() {
     moments(b"moments of P10", 15, &[3], &[0], &[5], &mut [4; 3]);
+}
+
+fn by_the_moments() {
+    p3_by_the_tree();
+    p4();
+    moments_of_p11();
+    moments_of_p12();
+    moments_of_p10();
 }
 
 fn short() -> [u32; 16383] {
