@@ -99,20 +99,21 @@ numberTest m x = test 12 (notBelow m x)
 unfoldable pub numberInverseTest : ℕ → ℕ → Test
 numberInverseTest m x = test 13 (noInverse m x)
 
--- the stages of a family: its shape, from the modulus and the lengths of its lists, and its rows
+-- the stages of a family: its shape, 3 4 5, from the modulus and the lengths of its lists
 unfoldable pub shapeTests : ℕ → ℕ → ℕ → ℕ → List Test
 shapeTests m a b c = modulusTest m ∷ equalLengthsTest a b c ∷ rowCountTest a ∷ []
 
 abbrev pub familyShape : Family → List Test
 familyShape f = shapeTests (f .m) (length (f .a)) (length (f .b)) (length (f .c))
 
+-- and its rows, 9 10 11; of the c those from place first on
 unfoldable pub rowInverses : ℕ → Family → List Test
 rowInverses first f = aInverseTest f ∷ cInverseTest first f ∷ []
 
 unfoldable pub familyRows : Family → List Test
 familyRows f = entriesTest f ∷ rowInverses firstC f
 
--- the rows of a family, and the entries of a curve
+-- the rows of a family, and the entries of a curve, 12
 unfoldable pub valueTests : Family → List ℕ → List Test
 valueTests f u = familyRows f ++ (curveEntriesTest (f .m) u ∷ [])
 
