@@ -74,5 +74,9 @@ pub chosen-positive : (choice : Choice) (job : Operation → WrittenJob) (output
 unfolding chosenTests writingTests
 chosen-positive Choice.Nothing job output = search needs
 chosen-positive (Choice.Named operation) job output =
-    let w = job operation in
-    (λ e. omega arith, given-append _ (lengthTests _ _ _ _ _ _ _ output) _ (lengths-positive _ _ _ _ _ _ _ output) (values-positive (meant w .family) (w .curve)))
+    let w = job operation in (
+      λ e. omega arith,
+      given-append _ (lengthTests _ _ _ _ _ _ _ output) _
+          (lengths-positive _ _ _ _ _ _ _ output)
+          (values-positive (meant w .family) (w .curve)),
+    )
