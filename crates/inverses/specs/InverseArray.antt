@@ -75,18 +75,12 @@ module _ {m : ℕ} {a b c : List ℕ} (accepted : Accepted (family m a b c)) whe
   whole-inverts-c array = c-inverts (accepted-long accepted) (accepted-lent accepted) array 1 (λ _. one-closes)
 
   module _ {zeros : List ℕ} (zerosAre : zeros ≡ replicate 128 0) where
-    array-is : {first : ℕ} {list v : List ℕ} → v ≡ filled (inverseFrom m first list) (length a) zeros
+    pub array-is : {first : ℕ} {list v : List ℕ} → v ≡ filled (inverseFrom m first list) (length a) zeros
         → InverseArray m first (length a) list v
     array-is e = array-holds (length a) (accepted .rowCount) zeros zerosAre (omega (arith, accepted .modulus .least)) e
 
     pub a-room : (length a ≤ length a) × (length a ≤ length zeros)
     a-room = (omega arith, array-room (length a) (accepted .rowCount) zeros zerosAre)
 
-    pub a-array : {v : List ℕ} → v ≡ filled (inverseFrom m 0 a) (length a) zeros → InverseArray m 0 (length a) a v
-    a-array = array-is
-
     pub c-room : (length a ≤ length c) × (length a ≤ length zeros)
     c-room = (omega (arith, accepted .cLength), array-room (length a) (accepted .rowCount) zeros zerosAre)
-
-    pub c-array : {w : List ℕ} → w ≡ filled (inverseFrom m 1 c) (length a) zeros → InverseArray m 1 (length a) c w
-    c-array = array-is

@@ -11,7 +11,7 @@
 -- fits the 16,384 numbers. Proved: lengths and places; that a stored tree holds its halves and its node; what is kept where something is
 -- written elsewhere; entries below m. Assumes nothing.
 use mathlib.Core.Path.{_≡_, refl, sym, _∙_, ap, ap₂}
-use mathlib.Core.List.{List, [], _∷_, _++_}
+use mathlib.Core.List.{List, _++_}
 use mathlib.Core.Logic.{inl, inr}
 use Prim.Native.Nat.{ℕ, zero, suc, _+_, _*_, _-_, _/_, _^_, _≤_, _<_}
 use native.Mathlib.Decide.{le-ind}

@@ -17,8 +17,8 @@ use lib.Seq.{length-take-le, getD-take, getD-drop, set-split}
 use Rattle.definitions.specs.Answers.{cleared}
 use Rattle.definitions.specs.Family.{Family, ones, rows, size, rowAt}
 use Rattle.definitions.specs.Refusals.{workLength}
-use Rattle.lists.specs.Held.{Holds, Output, held-below}
-use Rattle.lists.specs.Lent.{LentRows, lent}
+use Rattle.lists.specs.Held.{Output, held-below}
+use Rattle.lists.specs.Lent.{lent}
 use Rattle.numbers.specs.Lists.{filled, table-equal}
 use Rattle.numbers.specs.Products.{Below, plusProduct}
 use Rattle.numbers.specs.Regions.{part, written, Apart, ResiduesIn, KeptOutside, part-length, part-take, part-both, part-residues, part-written}

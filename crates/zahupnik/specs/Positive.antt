@@ -1,7 +1,7 @@
 -- No test has the number 0, which tells of the finished kind.
 --   Positive ts   the number of each test of ts that holds is above 0
 -- Proved: so it is for the tests of each exported function. Assumes nothing.
-use mathlib.Core.List.{List, [], _∷_, _++_}
+use mathlib.Core.List.{List, _++_}
 use Prim.Native.Nat.{ℕ, _<_}
 use native.Mathlib.Omega.{arith}
 use borrow.Author.Needs.{needs}

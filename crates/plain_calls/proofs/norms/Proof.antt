@@ -2,7 +2,7 @@
 -- list. Assumes nothing.
 use mathlib.Core.Path.{_∙_}
 use Rattle.plain_calls.specs.PlainCall.{tests-refuse, tests-finish, norms-input}
-use Rattle.inverses.specs.InverseArray.{a-room, a-array, whole-inverts}
+use Rattle.inverses.specs.InverseArray.{a-room, array-is, whole-inverts}
 use Rattle.plain_calls.specs.PlainCore.{norms-core, norms-written}
 use borrow.Author.Needs.{needs}
 use Rattle.plain_calls.proofs.norms.Statement.{statement}
@@ -26,7 +26,7 @@ norms-requires-2 c κs =
     let zeros = filled .before .before in
     let passed = zeros .before in
     let input = norms-input _ (passed .before .before .norms .ensures) (passed .enum-told .given .1) in
-    norms-core _ input (a-array (input .accepted) (zeros .zeros .ensures) (filled .of-list .ensures))
+    norms-core _ input (array-is (input .accepted) (zeros .zeros .ensures) (filled .of-list .ensures))
 
 returns-2 : tie.Need-returns-2
 returns-2 c =
@@ -36,7 +36,7 @@ returns-2 c =
     let tested = passed .before .before in
     let args = tested .before .before .before .before .before .args in
     let input = norms-input _ (tested .norms .ensures) (passed .enum-told .given .1) in
-    let inverted = a-array (input .accepted) (zeros .zeros .ensures) (filled .of-list .ensures) in
+    let inverted = array-is (input .accepted) (zeros .zeros .ensures) (filled .of-list .ensures) in
     tests-finish _ _ (tested .norms .ensures) (passed .enum-told .given .1)
     (c .before .before .norms2 .ensures (args .a .now) (args .b .now) 1 1 (whole-inverts (input .accepted) inverted)
     ∙ norms-written (args .output .now) input)

@@ -3,7 +3,7 @@
 use mathlib.Core.Path.{_∙_}
 use Rattle.definitions.specs.Conversion.{decompose}
 use Rattle.plain_calls.specs.PlainCall.{tests-refuse, tests-finish, plain-input}
-use Rattle.inverses.specs.InverseArray.{a-room, a-array, whole-inverts}
+use Rattle.inverses.specs.InverseArray.{a-room, array-is, whole-inverts}
 use Rattle.plain_calls.specs.PlainCore.{decompose-core, plain-written}
 use borrow.Author.Needs.{needs}
 use Rattle.plain_calls.proofs.plain_decompose.Statement.{statement}
@@ -27,7 +27,7 @@ decompose-requires c κs =
     let zeros = filled .before .before in
     let passed = zeros .before in
     let input = plain-input _ (passed .before .before .plain .ensures) (passed .enum-told .given .1) in
-    decompose-core _ input (a-array (input .accepted) (zeros .zeros .ensures) (filled .of-list .ensures))
+    decompose-core _ input (array-is (input .accepted) (zeros .zeros .ensures) (filled .of-list .ensures))
 
 returns-2 : tie.Need-returns-2
 returns-2 c =
@@ -37,7 +37,7 @@ returns-2 c =
     let tested = passed .before .before in
     let args = tested .before .before .before .before .before .before .args in
     let input = plain-input _ (tested .plain .ensures) (passed .enum-told .given .1) in
-    let inverted = a-array (input .accepted) (zeros .zeros .ensures) (filled .of-list .ensures) in
+    let inverted = array-is (input .accepted) (zeros .zeros .ensures) (filled .of-list .ensures) in
     tests-finish _ _ (tested .plain .ensures) (passed .enum-told .given .1)
     (c .before .before .decompose .ensures (args .a .now) (whole-inverts (input .accepted) inverted)
     ∙ plain-written (args .output .now) input decompose)

@@ -1,7 +1,7 @@
 -- `moments` meets its promise: it answers the verdict of its tests, and its core, lent the inverses of the a, writes the definition's
 -- list and leaves the working list clear. Assumes nothing.
 use Rattle.tree_calls.specs.MomentCore.{moments-accepted, moments-input, moments-made}
-use Rattle.inverses.specs.InverseArray.{a-room, a-array}
+use Rattle.inverses.specs.InverseArray.{a-room, array-is}
 use Rattle.tree_calls.specs.TreeCore.{both-kept}
 use borrow.Author.Needs.{needs}
 use Rattle.tree_calls.proofs.moments.Statement.{statement}
@@ -44,7 +44,7 @@ moments-requires-2 c κs =
     let passed = filled .before .before .before in
     let input = moments-accepted (passed .before .before .moments .ensures) (passed .enum-told .given .1) in
     moments-input (input .accepted)
-    (a-array (input .accepted) (filled .before .before .zeros .ensures) (filled .of-list .ensures)) input
+    (array-is (input .accepted) (filled .before .before .zeros .ensures) (filled .of-list .ensures)) input
 
 same-length : tie.Need-same-length
 same-length c = search needs

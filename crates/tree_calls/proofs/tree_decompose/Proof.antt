@@ -3,7 +3,7 @@
 use mathlib.Core.Path.{refl}
 use Rattle.definitions.specs.Conversion.{decompose}
 use Rattle.tree_calls.specs.MomentCore.{decompose-input}
-use Rattle.inverses.specs.InverseArray.{a-room, a-array, c-room, c-array}
+use Rattle.inverses.specs.InverseArray.{a-room, c-room, array-is}
 use Rattle.tree_calls.specs.TreeCore.{both-kept, tree-input, tree-made}
 use borrow.Author.Needs.{needs}
 use Rattle.tree_calls.proofs.tree_decompose.Statement.{statement}
@@ -61,8 +61,8 @@ decompose-requires c κs =
     let passed = first .before .before .before in
     let input = tree-input (passed .before .before .tree .ensures) (passed .enum-told .given .1) in
     decompose-input (input .plain .accepted)
-    (a-array (input .plain .accepted) (first .before .before .zeros .ensures) (first .of-list .ensures))
-    (c-array (input .plain .accepted) (second .before .before .zeros2 .ensures) (second .of-list2 .ensures)) input
+    (array-is (input .plain .accepted) (first .before .before .zeros .ensures) (first .of-list .ensures))
+    (array-is (input .plain .accepted) (second .before .before .zeros2 .ensures) (second .of-list2 .ensures)) input
 
 same-length : tie.Need-same-length
 same-length c = search needs
