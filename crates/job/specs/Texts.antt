@@ -36,7 +36,8 @@ pub record Short (t output work : List ℕ) : Type 0 where
   pub left : Remaining (tests t output work) (formed t output work)
 
 module _ (t output work : List ℕ) where
-  refused-text : (k : ℕ) → refused k ≡ verdict (tests t output work) (length (reply t) ∷ []) → TextConverted t (Valued.Refused k) output output work work
+  refused-text : (k : ℕ) → refused k ≡ verdict (tests t output work) (length (reply t) ∷ [])
+      → TextConverted t (Valued.Refused k) output output work work
   refused-text k e = record { answer = e; written = refl; wiped = refl }
 
   module _ (r : Answer) (says : answered r ≡ verdict (textLengthTest (length t) ∷ []) []) where
