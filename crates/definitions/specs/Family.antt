@@ -80,11 +80,11 @@ pub record RowBelow (m : ℕ) (row : Row) : Type 0 where
   pub bBelow : row .b < m
   pub cBelow : row .c < m
 
--- the place of the first row whose c must have an inverse
+-- the place of the first row whose c must have an inverse: row 2, since c_1 multiplies F_{-1} = 0 only
 abbrev pub firstC : ℕ
-firstC = 0
+firstC = 1
 
--- the entries and the inverses are asked of rows 1 to n; 1 1 1 passes as row n for every modulus
+-- the entries and the inverses of the a are asked of rows 1 to n, those of the c of rows 2 to n; 1 1 1 passes as row n for every modulus
 pub record Accepted (f : Family) : Type 0 where
   pub modulus : Modulus (f .m)
   pub bLength : length (f .b) ≡ rows f
@@ -94,7 +94,7 @@ pub record Accepted (f : Family) : Type 0 where
   pub aInverse : (i : ℕ) → i < size f → HasInverse (f .m) (rowAt f i .a)
   pub cInverse : (i : ℕ) → firstC ≤ i → i < size f → HasInverse (f .m) (rowAt f i .c)
 
--- the a of rows 1 to n and the c of rows 2 to n have inverses; c_1 multiplies F_{-1} = 0 only
+-- the a of rows 1 to n and the c of rows 2 to n have inverses
 pub record Convertible (f : Family) : Type 0 where
   pub modulus : 2 ≤ f .m
   pub aInverse : (i : ℕ) → i < size f → HasInverse (f .m) (rowAt f i .a)

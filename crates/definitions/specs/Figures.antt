@@ -3,7 +3,8 @@
 --   handed    what the call hands out: its verdict, with the definition's list or number as the values
 --   figures   each call beside what it must hand out
 --   examples  the same of our own, for what the paper's figures leave untouched
--- figures-hold and examples-hold: every row of the tables is right, by computation from the definitions. Assumes nothing.
+--   firstCs   families whose c_1 has no inverse, by every operation
+-- figures-hold, examples-hold and first-cs-hold: every row of the tables is right, by computation from the definitions. Assumes nothing.
 use mathlib.Core.Path.{_≡_, refl}
 use mathlib.Core.List.{List, [], _∷_, map}
 use Prim.Native.Nat.{ℕ}
@@ -93,10 +94,46 @@ examples =
     ∷ Norms (family 7 (1 ∷ 0 ∷ []) (0 ∷ 0 ∷ []) (1 ∷ 1 ∷ [])) gives refused 10
     ∷ Norms (family 7 (1 ∷ 7 ∷ []) (0 ∷ 0 ∷ []) (1 ∷ 1 ∷ [])) gives refused 9
     ∷ Norms (family 15 (1 ∷ 1 ∷ []) (0 ∷ 0 ∷ []) (1 ∷ 6 ∷ [])) gives refused 11
-    ∷ Expand (family 15 (1 ∷ []) (0 ∷ []) (0 ∷ [])) (15 ∷ 15 ∷ []) gives refused 11
+    ∷ Expand (family 15 (1 ∷ 1 ∷ []) (0 ∷ 0 ∷ []) (1 ∷ 0 ∷ [])) (15 ∷ 15 ∷ 15 ∷ []) gives refused 11
     ∷ Expand (family 15 (1 ∷ []) (0 ∷ []) (1 ∷ [])) (15 ∷ 15 ∷ []) gives refused 12
     ∷ Expand (family 2147483647 [] [] []) [] gives refused 6
     ∷ Expand (family 2147483648 [] [] []) [] gives refused 3
+    ∷ []
+
+-- a c_1 that is 0; one that shares 5 with 35, in the family of four rows; and one that shares 3 with 15, in P12's, which has one row
+abbrev pub zeroFirst : Family
+zeroFirst = family 35 (1 ∷ 3 ∷ []) (0 ∷ 0 ∷ []) (0 ∷ 6 ∷ [])
+
+abbrev pub sharedFirst : Family
+sharedFirst = family 35 (2 ∷ 3 ∷ 4 ∷ 6 ∷ []) (1 ∷ 0 ∷ 34 ∷ 5 ∷ []) (10 ∷ 8 ∷ 9 ∷ 11 ∷ [])
+
+abbrev pub onlyRow : Family
+onlyRow = family 15 (2 ∷ []) (1 ∷ []) (6 ∷ [])
+
+-- each operation finishes on them; what must still be refused: a c_1 that is not below m, an a_1 without an inverse, and a c_2
+abbrev pub firstCs : List Figure
+firstCs =
+    Expand zeroFirst (1 ∷ 2 ∷ 3 ∷ []) gives finished (19 ∷ 2 ∷ 9 ∷ [])
+    ∷ Adjoint zeroFirst (1 ∷ 2 ∷ 3 ∷ []) gives finished (1 ∷ 2 ∷ 15 ∷ [])
+    ∷ Decompose zeroFirst (19 ∷ 2 ∷ 9 ∷ []) gives finished (1 ∷ 2 ∷ 3 ∷ [])
+    ∷ Moments zeroFirst gives finished (1 ∷ 0 ∷ 33 ∷ 0 ∷ 28 ∷ [])
+    ∷ Norms zeroFirst gives finished (1 ∷ 33 ∷ 6 ∷ [])
+    ∷ Totals zeroFirst (1 ∷ 2 ∷ 3 ∷ []) (4 ∷ 5 ∷ 6 ∷ []) gives finished (22 ∷ 22 ∷ [])
+    ∷ Expand sharedFirst (1 ∷ 2 ∷ 3 ∷ 4 ∷ 5 ∷ []) gives finished (6 ∷ 31 ∷ 7 ∷ 1 ∷ 20 ∷ [])
+    ∷ Adjoint sharedFirst (1 ∷ 2 ∷ 3 ∷ 4 ∷ 5 ∷ []) gives finished (1 ∷ 5 ∷ 32 ∷ 34 ∷ 4 ∷ [])
+    ∷ Decompose sharedFirst (6 ∷ 31 ∷ 7 ∷ 1 ∷ 20 ∷ []) gives finished (1 ∷ 2 ∷ 3 ∷ 4 ∷ 5 ∷ [])
+    ∷ Moments sharedFirst gives finished (18 ∷ 26 ∷ 33 ∷ 13 ∷ 20 ∷ 9 ∷ 30 ∷ 26 ∷ 19 ∷ [])
+    ∷ Norms sharedFirst gives finished (18 ∷ 9 ∷ 18 ∷ 8 ∷ 22 ∷ [])
+    ∷ Totals sharedFirst (1 ∷ 2 ∷ 3 ∷ 4 ∷ 5 ∷ []) (2 ∷ 7 ∷ 1 ∷ 8 ∷ 2 ∷ []) gives finished (27 ∷ 27 ∷ [])
+    ∷ Expand onlyRow (1 ∷ 2 ∷ []) gives finished (3 ∷ 4 ∷ [])
+    ∷ Adjoint onlyRow (1 ∷ 2 ∷ []) gives finished (1 ∷ 5 ∷ [])
+    ∷ Decompose onlyRow (3 ∷ 4 ∷ []) gives finished (1 ∷ 2 ∷ [])
+    ∷ Moments onlyRow gives finished (8 ∷ 11 ∷ 13 ∷ [])
+    ∷ Norms onlyRow gives finished (8 ∷ 14 ∷ [])
+    ∷ Totals onlyRow (1 ∷ 2 ∷ []) (3 ∷ 4 ∷ []) gives finished (1 ∷ 1 ∷ [])
+    ∷ Norms (family 15 (2 ∷ []) (1 ∷ []) (15 ∷ [])) gives refused 9
+    ∷ Norms (family 15 (6 ∷ []) (1 ∷ []) (0 ∷ [])) gives refused 10
+    ∷ Norms (family 35 (1 ∷ 3 ∷ []) (0 ∷ 0 ∷ []) (0 ∷ 0 ∷ [])) gives refused 11
     ∷ []
 
 -- a table holds: each call hands out what stands beside it
@@ -110,6 +147,10 @@ figures-hold = refl
 pub examples-hold : Hold examples
 unfolding handed
 examples-hold = refl
+
+pub first-cs-hold : Hold firstCs
+unfolding handed
+first-cs-hold = refl
 
 pub greatest-expanded : expand (family 2147483647 [] [] []) (2147483646 ∷ []) ≡ 2147483646 ∷ []
 unfolding handed

@@ -4,7 +4,8 @@
 --   number v        the number of a verdict, and 0 for a finished one
 -- plain-order, tree-order, moments-order, norms-order, text-order and writing-order: the number that each input gives. So no test of a call is left out,
 -- none stands before one of a lower number, and each condition holds where it must; a test that a call skips gives way to the next.
--- closing-order: the tests on rows look at the closing row. c-from: from which row on 11 looks at the c.
+-- first-order and closing-order: the tests on rows look at row 1, but for 11, and at the closing row. c-from: from which row on 11 looks
+-- at the c.
 -- curves-asked: which operations of a job take a curve, and which none. greatest-written: the greatest modulus in a text, and one more.
 -- outputs-asked: the outputs that the call that writes a job takes.
 -- Assumes nothing.
@@ -33,9 +34,9 @@ pub record Lent : Type 0 where
 abbrev lend : Family → List ℕ → ℕ → ℕ → Lent
 lend family curve output work = record { family = family; curve = curve; output = output; work = work }
 
--- one row modulo 15
-abbrev pub row : ℕ → ℕ → ℕ → Family
-row a b c = family 15 (a ∷ []) (b ∷ []) (c ∷ [])
+-- two rows modulo 15, of which the first is 1 0 0
+abbrev pub second : ℕ → ℕ → ℕ → Family
+second a b c = family 15 (1 ∷ a ∷ []) (0 ∷ b ∷ []) (0 ∷ c ∷ [])
 
 -- 15 is not below 15 and has no inverse; nor has 0
 abbrev pub many : List ℕ
@@ -48,18 +49,18 @@ mended output =
     ∷ lend (family 15 many [] many) (15 ∷ []) 0 0
     ∷ lend (family 15 many many (15 ∷ many)) (15 ∷ []) 0 0
     ∷ lend (family 15 many many many) (15 ∷ []) 0 0
-    ∷ lend (row 15 15 15) (15 ∷ []) 0 0
-    ∷ lend (row 15 15 15) (15 ∷ 15 ∷ 15 ∷ []) 0 0
-    ∷ lend (row 15 15 15) (15 ∷ 15 ∷ []) 0 0
-    ∷ lend (row 15 15 15) (15 ∷ 15 ∷ []) (suc output) 0
-    ∷ lend (row 15 15 15) (15 ∷ 15 ∷ []) output 16383
-    ∷ lend (row 15 0 0) (15 ∷ 15 ∷ []) output 16384
-    ∷ lend (row 0 15 0) (15 ∷ 15 ∷ []) output 16384
-    ∷ lend (row 0 0 15) (15 ∷ 15 ∷ []) output 16384
-    ∷ lend (row 0 0 0) (15 ∷ 15 ∷ []) output 16384
-    ∷ lend (row 1 0 0) (15 ∷ 15 ∷ []) output 16384
-    ∷ lend (row 1 0 1) (0 ∷ 15 ∷ []) output 16384
-    ∷ lend (row 1 0 1) (0 ∷ 14 ∷ []) output 16385
+    ∷ lend (second 15 15 15) (15 ∷ []) 0 0
+    ∷ lend (second 15 15 15) (15 ∷ 15 ∷ 15 ∷ 15 ∷ []) 0 0
+    ∷ lend (second 15 15 15) (15 ∷ 15 ∷ 15 ∷ []) 0 0
+    ∷ lend (second 15 15 15) (15 ∷ 15 ∷ 15 ∷ []) (suc output) 0
+    ∷ lend (second 15 15 15) (15 ∷ 15 ∷ 15 ∷ []) output 16383
+    ∷ lend (second 15 0 0) (15 ∷ 15 ∷ 15 ∷ []) output 16384
+    ∷ lend (second 0 15 0) (15 ∷ 15 ∷ 15 ∷ []) output 16384
+    ∷ lend (second 0 0 15) (15 ∷ 15 ∷ 15 ∷ []) output 16384
+    ∷ lend (second 0 0 0) (15 ∷ 15 ∷ 15 ∷ []) output 16384
+    ∷ lend (second 1 0 0) (15 ∷ 15 ∷ 15 ∷ []) output 16384
+    ∷ lend (second 1 0 1) (0 ∷ 0 ∷ 15 ∷ []) output 16384
+    ∷ lend (second 1 0 1) (0 ∷ 0 ∷ 14 ∷ []) output 16385
     ∷ []
 
 abbrev pub number : Verdict → ℕ
@@ -69,25 +70,34 @@ number (refused k) = k
 abbrev pub numbers : (Lent → List Test) → ℕ → List ℕ
 numbers tests output = map (λ x. number (verdict (tests x) [])) (mended output)
 
-pub plain-order : numbers (λ x. plainTests (x .family) (x .curve) (x .output)) 2
+pub plain-order : numbers (λ x. plainTests (x .family) (x .curve) (x .output)) 3
     ≡ 3 ∷ 4 ∷ 4 ∷ 4 ∷ 5 ∷ 6 ∷ 6 ∷ 7 ∷ 7 ∷ 9 ∷ 9 ∷ 9 ∷ 9 ∷ 10 ∷ 11 ∷ 12 ∷ 0 ∷ []
 unfolding handed
 plain-order = refl
 
-pub tree-order : numbers (λ x. treeTests (x .family) (x .curve) (x .output) (x .work)) 2
+pub tree-order : numbers (λ x. treeTests (x .family) (x .curve) (x .output) (x .work)) 3
     ≡ 3 ∷ 4 ∷ 4 ∷ 4 ∷ 5 ∷ 6 ∷ 6 ∷ 7 ∷ 7 ∷ 8 ∷ 9 ∷ 9 ∷ 9 ∷ 10 ∷ 11 ∷ 12 ∷ 0 ∷ []
 unfolding handed treeTests
 tree-order = refl
 
-pub moments-order : numbers (λ x. momentsTests (x .family) (x .output) (x .work)) 3
+pub moments-order : numbers (λ x. momentsTests (x .family) (x .output) (x .work)) 5
     ≡ 3 ∷ 4 ∷ 4 ∷ 4 ∷ 5 ∷ 7 ∷ 7 ∷ 7 ∷ 7 ∷ 8 ∷ 9 ∷ 9 ∷ 9 ∷ 10 ∷ 11 ∷ 0 ∷ 0 ∷ []
 unfolding handed
 moments-order = refl
 
-pub norms-order : numbers (λ x. normsTests (x .family) (x .output)) 2
+pub norms-order : numbers (λ x. normsTests (x .family) (x .output)) 3
     ≡ 3 ∷ 4 ∷ 4 ∷ 4 ∷ 5 ∷ 7 ∷ 7 ∷ 7 ∷ 7 ∷ 9 ∷ 9 ∷ 9 ∷ 9 ∷ 10 ∷ 11 ∷ 0 ∷ 0 ∷ []
 unfolding handed
 norms-order = refl
+
+-- row 1 modulo 15, alone, with every fault and then one fault after another mended: the last, a c that is 0, is none
+abbrev pub row : ℕ → ℕ → ℕ → Family
+row a b c = family 15 (a ∷ []) (b ∷ []) (c ∷ [])
+
+pub first-order : map (λ f. number (verdict (familyRows f) []))
+    (row 15 0 0 ∷ row 0 15 0 ∷ row 0 0 15 ∷ row 0 0 0 ∷ row 1 0 0 ∷ []) ≡ 9 ∷ 9 ∷ 9 ∷ 10 ∷ 0 ∷ []
+unfolding handed
+first-order = refl
 
 -- the closing row is row n: one row 1 0 1 modulo 15, closed by rows with every fault and then one fault after another mended
 abbrev pub closedBy : Row → Family
@@ -98,8 +108,8 @@ pub closing-order : map (λ row. number (verdict (familyRows (closedBy row)) [])
 unfolding handed
 closing-order = refl
 
--- 11 from the first row on and from the second on, where the first c is 0
-pub c-from : map (λ first. cInverseTest first (row 1 0 0) .holds) (0 ∷ 1 ∷ []) ≡ true ∷ false ∷ []
+-- 11 from the first row on, from the second on and from the closing row on, where the c are 0 0 1
+pub c-from : map (λ first. cInverseTest first (second 1 0 0) .holds) (0 ∷ 1 ∷ 2 ∷ []) ≡ true ∷ true ∷ false ∷ []
 unfolding handed
 c-from = refl
 

@@ -3,7 +3,7 @@
 // specs/Answers.antt gives the paper's number and values for each case, and every promise goes through that definition.
 
 // The place of the first row whose c must have an inverse: firstC of specs/Family.antt.
-pub const FIRST_C: usize = 0;
+pub const FIRST_C: usize = 1;
 
 // The answer of a call whose result stands in a lent output.
 pub enum Answer {
