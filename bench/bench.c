@@ -7,9 +7,10 @@
  * short  r = 15 and 127, and single samples of a fraction of that: for the gate, where no time matters.
  * count  r = 127, each call once: for a run under callgrind, which writes the instructions of each call to a file of its own.
  *
- * Before it times anything it compares the answers of all participants on all FAMILIES families, and ends with 1 where two differ. Every
- * call has another family than the call before it. Buffers are not cleared between calls: an output holds the last result, the
- * working list the zeros that each tree call leaves, and clearing it is part of such a call.
+ * Before it times anything it compares the answers of all participants on all FAMILIES families, and ends with 1 where two differ. The
+ * first family has c_1 = 0: it is Legendre's where m takes it. Every call has another family than the call before it, but where the
+ * first family is held against the others: there each is timed by itself. Buffers are not cleared between calls: an output holds the last
+ * result, the working list the zeros that each tree call leaves, and clearing it is part of such a call.
  */
 #include <inttypes.h>
 #include <stdbool.h>
@@ -31,6 +32,7 @@
 enum { FAMILIES = 16 };
 
 #define SAMPLES 15
+#define MOST_FOR_ZERO_C_1 1.05
 #define TEXT_OF(number) QUOTED(number)
 #define QUOTED(number) #number
 
@@ -138,6 +140,23 @@ static size_t append_list(char *text, const char *key, const uint32_t *entries, 
     return (size_t)(at - text);
 }
 
+/* Whether P_i = ((2i - 1) / i) x P_{i-1} + ((1 - i) / i) P_{i-2} can be said modulo m for i up to r, and is taken. */
+static bool takes_legendre(uint32_t m, size_t r) {
+    for (uint32_t i = 1; i <= r; i++)
+        if (common_divisor(m, i) != 1 || common_divisor(m, 2 * i - 1) != 1) return false;
+    return true;
+}
+
+static void make_legendre(struct job *x) {
+    for (uint32_t i = 1; i <= x->r; i++) {
+        uint32_t over_i;
+        if (zahupnik_invert(x->m, i, &over_i) != ZAHUPNIK_FINISHED) fail("invert", "refuses a row of Legendre's", x);
+        x->a[i - 1] = (uint32_t)((2 * i - 1) * (uint64_t)over_i % x->m);
+        x->b[i - 1] = 0;
+        x->c[i - 1] = (uint32_t)((x->m + 1 - i) * (uint64_t)over_i % x->m);
+    }
+}
+
 static void make_jobs(uint32_t m, size_t r) {
     for (size_t i = 0; i < FAMILIES; i++) {
         struct random random = random_of_case(m, r * FAMILIES + i);
@@ -148,6 +167,8 @@ static void make_jobs(uint32_t m, size_t r) {
             x->b[k] = below(&random, m);
             x->c[k] = unit(&random, m);
         }
+        if (i == 0) x->c[0] = 0;
+        if (i == 0 && takes_legendre(m, r)) make_legendre(x);
         for (size_t k = 0; k <= r; k++) x->v[k] = below(&random, m);
         char *at = job_texts[i];
         at += append_list(at, "mod", &m, 1);
@@ -189,10 +210,11 @@ static void compare(void) {
     }
 }
 
-/* The time is the least of a call's, over the samples. */
+/* On these families in turn. The time is the least of a call's, over the samples. */
 struct participant {
     convert *convert;
-    unsigned repetitions;
+    const struct job *families;
+    unsigned count, repetitions;
     double time;
 };
 
@@ -202,10 +224,11 @@ static double seconds(void) {
     return (double)now.tv_sec + (double)now.tv_nsec * 1e-9;
 }
 
-static double time_of(convert *convert, unsigned repetitions) {
+/* How long a participant takes for its repetitions. */
+static double sample_of(const struct participant *p) {
     static uint32_t result[MOST_RESULTS];
     double start = seconds();
-    for (unsigned i = 0; i < repetitions; i++) convert(&jobs[i % FAMILIES], result);
+    for (unsigned i = 0; i < p->repetitions; i++) p->convert(&p->families[i % p->count], result);
     return seconds() - start;
 }
 
@@ -213,12 +236,12 @@ static void measure(struct participant *participants, size_t count, bool brief) 
     for (size_t i = 0; i < count; i++) {
         struct participant *p = &participants[i];
         p->repetitions = 1;
-        while ((p->time = time_of(p->convert, p->repetitions)) < (brief ? SHORT_SAMPLE_TIME : SAMPLE_TIME)) p->repetitions *= 2;
+        while ((p->time = sample_of(p)) < (brief ? SHORT_SAMPLE_TIME : SAMPLE_TIME)) p->repetitions *= 2;
         p->time /= p->repetitions;
     }
     for (size_t sample = brief ? SAMPLES : 1; sample < SAMPLES; sample++)
         for (size_t i = 0; i < count; i++) {
-            double time = time_of(participants[i].convert, participants[i].repetitions) / participants[i].repetitions;
+            double time = sample_of(&participants[i]) / participants[i].repetitions;
             if (time < participants[i].time) participants[i].time = time;
         }
 }
@@ -272,14 +295,34 @@ static void print_bounds(uint32_t m) {
     }
 }
 
+/* The first family, whose c_1 is 0, held against the mean of the others, each timed by itself. Inverse looks at no family. */
+static void print_zero_c_1(uint32_t m, size_t r, bool brief) {
+    static struct participant alone[FAMILIES];
+    printf("\nm = %" PRIu32 ", r = %zu: microseconds for a call on %s, and its time over that on the other families\n\n", m, r,
+           takes_legendre(m, r) ? "Legendre's family, whose c_1 is 0" : "a family whose c_1 is 0");
+    printf("| call | c_1 = 0 | the others | ratio | at most |\n|---|---:|---:|---:|---:|\n");
+    for (size_t i = 0; i < CALLS; i++) {
+        double others = 0;
+        if (calls[i].operation == INVERT) continue;
+        for (size_t k = 0; k < FAMILIES; k++)
+            alone[k] = (struct participant){.convert = calls[i].convert, .families = &jobs[k], .count = 1};
+        measure(alone, FAMILIES, brief);
+        for (size_t k = 1; k < FAMILIES; k++) others += alone[k].time / (FAMILIES - 1);
+        printf("| %s | %.2f | %.2f | %.2f | %.2f |\n", calls[i].name, alone[0].time * 1e6, others * 1e6, alone[0].time / others,
+               MOST_FOR_ZERO_C_1);
+    }
+}
+
 static void time_all(uint32_t m, size_t r, bool brief) {
-    for (size_t i = 0; i < CALLS; i++) participants[i].convert = calls[i].convert;
+    for (size_t i = 0; i < CALLS; i++) participants[i] = (struct participant){calls[i].convert, jobs, FAMILIES, 0, 0};
     for (size_t k = 0; k < CONTESTANTS; k++)
         for (enum operation operation = 0; operation < OPERATIONS; operation++)
-            of_contestant(k, operation)->convert = contestants[k]->convert[operation];
+            *of_contestant(k, operation) = (struct participant){contestants[k]->convert[operation], jobs, FAMILIES, 0, 0};
     measure(participants, sizeof participants / sizeof *participants, brief);
     print_table(m, r);
-    if (r == MOST_ROWS && !brief) print_bounds(m);
+    if (r != MOST_ROWS) return;
+    print_zero_c_1(m, r, brief);
+    if (!brief) print_bounds(m);
 }
 
 /* The second call is counted. A dump sets all counts to zero; this one is named by the modulus, the contestant and the operation, or

@@ -14,7 +14,7 @@ enum { MOST_ROWS = 127, MOST_RESULTS = 2 * MOST_ROWS + 1 };
 
 enum operation { INVERT, EXPAND, ADJOINT, DECOMPOSE, NORMS, MOMENTS, OPERATIONS };
 
-/* A family of r rows, whose a and c have inverses modulo m, and the r + 1 entries of v, of which INVERT takes the inverse of a[0]
+/* A family of r rows, whose a and whose c from row 2 on have inverses modulo m, and the r + 1 entries of v, of which INVERT takes the inverse of a[0]
  * in their place. NORMS and MOMENTS do not look at v. */
 struct job {
     uint32_t m;

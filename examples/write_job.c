@@ -33,7 +33,7 @@ static const char *const refusals[] = {
     [ZAHUPNIK_CURVE_LENGTH] = "v is too short or too long: give one number more than there are rows, or none for moments and norms",
     [ZAHUPNIK_ENTRY] = "a number of a, b or c is not below mod: correct it, or reduce the family modulo mod",
     [ZAHUPNIK_A_INVERSE] = "a number of a has no inverse modulo mod: correct the family, or choose another channel number",
-    [ZAHUPNIK_C_INVERSE] = "a number of c has no inverse modulo mod: correct the family, or choose another channel number",
+    [ZAHUPNIK_C_INVERSE] = "a number of c, from the second on, has no inverse modulo mod: correct the family, or choose another channel number",
     [ZAHUPNIK_CURVE_ENTRY] = "a number of v is not below mod: correct it, or reduce the curve modulo mod",
 };
 

@@ -3,10 +3,12 @@
 --   Stages       how a call makes its tests stage by stage
 --   Given        which numbers its tests can give
 --   Acceptance   what a call that finishes has been lent
+--   Range        from which row on 11 looks at the c, where every c has an inverse
 --   Jobs         what a job says that is written, or carried out
 -- Assumes nothing.
 pub mod Verdicts
 pub mod Stages
 pub mod Given
 pub mod Acceptance
+pub mod Range
 pub mod Jobs

@@ -5,7 +5,7 @@
 -- whether it is; of each test, that it does not hold is a plain fact about lengths, entries or inverses, and the fact is that it does
 -- not hold.
 -- Assumes nothing.
-use mathlib.Core.Path.{_≡_, refl, sym, _∙_, ap, subst}
+use mathlib.Core.Path.{_≡_, refl, sym, _∙_, ap, ap₂, subst}
 use mathlib.Core.Bool.{Bool, true, false, not, _||_, not-eq-not, true≢false}
 use mathlib.Core.List.{List, [], _∷_, _++_}
 use mathlib.Core.Logic.{_↔_, Iff·rfl, Iff·trans, ⊎-elim}
@@ -169,6 +169,14 @@ someFrom-false passes first (suc count) = split (passes first) refl (someFrom-fa
         to : someFrom passes (suc first) count ≡ false → Within passes first (suc count)
         to e i l h = ⊎-elim (λ (same : first ≡ i). subst (λ k. passes k ≡ false) same q)
             (λ (more : first < i). rest .0 e i (omega arith) (omega arith)) (eq-or-lt-of-le {n = first} {m = i} l)
+
+pub someFrom-equal : (passes passes′ : ℕ → Bool) (first count : ℕ) → ((i : ℕ) → first ≤ i → passes i ≡ passes′ i)
+    → someFrom passes first count ≡ someFrom passes′ first count
+unfolding someFrom
+someFrom-equal passes passes′ first zero same = refl
+someFrom-equal passes passes′ first (suc count) same =
+    ap₂ (λ (here : Bool) (further : Bool). elim here [ true ↦ true | false ↦ further ]) (same first (omega arith))
+    (someFrom-equal passes passes′ (suc first) count (λ i l. same i (omega arith)))
 
 pub someRow-false : (f : Family) (first : ℕ) (passes : Row → Bool)
     → (someRow f first passes ≡ false) ↔ ((i : ℕ) → first ≤ i → i < size f → passes (rowAt f i) ≡ false)

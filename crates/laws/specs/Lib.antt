@@ -5,3 +5,4 @@ pub mod RoundTrips
 pub mod Ways
 pub mod HandedOut
 pub mod Totalled
+pub mod FirstC

@@ -1,7 +1,7 @@
 -- What is true of the definitions, for every modulus from 2 on and every convertible family:
 --   the recurrence over any ring: Recurrence, Operator, Combination
 --   the definitions read in the ring of residues: Curves, Bridge
---   families closed by another row, and the family of no rows: Closing, Alone
+--   where a conversion looks: not at the closing row and not at c_1; the family of no rows: SameRows, Closing, FirstC, Alone
 --   round trips, linearity, the transposed identity: RoundTrip, Linear, TransposedIdentity
 --   moments, norms and the product law (demand 3): Reversal, Determinant, Favard, BilinearForm, Orthogonal, Quotient, Moments,
 --   ProductLaw, ByMoments, NormInverse
@@ -11,7 +11,9 @@ pub mod Operator
 pub mod Combination
 pub mod Curves
 pub mod Bridge
+pub mod SameRows
 pub mod Closing
+pub mod FirstC
 pub mod Alone
 pub mod RoundTrip
 pub mod Linear

@@ -1,5 +1,6 @@
-// The product law, run: both totals, with each curve expanded by each way, for R of the scope paper and for families of 1 to 127 rows
-// modulo a prime and modulo a composite number. A line is the modulus, the number of rows, the two ways and the two totals.
+// The product law, run: both totals, with each curve expanded by each way, for R of the scope paper, for families whose c_1 has no inverse,
+// and for families of 1 to 127 rows modulo a prime and modulo a composite number. A line is the modulus, the number of rows, the two ways
+// and the two totals.
 ghost use Prim.Native.Nat.{_≤_, _<_};
 ghost use lib.ListN.{length};
 use laws::Totals;
@@ -114,6 +115,19 @@ fn on_r() {
     by_all_ways(7, &[1, 2], &[0, 3], &[1, 5], &[3, 0, 1], &[1, 1, 0]);
 }
 
+// A c_1 that is 0, one that shares 7 with 35, and one that shares 3 with 15 in the only row.
+fn on_zero_c_1() {
+    by_all_ways(35, &[1, 3], &[0, 0], &[0, 6], &[1, 2, 3], &[4, 5, 6]);
+}
+
+fn on_shared_c_1() {
+    by_all_ways(35, &[1, 3], &[0, 0], &[14, 6], &[1, 2, 3], &[4, 5, 6]);
+}
+
+fn on_only_row() {
+    by_all_ways(15, &[2], &[1], &[6], &[1, 2], &[3, 4]);
+}
+
 // The powers of x modulo m, from the first on.
 fn powers(m: u32, x: u32) -> [u32; 128]
     requires { ⌜ 0 < m ⌝ }
@@ -159,6 +173,9 @@ fn on_families(m: u32)
 // 2147483647 is a prime, and 2147483645 is 5 * 19 * 22605091.
 fn main() {
     on_r();
+    on_zero_c_1();
+    on_shared_c_1();
+    on_only_row();
     on_families(2147483647);
     on_families(2147483645);
 }

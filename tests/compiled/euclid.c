@@ -1,0 +1,140 @@
+/* Counts the divisions that each call runs through, for families that differ in c_1 alone: as many for every c_1, so that Euclid's
+ * algorithm is run once for a list and not for each row, whether c_1 has an inverse or not.
+ *
+ * usage: euclid <ADDRESSES
+ *
+ * Standard input has the addresses of this program's own divisions, in hexadecimal, one a line. A breakpoint stands at each while a call
+ * runs. A refusal by the last c, for which each entry is looked at by itself, shows what a run of the algorithm for each row would take.
+ *
+ * Prints the counts and exits 0; exits 1 if a call takes more for one c_1 than for another, if the refusal takes no more than that, or
+ * if there is no division to count.
+ */
+#define _GNU_SOURCE
+#include <inttypes.h>
+#include <signal.h>
+#include <stdio.h>
+#include <stdlib.h>
+#include <sys/mman.h>
+#include <ucontext.h>
+#include <unistd.h>
+
+#include "zahupnik.h"
+
+/* 2147483646 is 2 3^2 7 11 31 151 331. */
+enum { MODULUS = 2147483646, ROWS = ZAHUPNIK_MOST_ROWS, N = ROWS + 1, MOMENTS = 2 * ROWS + 1 };
+
+/* ---- the count */
+
+enum { MOST_DIVISIONS = 1000, BREAKPOINT = 0xCC, TRAP_FLAG = 0x100 };
+
+struct division {
+    uint8_t *at, first_byte;
+};
+
+static struct division divisions[MOST_DIVISIONS];
+static size_t known;
+static unsigned long run_through;
+
+static void cannot(const char *what) {
+    fprintf(stderr, "euclid: %s\n", what);
+    exit(1);
+}
+
+static void read_addresses(void) {
+    uintptr_t address, page = (uintptr_t)sysconf(_SC_PAGESIZE);
+    for (; scanf("%" SCNxPTR, &address) == 1; known++) {
+        if (known == MOST_DIVISIONS) cannot("there are more divisions than it has room for");
+        uint8_t *at = (uint8_t *)address, *first = at - address % page;
+        if (mprotect(first, (size_t)page, PROT_READ | PROT_WRITE | PROT_EXEC)) cannot("an address is none of this program's");
+        divisions[known] = (struct division){at, *at};
+    }
+    if (!known) cannot("it is told no address");
+}
+
+static void set_breakpoints(int set) {
+    for (size_t i = 0; i < known; i++) *divisions[i].at = set ? BREAKPOINT : divisions[i].first_byte;
+}
+
+/* At a breakpoint the division is put back and run alone; after it all breakpoints are set again. */
+static void on_trap(int number, siginfo_t *info, void *context) {
+    greg_t *registers = ((ucontext_t *)context)->uc_mcontext.gregs;
+    (void)number;
+    if (info->si_code == TRAP_TRACE) {
+        registers[REG_EFL] &= ~TRAP_FLAG;
+        set_breakpoints(1);
+    } else {
+        registers[REG_EFL] |= TRAP_FLAG;
+        registers[REG_RIP]--;
+        set_breakpoints(0);
+        run_through++;
+    }
+}
+
+/* ---- the calls */
+
+static uint32_t a[ROWS], b[ROWS], c[ROWS], curve[N], output[MOMENTS], work[ZAHUPNIK_LEAST_WORK];
+
+#define FAMILY MODULUS, a, ROWS, b, ROWS, c, ROWS
+#define CALL(name, ...) \
+    static uint32_t name(void) { return zahupnik_##name(FAMILY, __VA_ARGS__); }
+CALL(plain_expand, curve, N, output, N)
+CALL(plain_adjoint, curve, N, output, N)
+CALL(plain_decompose, curve, N, output, N)
+CALL(norms, output, N)
+CALL(tree_expand, curve, N, output, N, work, ZAHUPNIK_LEAST_WORK)
+CALL(tree_adjoint, curve, N, output, N, work, ZAHUPNIK_LEAST_WORK)
+CALL(tree_decompose, curve, N, output, N, work, ZAHUPNIK_LEAST_WORK)
+CALL(moments, output, MOMENTS, work, ZAHUPNIK_LEAST_WORK)
+
+static const struct call {
+    const char *name;
+    uint32_t (*run)(void);
+} calls[] = {
+    {"plain_expand", plain_expand}, {"plain_adjoint", plain_adjoint}, {"plain_decompose", plain_decompose}, {"norms", norms},
+    {"tree_expand", tree_expand},   {"tree_adjoint", tree_adjoint},   {"tree_decompose", tree_decompose},   {"moments", moments},
+};
+
+/* The divisions of a call on the family with these for its first and last c; it has to return this number. */
+static unsigned long counted(const struct call *call, uint32_t first, uint32_t last, uint32_t number) {
+    c[0] = first;
+    c[ROWS - 1] = last;
+    run_through = 0;
+    set_breakpoints(1);
+    uint32_t returned = call->run();
+    set_breakpoints(0);
+    if (returned != number) {
+        fprintf(stderr, "euclid: %s returns %" PRIu32 " and not %" PRIu32 "\n", call->name, returned, number);
+        exit(1);
+    }
+    printf(" %8lu", run_through);
+    return run_through;
+}
+
+static int holds(const struct call *call) {
+    static const uint32_t others[] = {MODULUS - 1, 0, 6, 2};
+    int same = 1;
+    printf("%-16s", call->name);
+    unsigned long wanted = counted(call, 1, 1, ZAHUPNIK_FINISHED);
+    for (size_t i = 0; i < sizeof others / sizeof *others; i++)
+        same = counted(call, others[i], 1, ZAHUPNIK_FINISHED) == wanted && same;
+    unsigned long refused = counted(call, 1, 0, ZAHUPNIK_C_INVERSE);
+    printf("\n");
+    return same && refused > wanted + ROWS;
+}
+
+int main(void) {
+    struct sigaction action = {.sa_sigaction = on_trap, .sa_flags = SA_SIGINFO};
+    int all = 1;
+    read_addresses();
+    if (sigaction(SIGTRAP, &action, NULL)) cannot("it cannot catch a trap");
+    /* powers of 5 and of 13, which have inverses */
+    for (uint64_t i = 0, x = 5, y = 13; i < ROWS; i++, x = x * 5 % MODULUS, y = y * 13 % MODULUS) {
+        a[i] = (uint32_t)x;
+        b[i] = curve[i] = (uint32_t)(x * y % MODULUS);
+        c[i] = (uint32_t)y;
+    }
+    printf("%-16s %8s %8s %8s %8s %8s %8s\n", "divisions", "c_1 = 1", "m - 1", "0", "6", "2", "c_r = 0");
+    for (size_t i = 0; i < sizeof calls / sizeof *calls; i++) all = holds(&calls[i]) && all;
+    if (!all) cannot("a call's divisions depend on c_1, or a refusal by the last c takes no more than an answer");
+    return 0;
+}
