@@ -18,6 +18,7 @@ from families import (
     OTHER_SIZES,
     SIZES,
     greatest_family,
+    numbers_without_inverse,
     random_curve,
     random_family,
     random_unit,
@@ -112,13 +113,14 @@ def accepted_cases(source, call):
 def story_cases(source, call):
     """One factor that is zero, that is m, or that shares a factor with m.
 
-    In a and in c, at the first, a middle and the last row; the classical
-    families with c_1 = 0 as well, and Legendre's where 2i - 1 is m.
+    In a and in c, at the first, a middle and the last row, where c_1 needs no
+    inverse; the classical families with c_1 = 0 as well, and Legendre's where
+    2i - 1 is m.
     """
     for modulus, row_count in STORY_BASES:
         case = accepted_case(source, call, modulus, row_count)
         for name in ("a", "c"):
-            numbers = [*faults.numbers_without_inverse(modulus), modulus]
+            numbers = [*numbers_without_inverse(modulus), modulus]
             yield from faults.at_three_places(case, name, numbers)
         yield from faults.at_three_places(case, "b", [0, modulus - 1, modulus])
     longest = accepted_case(source, call, 4, 127)
@@ -145,13 +147,14 @@ def fault_cases(source, call):
     A pair with too many rows is long and comes on the first family only.
     """
     numbers = cases.REFUSALS[call]
+    listed = faults.with_c_of_every_row(faults.faults)
     bases = [accepted_case(source, call, *base) for base in FAULT_BASES]
     for case in bases:
         for number in numbers:
-            yield from faults.faults(case, number)
+            yield from listed(case, number)
         for pair in combinations(numbers, 2):
             if 5 not in pair or case is bases[0]:
-                yield faults.two_faults(source, case, *pair)
+                yield faults.two_faults(source, case, *pair, listed)
 
 
 def length_cases(source, call):

@@ -194,15 +194,14 @@ def with_faults(source, operation):
     Two faults with too many rows are long and come on the first family only.
     """
     numbers = refusals(operation)
+    listed = faults.with_c_of_every_row(writing_faults)
     for base in FAULT_BASES:
         case = random_case(source, operation, *base)
         for number in numbers:
-            yield from writing_faults(case, number)
+            yield from listed(case, number)
         for lower, higher in combinations(numbers, 2):
             if 5 not in (lower, higher) or base == FAULT_BASES[0]:
-                yield from writing_faults(
-                    source.choice(writing_faults(case, higher)), lower
-                )
+                yield from listed(source.choice(listed(case, higher)), lower)
 
 
 def written_cases():
