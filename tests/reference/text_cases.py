@@ -11,6 +11,7 @@ from itertools import combinations
 import cases
 import check_texts
 import faults
+import first_c
 import jobs
 from check_figures import (
     P10_FAMILY,
@@ -175,4 +176,6 @@ def text_cases():
         found += refused(source, call)
     found += with_numbers()
     found += map(TextCase, plain_texts(source))
+    for call in check_texts.OPERATION_OF:
+        found += (job_case(call, *pair) for pair in first_c.fewer_pairs(SplitMix64(SEED + 1)))
     return list(dict.fromkeys(found))

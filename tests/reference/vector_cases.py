@@ -11,6 +11,7 @@ from itertools import combinations
 import cases
 import classical
 import faults
+import first_c
 from cases import family_case, inverse_case
 from classical import classical_family, least_prime
 from families import (
@@ -169,9 +170,20 @@ def length_cases(source, call):
                 yield replace(case, working_length=length)
 
 
+def first_c_cases(source, call):
+    """A c_1 of every kind, and the published families' polynomials with c_1 = 0."""
+    yield from dict.fromkeys(family_case(call, *pair) for pair in first_c.pairs(source))
+    if call in cases.ON_CURVES:
+        for name in first_c.PUBLISHED_WITH_ZERO:
+            family = classical_family(name, 257, 5, 0)
+            for curve in unit_curves(family):
+                yield family_case(call, family, curve)
+
+
 def family_cases(call):
     """All cases of a call on families."""
-    for part, make in enumerate((accepted_cases, story_cases, fault_cases, length_cases)):
+    makers = (accepted_cases, story_cases, fault_cases, length_cases, first_c_cases)
+    for part, make in enumerate(makers):
         yield from make(SplitMix64(SEED + part), call)
 
 

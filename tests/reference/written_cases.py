@@ -9,6 +9,7 @@ from itertools import combinations
 
 import calls
 import faults
+import first_c
 import jobs
 from check_figures import NO_ROWS_7, P10_FAMILY, P12_FAMILY, R, ones
 from check_texts import OUTPUT_BEFORE
@@ -216,4 +217,7 @@ def written_cases():
         found += with_numbers(operation)
         found += long_lists(operation)
         found += with_faults(source, operation)
+    for operation in OPERATIONS:
+        pairs = first_c.fewer_pairs(SplitMix64(SEED + 1))
+        found += (job_case(operation, *pair) for pair in pairs)
     return list(dict.fromkeys(found))
