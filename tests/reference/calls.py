@@ -16,7 +16,7 @@ the next number. With r the length of a, and n = r + 1:
 8   the working list is under 16,384 numbers
 9   an entry of a, b or c is not below the modulus
 10  some a has no inverse
-11  some c has no inverse
+11  some c from row 2 on has no inverse
 12  an entry of the curve, or the number to invert, is not below the modulus
 13  the number to invert has no inverse
 """
@@ -107,7 +107,7 @@ CONDITIONS = {
     8: lambda lent: len(lent.working) < WORKING_LENGTH,
     9: lambda lent: some_reach([*lent.a, *lent.b, *lent.c], lent.modulus),
     10: lambda lent: some_without_inverse(lent.a, lent.modulus),
-    11: lambda lent: some_without_inverse(lent.c, lent.modulus),
+    11: lambda lent: some_without_inverse(lent.c[1:], lent.modulus),
     12: lambda lent: some_reach(lent.curve, lent.modulus),
 }
 

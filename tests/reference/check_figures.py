@@ -1,6 +1,10 @@
-"""The scope paper's figures: P1 to P12, and those that are run only."""
+"""The scope paper's figures, P1 to P12 and those that are run only.
+
+Worked by hand beside them: a family whose c_1 is zero, by every call.
+"""
 
 import calls
+import curves
 import jobs
 from cases import Case, family_case, inverse_case, run
 from curves import Family
@@ -9,6 +13,7 @@ R = Family(7, (1, 2), (0, 3), (1, 5))
 NO_ROWS_7 = Family(7, (), (), ())
 P10_FAMILY = Family(15, (3,), (0,), (5,))
 P12_FAMILY = Family(15, (2,), (1,), (4,))
+ZERO_FIRST_C = Family(35, (1, 3), (0, 0), (0, 6))
 SHOWN_JOB = b"mod=7\na=1 2\nb=0 3\nc=1 5\nop=expand\nv=3 0 1\n"
 
 PROVED = (
@@ -32,6 +37,17 @@ PROVED = (
     ("P11 norms", family_case(4, NO_ROWS_7, ()), 0, [1]),
     ("P12 moments", family_case(9, P12_FAMILY, ()), 0, [8, 11, 13]),
     ("P12 norms", family_case(4, P12_FAMILY, ()), 0, [8, 14]),
+)
+
+WITH_ZERO_FIRST_C = (
+    ("expand", family_case(1, ZERO_FIRST_C, (1, 2, 3)), [19, 2, 9]),
+    ("expand tree", family_case(6, ZERO_FIRST_C, (1, 2, 3)), [19, 2, 9]),
+    ("adjoint", family_case(2, ZERO_FIRST_C, (1, 2, 3)), [1, 2, 15]),
+    ("adjoint tree", family_case(7, ZERO_FIRST_C, (1, 2, 3)), [1, 2, 15]),
+    ("decompose", family_case(3, ZERO_FIRST_C, (19, 2, 9)), [1, 2, 3]),
+    ("decompose tree", family_case(8, ZERO_FIRST_C, (19, 2, 9)), [1, 2, 3]),
+    ("moments", family_case(9, ZERO_FIRST_C, ()), [1, 0, 33, 0, 28]),
+    ("norms", family_case(4, ZERO_FIRST_C, ()), [1, 33, 6]),
 )
 
 
@@ -83,6 +99,11 @@ def check(tally, _source):
     for name, case, verdict, output in PROVED:
         outcome = run(case)
         tally.equal("figures", (name, case), (verdict, output), (outcome.verdict, outcome.output))
+    for name, case, output in WITH_ZERO_FIRST_C:
+        outcome = run(case)
+        tally.equal("figures", (name, case), (0, output), (outcome.verdict, outcome.output))
+    totals = curves.product_law_totals(ZERO_FIRST_C, (1, 2, 3), (4, 5, 6))
+    tally.equal("figures", ("product law", ZERO_FIRST_C), (22, 22), totals)
     for name, case, verdict in run_only_cases():
         tally.equal("figures", (name, case), verdict, run(case).verdict)
     for length in (8191, 8192, 8193):

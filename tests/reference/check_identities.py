@@ -1,10 +1,10 @@
 """Identities and second ways, on random families and on the greatest.
 
 Sizes run over the ends of the tree's levels; moduli are prime, composite and
-powers of two. Every size meets at least one modulus of each kind.
+powers of two. Every size meets at least one modulus of each kind. c_1 is of a
+random kind, and of every kind on some families.
 """
 
-from dataclasses import replace
 from math import gcd
 
 import curves
@@ -15,14 +15,17 @@ from families import (
     POWERS_OF_TWO,
     PRIMES,
     SIZES,
+    first_cs,
     greatest_family,
     random_curve,
-    random_family,
+    random_family_any_first_c,
     random_unit,
+    with_first_c,
 )
 
 ROUNDS_SHORT, ROUNDS_LONG = 8, 2
 LARGE_PRIME = 2147483647
+FIRST_C_BASES = ((2, 1), (7, 2), (35, 2), (15, 3), (2**30, 8), (1001, 31), (LARGE_PRIME, 127))
 
 
 def inner(left, right, modulus):
@@ -83,16 +86,20 @@ def check_moments(tally, source, family, closing):
 
 
 def check_free_first_c(tally, source, family):
-    """c_1 multiplies F_{-1} = 0, so another unit there changes no list."""
-    other = random_unit(source, family.modulus)
-    changed = replace(family, c=(other, *family.c[1:]))
+    """c_1 multiplies F_{-1} = 0, so a number of any kind there changes no list."""
     curve = random_curve(source, family.modulus, family.n)
+    others = first_cs(source, family.modulus)
     for operation in (curves.expand, curves.adjoint, curves.decompose):
-        case = (operation.__name__, family, curve, other)
-        tally.equal("free c_1", case, operation(family, curve), operation(changed, curve))
+        right = operation(family, curve)
+        for other in others:
+            case = (operation.__name__, family, curve, other)
+            got = operation(with_first_c(family, other), curve)
+            tally.equal("free c_1", case, right, got)
     for operation in (curves.moments, curves.norms):
-        case = (operation.__name__, family, other)
-        tally.equal("free c_1", case, operation(family), operation(changed))
+        right = operation(family)
+        for other in others:
+            case = (operation.__name__, family, other)
+            tally.equal("free c_1", case, right, operation(with_first_c(family, other)))
 
 
 def check_matrices(tally, family):
@@ -141,7 +148,7 @@ def check(tally, source):
     for row_count in SIZES + OTHER_SIZES:
         for moduli in (PRIMES, COMPOSITES, POWERS_OF_TWO):
             for _ in range(ROUNDS_SHORT if row_count < 9 else ROUNDS_LONG):
-                family = random_family(source, source.choice(moduli), row_count)
+                family = random_family_any_first_c(source, source.choice(moduli), row_count)
                 check_family(tally, source, family)
                 if row_count > 0:
                     check_free_first_c(tally, source, family)
@@ -151,3 +158,7 @@ def check(tally, source):
                     check_orthogonal(tally, family)
     for row_count in (0, 1, 2, 127):
         check_family(tally, source, greatest_family(LARGE_PRIME, row_count))
+    for modulus, row_count in FIRST_C_BASES:
+        family = random_family_any_first_c(source, modulus, row_count)
+        for first_c in first_cs(source, modulus):
+            check_family(tally, source, with_first_c(family, first_c))

@@ -13,7 +13,7 @@ import faults
 import jobs
 import second_ways
 from check_figures import SHOWN_JOB, text_of_length
-from families import MODULI, SIZES, random_curve, random_family
+from families import MODULI, SIZES, random_curve, random_family_any_first_c
 
 OPERATION_OF = {6: "expand", 7: "adjoint", 8: "decompose", 9: "moments", 4: "norms"}
 TEXT_REFUSALS = (3, 4, 5, 6, 7, 8, 9, 10, 11, 12)
@@ -165,7 +165,7 @@ def check_text_refusals(tally, source, call):
     curveless = OPERATION_OF[call] in calls.WITHOUT_CURVE
     numbers = [number for number in TEXT_REFUSALS if number != 12 or not curveless]
     for modulus, row_count in ((15, 4), (2147483646, 3)):
-        family = random_family(source, modulus, row_count)
+        family = random_family_any_first_c(source, modulus, row_count)
         curve = random_curve(source, modulus, row_count + 1)
         case = replace(
             cases.family_case(call, family, curve), output_length=4096, working_length=16384
@@ -234,7 +234,7 @@ def check(tally, source):
         check_text_refusals(tally, source, call)
         for row_count in SIZES:
             modulus = source.choice(MODULI)
-            family = random_family(source, modulus, row_count)
+            family = random_family_any_first_c(source, modulus, row_count)
             case = cases.family_case(call, family, random_curve(source, modulus, row_count + 1))
             check_answer(tally, case)
             text = job_text(case)

@@ -13,14 +13,21 @@ import cases
 import check_texts
 import jobs
 import second_ways
-from check_figures import NO_ROWS_7, P10_FAMILY, P12_FAMILY, SHOWN_JOB, R, ones
+from check_figures import (
+    NO_ROWS_7,
+    P10_FAMILY,
+    P12_FAMILY,
+    SHOWN_JOB,
+    ZERO_FIRST_C,
+    R,
+    ones,
+)
 from curves import Family
-from families import MODULI, SIZES
+from families import MODULI, SIZES, random_curve, random_family_any_first_c
 from written_cases import (
     OPERATIONS,
     job_case,
     longest,
-    random_case,
     refusals,
     run,
     takes_curve,
@@ -47,6 +54,11 @@ FIGURES = (
     ("P11 norms", job_case(NORMS, NO_ROWS_7, ()), b"mod=7\na=\nb=\nc=\nop=norms\nv=\n"),
     ("P12 moments", job_case(MOMENTS, P12_FAMILY, ()), b"mod=15\na=2\nb=1\nc=4\nop=moments\nv=\n"),
     ("P12 norms", job_case(NORMS, P12_FAMILY, ()), b"mod=15\na=2\nb=1\nc=4\nop=norms\nv=\n"),
+    (
+        "c_1 = 0",
+        job_case(DECOMPOSE, ZERO_FIRST_C, (19, 2, 9)),
+        b"mod=35\na=1 3\nb=0 0\nc=0 6\nop=decompose\nv=19 2 9\n",
+    ),
 )
 
 
@@ -93,6 +105,12 @@ def after(case, text):
     return jobs.TextOutcome(0, len(text), text + output[len(text) :], None)
 
 
+def accepted_case(source, operation, modulus, row_count):
+    """An accepted case on a random family, with any c_1, and a random curve."""
+    family = random_family_any_first_c(source, modulus, row_count)
+    return job_case(operation, family, random_curve(source, modulus, family.n))
+
+
 def check_refused(tally, kind, case, verdict):
     """A refused case: its number, no length, and the output as it was."""
     output = check_texts.OUTPUT_BEFORE[: case.output_length]
@@ -131,7 +149,7 @@ def check_refusals(tally, source, operation):
     kind = "writing refusals"
     numbers = refusals(operation)
     for base in BASES:
-        case = random_case(source, operation, *base)
+        case = accepted_case(source, operation, *base)
         for number in numbers:
             for spoiled in writing_faults(case, number):
                 check_refused(tally, kind, spoiled, number)
@@ -159,9 +177,17 @@ def verdict_by(*numbers, conditions=jobs.WRITING_CONDITIONS):
 def row_by_row(case):
     """The verdict of a writer that ends its tests of a row before it looks at the next."""
     verdict = verdict_by(9, 10, 11)
-    rows = zip(case.a, case.b, case.c)
-    single = (replace(case, a=(a,), b=(b,), c=(c,)) for a, b, c in rows)
-    return next(filter(None, map(verdict, single)), 0)
+    first_rows = (
+        replace(case, a=case.a[:count], b=case.b[:count], c=case.c[:count])
+        for count in range(1, len(case.a) + 1)
+    )
+    return next(filter(None, map(verdict, first_rows)), 0)
+
+
+def looking_at_row_1(case):
+    """The verdict of a writer whose 11 looks at the c of every row."""
+    every_c = {11: lambda lent: calls.some_without_inverse(lent.c, lent.modulus)}
+    return verdict_by(*jobs.WRITING_TESTS, conditions=jobs.WRITING_CONDITIONS | every_c)(case)
 
 
 def check_wrong_writers(tally):
@@ -169,6 +195,7 @@ def check_wrong_writers(tally):
     job = job_case(EXPAND, R, (3, 0, 1))
     short = replace(job, output_length=8191)
     reaching = replace(job, a=(1, 7), curve=(3, 0, 7))
+    three_rows = job_case(EXPAND, Family(7, (1, 2, 0), (0, 3, 0), (1, 0, 5)), (3, 0, 1, 0))
     for case, right, wrong in (
         (short, 7, verdict_by(3, 4, 5, 6, 9, 10, 11, 12)),
         (short, 7, verdict_by(*jobs.WRITING_TESTS, conditions=jobs.TEXT_CONDITIONS)),
@@ -176,7 +203,8 @@ def check_wrong_writers(tally):
         (replace(short, a=(1, 0)), 7, verdict_by(3, 4, 5, 6, 9, 10, 11, 7, 12)),
         (reaching, 9, verdict_by(3, 4, 5, 6, 7, 12, 9, 10, 11)),
         (replace(job, a=(0, 7)), 9, row_by_row),
-        (replace(job, a=(1, 0), c=(0, 5)), 10, row_by_row),
+        (three_rows, 10, row_by_row),
+        (job_case(EXPAND, ZERO_FIRST_C, (1, 2, 3)), 0, looking_at_row_1),
     ):
         tally.equal("wrong writers", case, right, run(case).verdict)
         tally.differ("wrong writers", case, right, wrong(case))
@@ -189,4 +217,5 @@ def check(tally, source):
     for operation in OPERATIONS:
         check_refusals(tally, source, operation)
         for row_count in SIZES:
-            check_accepted(tally, random_case(source, operation, source.choice(MODULI), row_count))
+            case = accepted_case(source, operation, source.choice(MODULI), row_count)
+            check_accepted(tally, case)

@@ -1,19 +1,24 @@
-"""The scope paper's known ways to lose a curve, each told from the right way.
+"""The scope paper's known ways to lose a curve, and those about c_1, told from the right way.
 
 Each wrong variant stands here with a stated family on which its answer
 differs from the right one. The right answers are stated too.
 """
 
 from itertools import product
+from math import gcd, prod
 
+import calls
 import curves
 import second_ways
 from cases import family_case, inverse_case, run
-from check_figures import P12_FAMILY, R
+from check_figures import P10_FAMILY, P12_FAMILY, ZERO_FIRST_C, R
 from curves import Family
 
 ZERO_FACTOR = Family(7, (1, 0), (0, 3), (1, 5))
 SHARED_FACTOR = Family(15, (6,), (0,), (1,))
+SHARED_FIRST_C = Family(35, (1, 3), (0, 0), (5, 6))
+SHARED_SECOND_C = Family(35, (1, 3), (0, 0), (0, 7))
+REACHING_ONE_ROW = Family(7, (1,), (0,), (7,))
 KIND = "wrong variants"
 
 
@@ -85,8 +90,40 @@ def last_basis_from_halves(family, in_order):
 
 
 def verdict_by_non_zero(family):
-    """10 or 11 if some a or c is zero, which is too few where m is composite."""
-    return 10 if 0 in family.a else 11 if 0 in family.c else 0
+    """10 or 11 if some a or c_2 on is zero, which is too few where m is composite."""
+    return 10 if 0 in family.a else 11 if 0 in family.c[1:] else 0
+
+
+def verdict_from_row(first):
+    """The verdict, as a function of a family, of a test for 11 from this row on."""
+
+    def verdict(family):
+        return 11 if calls.some_without_inverse(family.c[first - 1 :], family.modulus) else 0
+
+    return verdict
+
+
+def verdict_of_more_rows(family):
+    """The verdict of a test of rows that leaves a single row out."""
+    return 0 if len(family.a) == 1 else run(family_case(4, family, ())).verdict
+
+
+def cofactor(x, modulus):
+    """Euclid's multiplier of x: it leaves the greatest common factor, be that 1 or not."""
+    factor = gcd(x, modulus)
+    return pow(x // factor, -1, modulus // factor)
+
+
+def decompose_by_one_inverse(family, coefficients):
+    """Tree Decompose with every norm's inverse from one of all c, c_1 too, that is not tested."""
+    modulus, rows = family.modulus, family.rows()
+    factors = [c for _, _, c in rows]
+    of_all = cofactor(prod(factors) % modulus, modulus)
+    found = []
+    for i, x in enumerate(second_ways.decomposed_times_norms(family, coefficients)):
+        others = prod(factors[:1] + factors[i + 1 :])
+        found.append((-1) ** i * x * rows[i][0] * of_all * others % modulus)
+    return found
 
 
 def check_powering(tally):
@@ -121,6 +158,8 @@ def check_norms_and_moments(tally):
         (R, [1, 1, 5], norms_by_earlier_a),
         (P12_FAMILY, [8, 14], norms_from_c_1),
         (R, [1, 1, 5], norms_shifted_to_c_1),
+        (ZERO_FIRST_C, [1, 33, 6], norms_from_c_1),
+        (ZERO_FIRST_C, [1, 33, 6], norms_shifted_to_c_1),
     ):
         tally.equal(KIND, family, right, curves.norms(family))
         tally.differ(KIND, (wrong.__name__, family), right, wrong(family))
@@ -135,9 +174,34 @@ def check_order_of_halves(tally):
     tally.differ(KIND, R, right, last_basis_from_halves(R, False))
 
 
+def check_rows_of_11(tally):
+    """11 from another row than row 2 on, and a single row that is not tested."""
+    for family, right, wrong in (
+        (ZERO_FIRST_C, 0, verdict_from_row(1)),
+        (SHARED_FIRST_C, 0, verdict_from_row(1)),
+        (SHARED_SECOND_C, 11, verdict_from_row(3)),
+        (P10_FAMILY, 10, verdict_of_more_rows),
+        (REACHING_ONE_ROW, 9, verdict_of_more_rows),
+    ):
+        case = family_case(4, family, ())
+        tally.equal(KIND, case, right, run(case).verdict)
+        tally.differ(KIND, case, right, wrong(family))
+
+
+def check_one_inverse(tally):
+    """One inverse of all c is right where c_1 has one, and loses the curve where not."""
+    tally.equal(KIND, R, [3, 0, 1], decompose_by_one_inverse(R, (1, 3, 2)))
+    for family in (ZERO_FIRST_C, SHARED_FIRST_C):
+        case = family_case(8, family, (19, 2, 9))
+        tally.equal(KIND, case, [1, 2, 3], run(case).output)
+        tally.differ(KIND, case, [1, 2, 3], decompose_by_one_inverse(family, (19, 2, 9)))
+
+
 def check(tally, _source):
     """All wrong variants; they are the same for every seed."""
     check_powering(tally)
     check_non_zero(tally)
     check_norms_and_moments(tally)
     check_order_of_halves(tally)
+    check_rows_of_11(tally)
+    check_one_inverse(tally)

@@ -15,6 +15,7 @@ from fractions import Fraction
 from math import comb, factorial, gcd
 
 from curves import Family
+from families import with_first_c
 
 ROWS = {
     "Chebyshev T": lambda i: (1 if i == 1 else 2, 0, -1),
@@ -42,11 +43,11 @@ def classical_family(name, prime, row_count, first_c):
     """The first rows of a classical family, with c_1 as stated."""
     rows = [classical_row(name, prime, i) for i in range(1, row_count + 1)]
     a, b, c = (tuple(row[place] for row in rows) for place in range(3))
-    return Family(prime, a, b, (first_c, *c[1:]) if row_count else ())
+    return with_first_c(Family(prime, a, b, c), first_c)
 
 
 def has_rows(name, number, row_count):
-    """Whether modulo this number the rows exist and are accepted, c_1 aside."""
+    """Whether modulo this number the rows exist and are accepted."""
     rows = [ROWS[name](i) for i in range(1, row_count + 1)]
     fractions = [Fraction(factor) for row in rows for factor in row]
     dividing = [fraction.denominator for fraction in fractions]

@@ -1,5 +1,6 @@
 """Families and curves to try: random and greatest ones, and their sizes and moduli."""
 
+from dataclasses import replace
 from math import gcd
 
 from curves import Family
@@ -20,14 +21,37 @@ def random_unit(source, modulus):
             return number
 
 
+def numbers_without_inverse(modulus):
+    """Zero and, if there is one, the least number that shares a factor."""
+    shared = (x for x in range(2, min(modulus, 1000)) if gcd(x, modulus) > 1)
+    return [0, *[x for x in (next(shared, None),) if x is not None]]
+
+
+def first_cs(source, modulus):
+    """Each kind of c_1 once: without an inverse, a random unit, m - 1, and any number."""
+    kinds = (random_unit(source, modulus), modulus - 1, source.below(modulus))
+    return list(dict.fromkeys((*numbers_without_inverse(modulus), *kinds)))
+
+
 def random_family(source, modulus, row_count):
-    """A random accepted family."""
+    """A random accepted family in which every c has an inverse, c_1 too."""
     return Family(
         modulus,
         tuple(random_unit(source, modulus) for _ in range(row_count)),
         tuple(source.below(modulus) for _ in range(row_count)),
         tuple(random_unit(source, modulus) for _ in range(row_count)),
     )
+
+
+def with_first_c(family, first_c):
+    """The family with this c_1; a family without rows stays as it is."""
+    return replace(family, c=(first_c, *family.c[1:])) if family.c else family
+
+
+def random_family_any_first_c(source, modulus, row_count):
+    """A random accepted family with c_1 of a random kind."""
+    family = random_family(source, modulus, row_count)
+    return with_first_c(family, source.choice(first_cs(source, modulus)))
 
 
 def random_curve(source, modulus, length):

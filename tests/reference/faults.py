@@ -3,13 +3,14 @@
 `faults(case, number)` lists cases that differ from the given one by one fault
 each. The given case wants three rows or more, so that the first, a middle and
 the last row are three, and its own output and curve lengths to be right.
-`two_faults` puts a lower-numbered fault on top of another.
+`two_faults` puts a lower-numbered fault on top of another. Row 1's c needs no
+inverse, so without one it is no fault; `with_c_of_every_row` lists it as well.
 """
 
 from dataclasses import replace
-from math import gcd
 
 import cases
+from families import numbers_without_inverse
 
 LARGEST_WORD = 4294967295
 
@@ -94,10 +95,10 @@ def with_entry(case, name, place, number):
     return replace(case, **{name: tuple(entries)})
 
 
-def at_three_places(case, name, numbers):
-    """Each number at the first, a middle and the last place of a list."""
+def at_three_places(case, name, numbers, first=0):
+    """Each number at a first, a middle and the last place of a list."""
     length = len(getattr(case, name))
-    places = sorted({0, length // 2, length - 1}) if length else []
+    places = sorted({first, length // 2, length - 1}) if length > first else []
     return [with_entry(case, name, place, x) for x in numbers for place in places]
 
 
@@ -115,20 +116,14 @@ def reaching_factors(case):
     ]
 
 
-def numbers_without_inverse(modulus):
-    """Zero and, if there is one, the least number that shares a factor."""
-    shared = (x for x in range(2, min(modulus, 1000)) if gcd(x, modulus) > 1)
-    return [0, *[x for x in (next(shared, None),) if x is not None]]
-
-
 def dead_a(case):
     """10: some a has no inverse."""
     return at_three_places(case, "a", numbers_without_inverse(case.modulus))
 
 
 def dead_c(case):
-    """11: some c has no inverse."""
-    return at_three_places(case, "c", numbers_without_inverse(case.modulus))
+    """11: some c from row 2 on has no inverse."""
+    return at_three_places(case, "c", numbers_without_inverse(case.modulus), first=1)
 
 
 def reaching_curves(case):
@@ -159,6 +154,21 @@ FAULTS = {
 def faults(case, number):
     """Cases that differ from this one by one fault with this number."""
     return FAULTS[number](case)
+
+
+def with_c_of_every_row(listed):
+    """The faults as listed, but for 11 numbers without an inverse in c of every row.
+
+    At the first, a middle and the last row: from row 2 on they are refused
+    with 11, in row 1 passed over.
+    """
+
+    def listing(case, number):
+        if number == 11:
+            return at_three_places(case, "c", numbers_without_inverse(case.modulus))
+        return listed(case, number)
+
+    return listing
 
 
 def two_faults(source, case, lower, higher, listed=faults):

@@ -54,16 +54,21 @@ def adjoint_by_table(family, curve):
     return found
 
 
-def decompose_by_moments(family, coefficients):
-    """Decompose as Hankel product with the moments, adjoint, division by norms."""
+def decomposed_times_norms(family, coefficients):
+    """The decomposed curve, entry i times norm i: Hankel product with the moments, adjoint."""
     moments = curves.moments(family)
     weighted = [
         sum(moments[i + j] * x for j, x in enumerate(coefficients)) % family.modulus
         for i in range(family.n)
     ]
+    return curves.adjoint(family, weighted)
+
+
+def decompose_by_moments(family, coefficients):
+    """Decompose as Hankel product with the moments, adjoint, division by norms."""
     return [
         curves.divide(x, norm, family.modulus)
-        for x, norm in zip(curves.adjoint(family, weighted), curves.norms(family))
+        for x, norm in zip(decomposed_times_norms(family, coefficients), curves.norms(family))
     ]
 
 

@@ -11,6 +11,7 @@ from itertools import combinations
 import cases
 import check_texts
 import faults
+import first_c
 import jobs
 from check_figures import (
     P10_FAMILY,
@@ -78,6 +79,7 @@ def accepted(source, call):
 
 def refused(source, call):
     """Each number from 3 on alone, and each two of them at once."""
+    listed = faults.with_c_of_every_row(check_texts.text_faults)
     curveless = call in (cases.NORMS, cases.MOMENTS)
     numbers = [x for x in check_texts.TEXT_REFUSALS if x != 12 or not curveless]
     for modulus, row_count in FAULT_BASES:
@@ -88,9 +90,9 @@ def refused(source, call):
             output_length=OUTPUT,
             working_length=WORKING,
         )
-        spoiled = [source.choice(check_texts.text_faults(case, x)) for x in numbers]
+        spoiled = [source.choice(listed(case, x)) for x in numbers]
         for pair in combinations(numbers, 2):
-            spoiled.append(faults.two_faults(source, case, *pair, check_texts.text_faults))
+            spoiled.append(faults.two_faults(source, case, *pair, listed))
         for other in spoiled:
             text = check_texts.job_text(other)
             yield TextCase(text, other.output_length, other.working_length)
@@ -174,4 +176,6 @@ def text_cases():
         found += refused(source, call)
     found += with_numbers()
     found += map(TextCase, plain_texts(source))
+    for call in check_texts.OPERATION_OF:
+        found += (job_case(call, *pair) for pair in first_c.fewer_pairs(SplitMix64(SEED + 1)))
     return list(dict.fromkeys(found))

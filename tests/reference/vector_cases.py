@@ -11,6 +11,7 @@ from itertools import combinations
 import cases
 import classical
 import faults
+import first_c
 from cases import family_case, inverse_case
 from classical import classical_family, least_prime
 from families import (
@@ -18,6 +19,7 @@ from families import (
     OTHER_SIZES,
     SIZES,
     greatest_family,
+    numbers_without_inverse,
     random_curve,
     random_family,
     random_unit,
@@ -112,13 +114,14 @@ def accepted_cases(source, call):
 def story_cases(source, call):
     """One factor that is zero, that is m, or that shares a factor with m.
 
-    In a and in c, at the first, a middle and the last row; the classical
-    families with c_1 = 0 as well, and Legendre's where 2i - 1 is m.
+    In a and in c, at the first, a middle and the last row, where c_1 needs no
+    inverse; the classical families with c_1 = 0 as well, and Legendre's where
+    2i - 1 is m.
     """
     for modulus, row_count in STORY_BASES:
         case = accepted_case(source, call, modulus, row_count)
         for name in ("a", "c"):
-            numbers = [*faults.numbers_without_inverse(modulus), modulus]
+            numbers = [*numbers_without_inverse(modulus), modulus]
             yield from faults.at_three_places(case, name, numbers)
         yield from faults.at_three_places(case, "b", [0, modulus - 1, modulus])
     longest = accepted_case(source, call, 4, 127)
@@ -145,13 +148,14 @@ def fault_cases(source, call):
     A pair with too many rows is long and comes on the first family only.
     """
     numbers = cases.REFUSALS[call]
+    listed = faults.with_c_of_every_row(faults.faults)
     bases = [accepted_case(source, call, *base) for base in FAULT_BASES]
     for case in bases:
         for number in numbers:
-            yield from faults.faults(case, number)
+            yield from listed(case, number)
         for pair in combinations(numbers, 2):
             if 5 not in pair or case is bases[0]:
-                yield faults.two_faults(source, case, *pair)
+                yield faults.two_faults(source, case, *pair, listed)
 
 
 def length_cases(source, call):
@@ -166,9 +170,20 @@ def length_cases(source, call):
                 yield replace(case, working_length=length)
 
 
+def first_c_cases(source, call):
+    """A c_1 of every kind, and the published families' polynomials with c_1 = 0."""
+    yield from dict.fromkeys(family_case(call, *pair) for pair in first_c.pairs(source))
+    if call in cases.ON_CURVES:
+        for name in first_c.PUBLISHED_WITH_ZERO:
+            family = classical_family(name, 257, 5, 0)
+            for curve in unit_curves(family):
+                yield family_case(call, family, curve)
+
+
 def family_cases(call):
     """All cases of a call on families."""
-    for part, make in enumerate((accepted_cases, story_cases, fault_cases, length_cases)):
+    makers = (accepted_cases, story_cases, fault_cases, length_cases, first_c_cases)
+    for part, make in enumerate(makers):
         yield from make(SplitMix64(SEED + part), call)
 
 

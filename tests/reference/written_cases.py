@@ -9,6 +9,7 @@ from itertools import combinations
 
 import calls
 import faults
+import first_c
 import jobs
 from check_figures import NO_ROWS_7, P10_FAMILY, P12_FAMILY, R, ones
 from check_texts import OUTPUT_BEFORE
@@ -194,15 +195,14 @@ def with_faults(source, operation):
     Two faults with too many rows are long and come on the first family only.
     """
     numbers = refusals(operation)
+    listed = faults.with_c_of_every_row(writing_faults)
     for base in FAULT_BASES:
         case = random_case(source, operation, *base)
         for number in numbers:
-            yield from writing_faults(case, number)
+            yield from listed(case, number)
         for lower, higher in combinations(numbers, 2):
             if 5 not in (lower, higher) or base == FAULT_BASES[0]:
-                yield from writing_faults(
-                    source.choice(writing_faults(case, higher)), lower
-                )
+                yield from listed(source.choice(listed(case, higher)), lower)
 
 
 def written_cases():
@@ -217,4 +217,7 @@ def written_cases():
         found += with_numbers(operation)
         found += long_lists(operation)
         found += with_faults(source, operation)
+    for operation in OPERATIONS:
+        pairs = first_c.fewer_pairs(SplitMix64(SEED + 1))
+        found += (job_case(operation, *pair) for pair in pairs)
     return list(dict.fromkeys(found))
