@@ -138,6 +138,7 @@ static void on_family(const struct function *f) {
     GIVES(ENTRY, 2, x.b[1] = 7);
     GIVES(ENTRY, 2, x.c[1] = 7);
     GIVES(ENTRY, 1, x.c[0] = 7);
+    GIVES(ENTRY, 2, x.c[0] = 7);
     GIVES(FINISHED, 2, x.b[1] = 0);
     GIVES(A_INVERSE, 2, x.a[1] = 0);
     GIVES(C_INVERSE, 2, x.c[1] = 0);
