@@ -1,5 +1,6 @@
 /* What cases.h declares. A case is made so that it is accepted, or nearly always so, and half of them are then damaged by one
- * fault or more, which may cover one another. Uses nothing but the model's lengths and its common divisor. */
+ * fault or more, which may cover one another. In half of the families that have rows, c_1 is made apart, with an inverse or without.
+ * Uses nothing but the model's lengths and its common divisor. */
 #include "cases.h"
 
 static uint32_t a[LIST_ROOM], b[LIST_ROOM], c[LIST_ROOM], curve[LIST_ROOM];
@@ -45,6 +46,16 @@ static uint32_t some_non_unit(struct random *random, uint32_t m) {
     return 0;
 }
 
+/* A c_1 that may have no inverse: 0, a number that shares a factor with m if one is met soon, the greatest, or any. */
+static uint32_t some_first_c(struct random *random, uint32_t m) {
+    switch (below(random, 4)) {
+    case 0: return 0;
+    case 1: return some_non_unit(random, m);
+    case 2: return m - 1;
+    default: return below(random, m);
+    }
+}
+
 /* A number that is not below m: the least, the greatest, or any. */
 static uint32_t some_not_below(struct random *random, uint32_t m) {
     switch (below(random, 4)) {
@@ -86,6 +97,7 @@ static struct lent accepted(struct random *random, enum operation operation, enu
         fill(random, x.a, 0, x.m, kind);
         fill(random, x.b, 0, x.m, RESIDUES);
         fill(random, x.c, 0, x.m, kind);
+        if (x.c.length && one_in(random, 2)) x.c.entries[0] = some_first_c(random, x.m);
     }
     x.curve.length = curve_length(&x);
     fill(random, x.curve, 0, x.m, operation == INVERSE ? kind : RESIDUES);
@@ -174,7 +186,12 @@ static void fault_9(struct random *random, struct lent *x) {
 
 static void fault_10(struct random *random, struct lent *x) { replace(random, &x->a, some_non_unit(random, x->m)); }
 
-static void fault_11(struct random *random, struct lent *x) { replace(random, &x->c, some_non_unit(random, x->m)); }
+/* Most often in a row that 11 looks at; it passes over row 1. */
+static void fault_11(struct random *random, struct lent *x) {
+    struct list list = x->c;
+    if (list.length > 1 && !one_in(random, 4)) list = (struct list){x->c.entries + 1, x->c.length - 1};
+    replace(random, &list, some_non_unit(random, x->m));
+}
 
 static void fault_12(struct random *random, struct lent *x) { replace(random, &x->curve, some_not_below(random, x->m)); }
 

@@ -7,8 +7,10 @@
  * each of the others about 100,000. What write_job wrote is read by the text call in the same case.
  *
  * Compares the number returned, all that a call writes, and that it writes nothing else (trial.h). Prints how many cases each call
- * had and how often it gave each answer, and exits 0; shows the first case that differs and exits 1. It exits 1 too if some call
- * never gave one of the answers that it can give, unless FIRST, the number of the first case, is stated. Bad arguments exit with 2.
+ * had, how often it gave each answer, and how often it finished with a c_1 that is 0 and with one that shares a factor with m, and
+ * exits 0; shows the first case that differs and exits 1. It exits 1 too if some call never gave one of the answers that it can
+ * give, or if one on families never finished with such a c_1, unless FIRST, the number of the first case, is stated. Bad arguments
+ * exit with 2.
  */
 #include <inttypes.h>
 #include <stdio.h>
@@ -25,7 +27,8 @@ static const uint64_t ALL_CALLS = 1100000, QUICK_CALLS = 4550000, SEED = 2024022
 enum { ANSWERS = 14, QUICK = 5 };
 
 /* A call by its name in the header without zahupnik_, which answers it can give, how it is run on lists, how often it gave each
- * answer, and whether it finished with so many rows. What writes a text is not run on lists: its cases are run alone. */
+ * answer, whether it finished with so many rows, and how often with such a c_1. What writes a text is not run on lists: its cases
+ * are run alone. */
 struct call {
     const char *name;
     const char *answers;
@@ -34,6 +37,7 @@ struct call {
     uint32_t (*run)(const struct lent *x, uint32_t *output, uint32_t *work);
     unsigned long met[ANSWERS];
     bool finished[MOST_ROWS + 1];
+    unsigned long finished_with[KINDS_OF_FIRST_C];
     uint32_t (*run_alone)(struct trial *trial, struct random *random);
 };
 
@@ -59,15 +63,15 @@ RUN(moments, FAMILY, OUTPUT, WORK)
 /* Answers: a sign for each number from 0 to 13, a point where the call cannot give it. The quick calls come first, and write_job
  * comes last. */
 static struct call calls[] = {
-    {"invert", "0..3........CD", INVERSE, PLAIN, invert, {0}, {0}, NULL},
-    {"plain_expand", "0..34567.9ABC.", EXPAND, PLAIN, plain_expand, {0}, {0}, NULL},
-    {"plain_adjoint", "0..34567.9ABC.", ADJOINT, PLAIN, plain_adjoint, {0}, {0}, NULL},
-    {"plain_decompose", "0..34567.9ABC.", DECOMPOSE, PLAIN, plain_decompose, {0}, {0}, NULL},
-    {"norms", "0..345.7.9AB..", NORMS, PLAIN, norms, {0}, {0}, NULL},
-    {"tree_expand", "0..3456789ABC.", EXPAND, TREE, tree_expand, {0}, {0}, NULL},
-    {"tree_adjoint", "0..3456789ABC.", ADJOINT, TREE, tree_adjoint, {0}, {0}, NULL},
-    {"tree_decompose", "0..3456789ABC.", DECOMPOSE, TREE, tree_decompose, {0}, {0}, NULL},
-    {"moments", "0..345.789AB..", MOMENTS, TREE, moments, {0}, {0}, NULL},
+    {"invert", "0..3........CD", INVERSE, PLAIN, invert, {0}, {0}, {0}, NULL},
+    {"plain_expand", "0..34567.9ABC.", EXPAND, PLAIN, plain_expand, {0}, {0}, {0}, NULL},
+    {"plain_adjoint", "0..34567.9ABC.", ADJOINT, PLAIN, plain_adjoint, {0}, {0}, {0}, NULL},
+    {"plain_decompose", "0..34567.9ABC.", DECOMPOSE, PLAIN, plain_decompose, {0}, {0}, {0}, NULL},
+    {"norms", "0..345.7.9AB..", NORMS, PLAIN, norms, {0}, {0}, {0}, NULL},
+    {"tree_expand", "0..3456789ABC.", EXPAND, TREE, tree_expand, {0}, {0}, {0}, NULL},
+    {"tree_adjoint", "0..3456789ABC.", ADJOINT, TREE, tree_adjoint, {0}, {0}, {0}, NULL},
+    {"tree_decompose", "0..3456789ABC.", DECOMPOSE, TREE, tree_decompose, {0}, {0}, {0}, NULL},
+    {"moments", "0..345.789AB..", MOMENTS, TREE, moments, {0}, {0}, {0}, NULL},
     {.name = "convert_text", .answers = "0123456789ABC.", .run_alone = run_on_text},
     {.name = "write_job", .answers = "0.234567.9ABC.", .run_alone = run_on_job},
 };
@@ -75,13 +79,15 @@ enum { COUNT = sizeof calls / sizeof *calls, WRITE_JOB = COUNT - 1 };
 
 static bool can_give(const struct call *call, int answer) { return call->answers[answer] != '.'; }
 
+static bool is_on_families(const struct call *call) { return can_give(call, 11); }
+
 /* Runs a random case of a call on lists and holds it against the model; the answer. */
 static uint32_t run_on_lists(const struct call *call, struct trial *trial, struct random *random) {
     static const uint32_t zeros[LEAST_WORK];
     uint32_t result[MOST_RESULTS], *output, *work = NULL;
     struct lent x = make_case(random, call->operation, call->way);
     trial->m = &x.m;
-    trial->rows = x.a.length;
+    note_family(trial, &x);
     trial->number = refusal(&x);
     if (trial->number == 0) hand_out(&x, result);
     struct lent lent = lend_lists(trial, random, &x);
@@ -110,40 +116,64 @@ static void run_case(uint64_t seed, uint64_t number_of_case) {
     struct trial trial = {.call = call->name, .seed = seed, .number_of_case = number_of_case};
     uint32_t answer = call->run ? run_on_lists(call, &trial, &random) : call->run_alone(&trial, &random);
     call->met[answer]++;
-    if (answer == 0) call->finished[trial.rows] = true;
+    if (answer != 0) return;
+    call->finished[trial.rows] = true;
+    call->finished_with[trial.first_c]++;
 }
 
-/* How many cases each call had, how often it gave each answer, and with how many different numbers of rows it finished. */
+/* How often something was met, where it can be. */
+static void print_met(bool can_be, unsigned long met) {
+    if (can_be)
+        printf(" %6lu", met);
+    else
+        printf(" %6s", "-");
+}
+
+/* How many cases each call had, how often it gave each answer, with how many different numbers of rows it finished, and how often
+ * with a c_1 that is 0 and with one that shares a factor with m. */
 static void print_table(void) {
     printf("%-15s %7s", "answer", "cases");
     for (int answer = 0; answer < ANSWERS; answer++) printf(" %6d", answer);
-    printf("  rows\n");
+    printf("  rows  c_1=0 shares\n");
     for (size_t i = 0; i < COUNT; i++) {
         unsigned long cases = 0;
         for (int answer = 0; answer < ANSWERS; answer++) cases += calls[i].met[answer];
         printf("%-15s %7lu", calls[i].name, cases);
-        for (int answer = 0; answer < ANSWERS; answer++) {
-            if (can_give(&calls[i], answer))
-                printf(" %6lu", calls[i].met[answer]);
-            else
-                printf(" %6s", "-");
-        }
+        for (int answer = 0; answer < ANSWERS; answer++) print_met(can_give(&calls[i], answer), calls[i].met[answer]);
         int numbers_of_rows = 0;
         for (int rows = 0; rows <= MOST_ROWS; rows++) numbers_of_rows += calls[i].finished[rows];
-        printf(" %5d\n", numbers_of_rows);
+        printf(" %5d", numbers_of_rows);
+        for (int kind = ZERO; kind <= SHARES_FACTOR; kind++) print_met(is_on_families(&calls[i]), calls[i].finished_with[kind]);
+        printf("\n");
     }
 }
 
-/* Whether every call gave each answer that it can give; says which is the first that was not met. */
-static bool met_all(void) {
-    for (size_t i = 0; i < COUNT; i++) {
-        for (int answer = 0; answer < ANSWERS; answer++) {
-            if (can_give(&calls[i], answer) && calls[i].met[answer] == 0) {
-                fprintf(stderr, "differential: no case of %s had the answer %d: take more cases\n", calls[i].name, answer);
-                return false;
-            }
+/* Whether the call gave each answer that it can give; says which is the first that was not met. */
+static bool met_answers(const struct call *call) {
+    for (int answer = 0; answer < ANSWERS; answer++) {
+        if (can_give(call, answer) && call->met[answer] == 0) {
+            fprintf(stderr, "differential: no case of %s had the answer %d: take more cases\n", call->name, answer);
+            return false;
         }
     }
+    return true;
+}
+
+/* Whether the call, if it is on families, finished with a c_1 that is 0 and with one that shares a factor with m. */
+static bool met_first_c(const struct call *call) {
+    static const char *const kinds[] = {[ZERO] = "is 0", [SHARES_FACTOR] = "shares a factor with m"};
+    for (int kind = ZERO; kind <= SHARES_FACTOR; kind++) {
+        if (is_on_families(call) && call->finished_with[kind] == 0) {
+            fprintf(stderr, "differential: no case of %s finished with a c_1 that %s: take more cases\n", call->name, kinds[kind]);
+            return false;
+        }
+    }
+    return true;
+}
+
+static bool met_all(void) {
+    for (size_t i = 0; i < COUNT; i++)
+        if (!met_answers(&calls[i]) || !met_first_c(&calls[i])) return false;
     return true;
 }
 

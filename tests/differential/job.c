@@ -52,7 +52,7 @@ uint32_t run_on_job(struct trial *trial, struct random *random) {
     struct lent x = make_job(random, &operation);
     trial->m = &x.m;
     trial->operation = &operation;
-    trial->rows = x.a.length;
+    note_family(trial, &x);
     trial->number = writing_refusal(operation, &x);
     if (trial->number == 0) job_length = write_job(&x, job);
     struct lent lent = lend_lists(trial, random, &x);

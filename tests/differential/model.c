@@ -53,6 +53,11 @@ static bool all_have_inverses(struct list list, uint32_t m) {
     return true;
 }
 
+/* The entries from row 2 on: none if there is no such row. */
+static struct list from_row_2(struct list list) {
+    return list.length ? (struct list){list.entries + 1, list.length - 1} : list;
+}
+
 uint32_t refusal(const struct lent *x) {
     if (x->m < 2 || x->m > GREATEST_MODULUS) return 3;
     if (takes_family(x)) {
@@ -63,7 +68,7 @@ uint32_t refusal(const struct lent *x) {
         if (takes_work(x) && x->work_length < LEAST_WORK) return 8;
         if (!all_below(x->a, x->m) || !all_below(x->b, x->m) || !all_below(x->c, x->m)) return 9;
         if (!all_have_inverses(x->a, x->m)) return 10;
-        if (!all_have_inverses(x->c, x->m)) return 11;
+        if (!all_have_inverses(from_row_2(x->c), x->m)) return 11;
     }
     if (takes_curve(x) && !all_below(x->curve, x->m)) return 12;
     if (x->operation == INVERSE && !all_have_inverses(x->curve, x->m)) return 13;

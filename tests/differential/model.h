@@ -1,7 +1,7 @@
 /* The calls of the scope paper, once more: which refusal a call gives, and what list it hands out.
  *
- * Follows the scope paper, and shares no code with the crates or with tests/reference. It does not use the library's header:
- * the limits stand here again. Only texts are apart (text_model.h).
+ * Follows the scope paper and the request for a first row with any c, and shares no code with the crates or with tests/reference.
+ * It does not use the library's header: the limits stand here again. Only texts are apart (text_model.h).
  */
 #ifndef MODEL_H
 #define MODEL_H

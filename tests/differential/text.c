@@ -23,7 +23,7 @@ uint32_t run_on_text(struct trial *trial, struct random *random) {
     make_text(random, &text, &x.output_length, &x.work_length);
     trial->number = read_text(text.bytes, text.length, &x);
     if (trial->number == 0) trial->number = refusal(&x);
-    trial->rows = x.a.length;
+    note_family(trial, &x);
     hold_text_call(trial, random, text.bytes, text.length, &x);
     return trial->number;
 }

@@ -97,6 +97,12 @@ const void *dirt(struct random *random, size_t bytes) {
     return dirt_numbers + below(random, (DIRT_BYTES - bytes) / sizeof *dirt_numbers);
 }
 
+void note_family(struct trial *trial, const struct lent *x) {
+    uint32_t c_1 = x->c.length ? x->c.entries[0] : 1;
+    trial->rows = x->a.length;
+    trial->first_c = c_1 == 0 ? ZERO : common_divisor(c_1, x->m) != 1 ? SHARES_FACTOR : INVERTIBLE;
+}
+
 void *lend(struct trial *trial, struct random *random, struct lending lending) {
     size_t place = trial->lendings++, bytes = lending.length * lending.width;
     trial->lending[place] = lending;

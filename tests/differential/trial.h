@@ -26,6 +26,9 @@ struct lending {
     size_t front_length;
 };
 
+/* What a family's c_1 is: it has an inverse, or there is no row; it is 0; it is another number that shares a factor with m. */
+enum first_c { INVERTIBLE, ZERO, SHARES_FACTOR, KINDS_OF_FIRST_C };
+
 /* A case of a call. Number is what it has to return; a text has no m of its own, and only write_job is told the number of an
  * operation. Rows says how long its family is. */
 struct trial {
@@ -34,6 +37,7 @@ struct trial {
     const uint32_t *m, *operation;
     uint32_t number;
     size_t rows, lendings;
+    enum first_c first_c;
     struct lending lending[MOST_LENDINGS];
     unsigned char *at[MOST_LENDINGS];
 };
@@ -43,6 +47,9 @@ void prepare_trials(size_t most_bytes);
 
 /* What an output or a working list of so many bytes may hold before a call; never the same for long. */
 const void *dirt(struct random *random, size_t bytes);
+
+/* Notes the rows and the c_1 of the trial's family. */
+void note_family(struct trial *trial, const struct lent *x);
 
 /* Lends numbers, and returns where they are: for none of them sometimes NULL. */
 void *lend(struct trial *trial, struct random *random, struct lending lending);

@@ -137,11 +137,18 @@ static void on_family(const struct function *f) {
     GIVES(ENTRY, 2, x.a[1] = 7);
     GIVES(ENTRY, 2, x.b[1] = 7);
     GIVES(ENTRY, 2, x.c[1] = 7);
+    GIVES(ENTRY, 1, x.c[0] = 7);
+    GIVES(ENTRY, 2, x.c[0] = 7);
     GIVES(FINISHED, 2, x.b[1] = 0);
     GIVES(A_INVERSE, 2, x.a[1] = 0);
     GIVES(C_INVERSE, 2, x.c[1] = 0);
     GIVES(A_INVERSE, 2, (x.m = 15, x.a[1] = 6));
     GIVES(C_INVERSE, 2, (x.m = 15, x.c[1] = 6));
+    GIVES(FINISHED, 1, x.c[0] = 0);
+    GIVES(FINISHED, 2, x.c[0] = 0);
+    GIVES(FINISHED, 2, (x.m = 15, x.c[0] = 6));
+    GIVES(FINISHED, ZAHUPNIK_MOST_ROWS, x.c[0] = 0);
+    GIVES(C_INVERSE, ZAHUPNIK_MOST_ROWS, x.c[ZAHUPNIK_MOST_ROWS - 1] = 0);
 }
 
 static void on_curve(const struct function *f) {

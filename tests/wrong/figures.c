@@ -6,7 +6,10 @@
 #include "text_model.h"
 
 #define R 7, 2, {1, 2}, {0, 3}, {1, 5}
-#define FOUR 35, 4, {2, 3, 4, 6}, {1, 0, 34, 5}, {3, 8, 9, 11}
+#define FOUR_BUT(c_1) 35, 4, {2, 3, 4, 6}, {1, 0, 34, 5}, {c_1, 8, 9, 11}
+#define FOUR FOUR_BUT(3)
+#define ZERO_C_1 35, 2, {1, 3}, {0, 0}, {0, 6}
+#define ZERO_C_2 35, 2, {1, 3}, {0, 0}, {0, 0}
 #define EIGHT 10, 8, {1, 3, 7, 9, 1, 3, 7, 9}, {0, 1, 2, 3, 4, 5, 6, 7}, {9, 7, 3, 1, 9, 7, 3, 1}
 #define P12_FAMILY 15, 1, {2}, {1}, {4}
 #define P10_FAMILY 15, 1, {3}, {0}, {5}
@@ -40,6 +43,21 @@ const struct figure FIGURES[] = {
     {"eight", DECOMPOSE, EIGHT, {7, 8, 7, 4, 8, 0, 8, 2, 9}, 0, {1, 2, 3, 4, 5, 6, 7, 8, 9}},
     {"eight", MOMENTS, EIGHT, NO_CURVE, 0, {1, 0, 1, 3, 7, 3, 2, 4, 5, 1, 0, 4, 9, 7, 9, 3, 5}},
     {"eight", NORMS, EIGHT, NO_CURVE, 0, {1, 1, 3, 1, 9, 9, 7, 9, 9}},
+    {"zero c_1", EXPAND, ZERO_C_1, {1, 2, 3}, 0, {19, 2, 9}},
+    {"zero c_1", ADJOINT, ZERO_C_1, {1, 2, 3}, 0, {1, 2, 15}},
+    {"zero c_1", DECOMPOSE, ZERO_C_1, {19, 2, 9}, 0, {1, 2, 3}},
+    {"zero c_1", MOMENTS, ZERO_C_1, NO_CURVE, 0, {1, 0, 33, 0, 28}},
+    {"zero c_1", NORMS, ZERO_C_1, NO_CURVE, 0, {1, 33, 6}},
+    {"four but c_1 = 10", EXPAND, FOUR_BUT(10), {1, 2, 3, 4, 5}, 0, {6, 31, 7, 1, 20}},
+    {"four but c_1 = 10", ADJOINT, FOUR_BUT(10), {1, 2, 3, 4, 5}, 0, {1, 5, 32, 34, 4}},
+    {"four but c_1 = 10", DECOMPOSE, FOUR_BUT(10), {6, 31, 7, 1, 20}, 0, {1, 2, 3, 4, 5}},
+    {"four but c_1 = 10", MOMENTS, FOUR_BUT(10), NO_CURVE, 0, {18, 26, 33, 13, 20, 9, 30, 26, 19}},
+    {"four but c_1 = 10", NORMS, FOUR_BUT(10), NO_CURVE, 0, {18, 9, 18, 8, 22}},
+    {"zero c_2", EXPAND, ZERO_C_2, {1, 2, 3}, 11, {0}},
+    {"zero c_2", ADJOINT, ZERO_C_2, {1, 2, 3}, 11, {0}},
+    {"zero c_2", DECOMPOSE, ZERO_C_2, {1, 2, 3}, 11, {0}},
+    {"zero c_2", MOMENTS, ZERO_C_2, NO_CURVE, 11, {0}},
+    {"zero c_2", NORMS, ZERO_C_2, NO_CURVE, 11, {0}},
     {"P10's family", ADJOINT, P10_FAMILY, {1, 1}, 10, {0}},
     {"P10's family", DECOMPOSE, P10_FAMILY, {1, 1}, 10, {0}},
     {"P10's family", MOMENTS, P10_FAMILY, NO_CURVE, 10, {0}},

@@ -87,13 +87,16 @@ uint32_t job_curve_first(const struct text_call *call) { return curve_before_row
 
 uint32_t job_row_by_row(const struct text_call *call) { return rows_in_turn(&call->job->lent, right_text(call)); }
 
-uint32_t job_non_zero(const struct text_call *call) {
-    return past_four(call) ? 2 : answer(call, refusal_non_zero(&call->job->lent), &call->job->lent);
+/* The answer by the refusal that a slip gives; a number that no operation has is refused before. */
+static uint32_t tested_by(const struct text_call *call, uint32_t (*refusal_with)(const struct lent *x)) {
+    return past_four(call) ? 2 : answer(call, refusal_with(&call->job->lent), &call->job->lent);
 }
 
-uint32_t job_powering(const struct text_call *call) {
-    return past_four(call) ? 2 : answer(call, refusal_powering(&call->job->lent), &call->job->lent);
-}
+uint32_t job_non_zero(const struct text_call *call) { return tested_by(call, refusal_non_zero); }
+uint32_t job_powering(const struct text_call *call) { return tested_by(call, refusal_powering); }
+uint32_t job_c_1_asked(const struct text_call *call) { return tested_by(call, refusal_c_1_asked); }
+uint32_t job_c_2_not_asked(const struct text_call *call) { return tested_by(call, refusal_c_2_not_asked); }
+uint32_t job_one_row_untested(const struct text_call *call) { return tested_by(call, refusal_one_row_untested); }
 
 uint32_t output_of_answer(const struct text_call *call) {
     struct lent x = call->job->lent;

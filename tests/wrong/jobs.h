@@ -25,6 +25,9 @@ uint32_t job_curve_first(const struct text_call *call);       /* 12 tested befor
 uint32_t job_row_by_row(const struct text_call *call);        /* 9, 10 and 11 tested together, row after row */
 uint32_t job_non_zero(const struct text_call *call);          /* whatever is not zero taken to have an inverse */
 uint32_t job_powering(const struct text_call *call);          /* 10 and 11 never given, as by inverses that are powers */
+uint32_t job_c_1_asked(const struct text_call *call);         /* 11 from row 1 on */
+uint32_t job_c_2_not_asked(const struct text_call *call);     /* 11 from row 3 on */
+uint32_t job_one_row_untested(const struct text_call *call);  /* no 9, 10 or 11 where there is one row */
 uint32_t output_of_answer(const struct text_call *call);      /* an output of 4,096 bytes taken */
 uint32_t output_one_longer(const struct text_call *call);     /* an output of 8,192 bytes refused */
 

@@ -41,7 +41,7 @@ uint32_t rows_in_turn(const struct lent *x, uint32_t number) {
     for (size_t i = 0; i < x->a.length; i++) {
         if (x->a.entries[i] >= x->m || x->b.entries[i] >= x->m || x->c.entries[i] >= x->m) return 9;
         if (common_divisor(x->a.entries[i], x->m) != 1) return 10;
-        if (common_divisor(x->c.entries[i], x->m) != 1) return 11;
+        if (i > 0 && common_divisor(x->c.entries[i], x->m) != 1) return 11;
     }
     return number;
 }

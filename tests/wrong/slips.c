@@ -12,6 +12,10 @@ enum slip {
     PADDING_SHOWS,
     POWERING,
     NON_ZERO,
+    C_1_INVERTED,
+    C_1_ASKED,
+    C_2_NOT_ASKED,
+    ONE_ROW_UNTESTED,
     NORM_OVER_A_I,
     NORM_FROM_C_1,
     NORM_TO_C_I,
@@ -249,6 +253,22 @@ static void moments(const struct family *f, uint32_t *result) {
     }
 }
 
+/* The inverse of a c from the cofactor of the product of all c, untested: right only if every c has an inverse. */
+static uint32_t inverse_of_c(const struct family *f, size_t place) {
+    uint32_t others = 1;
+    for (size_t i = 0; i < f->count; i++)
+        if (i != place) others = times(others, f->c[i], f->m);
+    return times(cofactor(times(others, f->c[place], f->m), f->m), others, f->m);
+}
+
+/* The inverse of norm i; with the slip, (-1)^i a_{i+1} times the inverses of c_2 .. c_{i+1}. f has its closing row. */
+static uint32_t inverse_of_norm(const struct family *f, const uint32_t *norm, size_t i) {
+    if (f->slip != C_1_INVERTED) return inverse(f->slip, norm[i], f->m);
+    uint32_t result = f->a[i];
+    for (size_t place = 1; place <= i; place++) result = opposite(times(result, inverse_of_c(f, place), f->m), f->m);
+    return result;
+}
+
 /* f without its closing row, and f with it. */
 static void decompose(const struct family *f, const struct family *closed, const uint32_t *coefficients, uint32_t *result) {
     size_t n = closed->count;
@@ -259,39 +279,50 @@ static void decompose(const struct family *f, const struct family *closed, const
         for (size_t j = 0; j < n; j++)
             product[i] = (uint32_t)((product[i] + (uint64_t)moment[i + j] * coefficients[j]) % f->m);
     adjoint(f, product, result);
-    for (size_t i = 0; i < n; i++) result[i] = times(result[i], inverse(f->slip, norm[i], f->m), f->m);
+    for (size_t i = 0; i < n; i++) result[i] = times(result[i], inverse_of_norm(closed, norm, i), f->m);
 }
 
 /* ---- calls */
 
-/* A list in which each number below m that the slip lets pass as invertible is 1. */
+/* A list in which each number that the slip lets pass is 1: those below m that it takes for invertible, and an only row's. */
 static struct list let_pass(enum slip slip, struct list list, uint32_t m, uint32_t *room) {
     for (size_t i = 0; i < list.length; i++) {
         uint32_t x = list.entries[i];
-        room[i] = x < m && (slip == POWERING || (slip == NON_ZERO && x)) ? 1 : x;
+        bool invertible = x < m && (slip == POWERING || (slip == NON_ZERO && x));
+        room[i] = invertible || (slip == ONE_ROW_UNTESTED && list.length == 1) ? 1 : x;
     }
     return (struct list){room, list.length};
 }
 
+/* Whether there is a c_1 without an inverse. */
+static bool c_1_refused(const struct lent *x) { return x->c.length && common_divisor(x->c.entries[0], x->m) != 1; }
+
 /* The refusal that the call gives with its slip, or 0. */
 static uint32_t refusal_with(enum slip slip, const struct lent *x) {
-    static uint32_t a[1 << 13], c[1 << 13], number[1];
+    static uint32_t a[1 << 13], b[1 << 13], c[1 << 13], number[1];
     struct lent passed = *x;
     passed.a = let_pass(slip, x->a, x->m, a);
+    passed.b = let_pass(slip, x->b, x->m, b);
     passed.c = let_pass(slip, x->c, x->m, c);
     if (x->operation == INVERSE) passed.curve = let_pass(slip, x->curve, x->m, number);
-    return refusal(&passed);
+    if (slip == C_2_NOT_ASKED && x->c.length > 1 && c[1] < x->m) c[1] = 1;
+    uint32_t refused = refusal(&passed);
+    return slip == C_1_ASKED && (refused == 0 || refused == 12) && c_1_refused(x) ? 11 : refused;
 }
 
 uint32_t refusal_powering(const struct lent *x) { return refusal_with(POWERING, x); }
 uint32_t refusal_non_zero(const struct lent *x) { return refusal_with(NON_ZERO, x); }
+uint32_t refusal_c_1_asked(const struct lent *x) { return refusal_with(C_1_ASKED, x); }
+uint32_t refusal_c_2_not_asked(const struct lent *x) { return refusal_with(C_2_NOT_ASKED, x); }
+uint32_t refusal_one_row_untested(const struct lent *x) { return refusal_with(ONE_ROW_UNTESTED, x); }
 
+/* The rows, and of what was not tested the remainders. */
 static struct family family_of(enum slip slip, const struct lent *x) {
     struct family f = {.slip = slip, .m = x->m, .count = x->a.length};
     for (size_t i = 0; i < f.count; i++) {
-        f.a[i] = x->a.entries[i];
-        f.b[i] = x->b.entries[i];
-        f.c[i] = x->c.entries[i];
+        f.a[i] = x->a.entries[i] % x->m;
+        f.b[i] = x->b.entries[i] % x->m;
+        f.c[i] = x->c.entries[i] % x->m;
     }
     return f;
 }
@@ -322,6 +353,10 @@ uint32_t lowest_level_only(const struct call *call) { return answer_with(LOWEST_
 uint32_t padding_shows(const struct call *call) { return answer_with(PADDING_SHOWS, call); }
 uint32_t powering_untested(const struct call *call) { return answer_with(POWERING, call); }
 uint32_t non_zero_taken(const struct call *call) { return answer_with(NON_ZERO, call); }
+uint32_t c_1_inverted(const struct call *call) { return answer_with(C_1_INVERTED, call); }
+uint32_t c_1_asked(const struct call *call) { return answer_with(C_1_ASKED, call); }
+uint32_t c_2_not_asked(const struct call *call) { return answer_with(C_2_NOT_ASKED, call); }
+uint32_t one_row_untested(const struct call *call) { return answer_with(ONE_ROW_UNTESTED, call); }
 uint32_t norm_over_a_i(const struct call *call) { return answer_with(NORM_OVER_A_I, call); }
 uint32_t norm_from_c_1(const struct call *call) { return answer_with(NORM_FROM_C_1, call); }
 uint32_t norm_to_c_i(const struct call *call) { return answer_with(NORM_TO_C_I, call); }

@@ -15,10 +15,19 @@ uint32_t padding_shows(const struct call *call);       /* the tree is filled up 
 /* Inverses. */
 uint32_t powering_untested(const struct call *call);   /* x^(m-2), and no test whether there is an inverse */
 uint32_t non_zero_taken(const struct call *call);      /* whatever is not zero taken to have an inverse */
+uint32_t c_1_inverted(const struct call *call);        /* those of the c from one Euclid on c_1 .. c_n, untested */
+
+/* The rows that are tested. */
+uint32_t c_1_asked(const struct call *call);           /* 11 from row 1 on */
+uint32_t c_2_not_asked(const struct call *call);       /* 11 from row 3 on */
+uint32_t one_row_untested(const struct call *call);    /* no 9, 10 or 11 where there is one row */
 
 /* The refusal that a call gives with that slip, or 0. */
 uint32_t refusal_powering(const struct lent *x);
 uint32_t refusal_non_zero(const struct lent *x);
+uint32_t refusal_c_1_asked(const struct lent *x);
+uint32_t refusal_c_2_not_asked(const struct lent *x);
+uint32_t refusal_one_row_untested(const struct lent *x);
 
 /* Norms. */
 uint32_t norm_over_a_i(const struct call *call);       /* norm i divided by a_i and not by a_{i+1}; norm 0 by a_1 */
