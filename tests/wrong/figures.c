@@ -10,6 +10,7 @@
 #define FOUR FOUR_BUT(3)
 #define ZERO_C_1 35, 2, {1, 3}, {0, 0}, {0, 6}
 #define ZERO_C_2 35, 2, {1, 3}, {0, 0}, {0, 0}
+#define C_1_NOT_BELOW 35, 2, {1, 3}, {0, 0}, {35, 6}
 #define EIGHT 10, 8, {1, 3, 7, 9, 1, 3, 7, 9}, {0, 1, 2, 3, 4, 5, 6, 7}, {9, 7, 3, 1, 9, 7, 3, 1}
 #define P12_FAMILY 15, 1, {2}, {1}, {4}
 #define P10_FAMILY 15, 1, {3}, {0}, {5}
@@ -58,6 +59,11 @@ const struct figure FIGURES[] = {
     {"zero c_2", DECOMPOSE, ZERO_C_2, {1, 2, 3}, 11, {0}},
     {"zero c_2", MOMENTS, ZERO_C_2, NO_CURVE, 11, {0}},
     {"zero c_2", NORMS, ZERO_C_2, NO_CURVE, 11, {0}},
+    {"c_1 = 35", EXPAND, C_1_NOT_BELOW, {1, 2, 3}, 9, {0}},
+    {"c_1 = 35", ADJOINT, C_1_NOT_BELOW, {1, 2, 3}, 9, {0}},
+    {"c_1 = 35", DECOMPOSE, C_1_NOT_BELOW, {1, 2, 3}, 9, {0}},
+    {"c_1 = 35", MOMENTS, C_1_NOT_BELOW, NO_CURVE, 9, {0}},
+    {"c_1 = 35", NORMS, C_1_NOT_BELOW, NO_CURVE, 9, {0}},
     {"P10's family", ADJOINT, P10_FAMILY, {1, 1}, 10, {0}},
     {"P10's family", DECOMPOSE, P10_FAMILY, {1, 1}, 10, {0}},
     {"P10's family", MOMENTS, P10_FAMILY, NO_CURVE, 10, {0}},

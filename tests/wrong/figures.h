@@ -1,5 +1,5 @@
 /* The scope paper's figures P1 to P12, and examples for what they leave untouched: `four` of definitions and `eight` of tree_model, whose
- * trees have levels; families whose c_1 is 0 or shares a factor with m; refusals of each operation; job texts that are not of the
+ * trees have levels; families whose c_1 is 0, shares a factor with m or is not below it; refusals of each operation; job texts that are not of the
  * form; and jobs to be written.
  */
 #ifndef FIGURES_H

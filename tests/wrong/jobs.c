@@ -96,6 +96,8 @@ uint32_t job_non_zero(const struct text_call *call) { return tested_by(call, ref
 uint32_t job_powering(const struct text_call *call) { return tested_by(call, refusal_powering); }
 uint32_t job_c_1_asked(const struct text_call *call) { return tested_by(call, refusal_c_1_asked); }
 uint32_t job_c_2_not_asked(const struct text_call *call) { return tested_by(call, refusal_c_2_not_asked); }
+uint32_t job_a_1_not_asked(const struct text_call *call) { return tested_by(call, refusal_a_1_not_asked); }
+uint32_t job_c_1_unread(const struct text_call *call) { return tested_by(call, refusal_c_1_unread); }
 uint32_t job_one_row_untested(const struct text_call *call) { return tested_by(call, refusal_one_row_untested); }
 
 uint32_t output_of_answer(const struct text_call *call) {

@@ -27,6 +27,8 @@ uint32_t job_non_zero(const struct text_call *call);          /* whatever is not
 uint32_t job_powering(const struct text_call *call);          /* 10 and 11 never given, as by inverses that are powers */
 uint32_t job_c_1_asked(const struct text_call *call);         /* 11 from row 1 on */
 uint32_t job_c_2_not_asked(const struct text_call *call);     /* 11 from row 3 on */
+uint32_t job_a_1_not_asked(const struct text_call *call);     /* 10 from row 2 on */
+uint32_t job_c_1_unread(const struct text_call *call);        /* 9 passes over c_1 */
 uint32_t job_one_row_untested(const struct text_call *call);  /* no 9, 10 or 11 where there is one row */
 uint32_t output_of_answer(const struct text_call *call);      /* an output of 4,096 bytes taken */
 uint32_t output_one_longer(const struct text_call *call);     /* an output of 8,192 bytes refused */

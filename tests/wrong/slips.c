@@ -15,6 +15,8 @@ enum slip {
     C_1_INVERTED,
     C_1_ASKED,
     C_2_NOT_ASKED,
+    A_1_NOT_ASKED,
+    C_1_UNREAD,
     ONE_ROW_UNTESTED,
     NORM_OVER_A_I,
     NORM_FROM_C_1,
@@ -306,6 +308,8 @@ static uint32_t refusal_with(enum slip slip, const struct lent *x) {
     passed.c = let_pass(slip, x->c, x->m, c);
     if (x->operation == INVERSE) passed.curve = let_pass(slip, x->curve, x->m, number);
     if (slip == C_2_NOT_ASKED && x->c.length > 1 && c[1] < x->m) c[1] = 1;
+    if (slip == A_1_NOT_ASKED && x->a.length && a[0] < x->m) a[0] = 1;
+    if (slip == C_1_UNREAD && x->c.length) c[0] = 1;
     uint32_t refused = refusal(&passed);
     return slip == C_1_ASKED && (refused == 0 || refused == 12) && c_1_refused(x) ? 11 : refused;
 }
@@ -314,6 +318,8 @@ uint32_t refusal_powering(const struct lent *x) { return refusal_with(POWERING, 
 uint32_t refusal_non_zero(const struct lent *x) { return refusal_with(NON_ZERO, x); }
 uint32_t refusal_c_1_asked(const struct lent *x) { return refusal_with(C_1_ASKED, x); }
 uint32_t refusal_c_2_not_asked(const struct lent *x) { return refusal_with(C_2_NOT_ASKED, x); }
+uint32_t refusal_a_1_not_asked(const struct lent *x) { return refusal_with(A_1_NOT_ASKED, x); }
+uint32_t refusal_c_1_unread(const struct lent *x) { return refusal_with(C_1_UNREAD, x); }
 uint32_t refusal_one_row_untested(const struct lent *x) { return refusal_with(ONE_ROW_UNTESTED, x); }
 
 /* The rows, and of what was not tested the remainders. */
@@ -356,6 +362,8 @@ uint32_t non_zero_taken(const struct call *call) { return answer_with(NON_ZERO, 
 uint32_t c_1_inverted(const struct call *call) { return answer_with(C_1_INVERTED, call); }
 uint32_t c_1_asked(const struct call *call) { return answer_with(C_1_ASKED, call); }
 uint32_t c_2_not_asked(const struct call *call) { return answer_with(C_2_NOT_ASKED, call); }
+uint32_t a_1_not_asked(const struct call *call) { return answer_with(A_1_NOT_ASKED, call); }
+uint32_t c_1_unread(const struct call *call) { return answer_with(C_1_UNREAD, call); }
 uint32_t one_row_untested(const struct call *call) { return answer_with(ONE_ROW_UNTESTED, call); }
 uint32_t norm_over_a_i(const struct call *call) { return answer_with(NORM_OVER_A_I, call); }
 uint32_t norm_from_c_1(const struct call *call) { return answer_with(NORM_FROM_C_1, call); }

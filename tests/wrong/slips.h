@@ -20,6 +20,8 @@ uint32_t c_1_inverted(const struct call *call);        /* those of the c from on
 /* The rows that are tested. */
 uint32_t c_1_asked(const struct call *call);           /* 11 from row 1 on */
 uint32_t c_2_not_asked(const struct call *call);       /* 11 from row 3 on */
+uint32_t a_1_not_asked(const struct call *call);       /* 10 from row 2 on, as 11 */
+uint32_t c_1_unread(const struct call *call);          /* 9 passes over c_1, as 11 does */
 uint32_t one_row_untested(const struct call *call);    /* no 9, 10 or 11 where there is one row */
 
 /* The refusal that a call gives with that slip, or 0. */
@@ -27,6 +29,8 @@ uint32_t refusal_powering(const struct lent *x);
 uint32_t refusal_non_zero(const struct lent *x);
 uint32_t refusal_c_1_asked(const struct lent *x);
 uint32_t refusal_c_2_not_asked(const struct lent *x);
+uint32_t refusal_a_1_not_asked(const struct lent *x);
+uint32_t refusal_c_1_unread(const struct lent *x);
 uint32_t refusal_one_row_untested(const struct lent *x);
 
 /* Norms. */
