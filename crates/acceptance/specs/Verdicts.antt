@@ -90,6 +90,14 @@ module _ (us : List Test) (values : List ℕ) where
   verdict-goes-on [] n = refl
   verdict-goes-on (t ∷ ts) (q, rest) = verdict-next t (ts ++ us) values q ∙ verdict-goes-on ts rest
 
+-- tests that come to the same behind others
+pub verdict-behind : (before ts us : List Test) (values : List ℕ) → verdict ts values ≡ verdict us values
+    → verdict (before ++ ts) values ≡ verdict (before ++ us) values
+unfolding verdict
+verdict-behind [] ts us values e = e
+verdict-behind (t ∷ before) ts us values e =
+    ap (λ v. elim (t .holds) [ true ↦ refused (t .number) | false ↦ v ]) (verdict-behind before ts us values e)
+
 -- the tests of a number
 pub differ-false : (x y : ℕ) → (differ x y ≡ false) ↔ (x ≡ y)
 unfolding differ
