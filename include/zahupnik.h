@@ -3,7 +3,7 @@
  * m need not be prime. All numbers are whole, and results are remainders from 0 to m - 1. A family has r rows, and row i
  * (i = 1 to r) is a_i, b_i, c_i, at index i - 1 of the lists a, b and c. Its polynomials are F_{-1} = 0, F_0 = 1 and
  * F_i = (a_i x + b_i) F_{i-1} + c_i F_{i-2}. n is r + 1 throughout. Lists have the lowest index or power first.
- * c_1 multiplies F_{-1} = 0 only: it may be any number below m, 0 too, as in Legendre's recurrence, and shows in no result.
+ * c_1 multiplies F_{-1} = 0 only: it may be any number below m, 0 too, as in Legendre's recurrence, and no converted list depends on it.
  *
  * What a function returns: ZAHUPNIK_FINISHED, and then the result that its comment states is written; or the number of a
  * refusal, and then nothing is written, so that the output is what it was: look at the number before you use the output. A function

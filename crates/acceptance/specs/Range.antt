@@ -1,27 +1,90 @@
 -- From which row on 11 looks at the c.
---   rowsFrom first f   the tests 9 10 11 of a family, 11 from place first on: familyRows f with another range
---   callFrom           the tests of a call on a family, with that range
--- Proved: where every c has an inverse, the verdict of a call is the same with 11 from any place on, whatever the modulus and whatever else
--- the call tests. So such a family gets the answers that it would get with 11 from row 1 on. Item 2 of the change requests.
--- Assumes nothing.
+--   callFrom first f   the tests of a call on a family, with 11 from place first on
+--   CallOf f ts        ts are the tests of a call on f, with 11 as it is: before the family's shape, between it and the rows, and after these
+--                      stand whatever tests
+-- Proved: the tests of each call are of that form (plain-call and so on), and where every c has an inverse, their verdict is the same with
+-- 11 from any place on, whatever the modulus. So such a family gets the answers that it would get with 11 from row 1 on. Item 2 of the
+-- change requests. Assumes nothing.
 use mathlib.Core.Path.{_≡_, refl, sym, _∙_, ap}
+use mathlib.Core.Bool.{false}
 use mathlib.Core.List.{List, [], _∷_, _++_}
 use Prim.Native.Nat.{ℕ, zero, suc, _<_}
 use native.Mathlib.Omega.{arith}
+use lib.ListN.{length}
 use Rattle.definitions.specs.Number.{HasInverse}
-use Rattle.definitions.specs.Family.{Family, firstC, size, rowAt}
-use Rattle.definitions.specs.Refusals.{Test, refused, verdict, test, modulusTest, entriesTest, aInverseTest, cInverseTest, shapeTests, familyShape}
-use Rattle.definitions.specs.Refusals.{rowInverses, familyRows}
+use Rattle.definitions.specs.Family.{Family, firstC, rows, size, rowAt}
+use Rattle.definitions.specs.JobWriting.{jobOutputLength, writingTests}
+use Rattle.definitions.specs.Orthogonality.{momentCount}
+use Rattle.definitions.specs.Refusals.{Test, refused, verdict, test, modulusTest, entriesTest, aInverseTest, cInverseTest, shapeTests}
+use Rattle.definitions.specs.Refusals.{curveLengthTest, outputTest, workTest, curveEntriesTest, familyShape, rowInverses, familyRows, valueTests}
+use Rattle.definitions.specs.Refusals.{plainTests, treeTests, momentsTests, normsTests}
+use Rattle.definitions.specs.Reading.{found}
+use Rattle.definitions.specs.Text.{WrittenJob, Job, meant}
+use Rattle.definitions.specs.TextCall.{textOutputLength, textLengthTest, curveCount, textOutputTest, lengthTests, sizeTests, jobTests, formTests}
 use Rattle.acceptance.specs.Verdicts.{verdict-here, verdict-behind, c-inverses-pass}
 
-abbrev pub rowsFrom : ℕ → Family → List Test
-rowsFrom first f = entriesTest f ∷ rowInverses first f
-
--- a call's tests, with these in the place of familyRows f: others stand before the shape of the family, as in a text, between the shape and
--- the rows, and after them
 abbrev pub callFrom : ℕ → Family → List Test → List Test → List Test → List Test
-callFrom first f before between after = before ++ (familyShape f ++ (between ++ (rowsFrom first f ++ after)))
+callFrom first f before between after = before ++ (familyShape f ++ (between ++ ((entriesTest f ∷ rowInverses first f) ++ after)))
 
+pub record CallOf (f : Family) (ts : List Test) : Type 0 where
+  pub before : List Test
+  pub between : List Test
+  pub after : List Test
+  pub tests : ts ≡ callFrom firstC f before between after
+
+-- ---- the calls
+module _ (f : Family) (u : List ℕ) where
+  abbrev curveLength : Test
+  curveLength = curveLengthTest (size f) (length u)
+
+  abbrev curveEntries : List Test
+  curveEntries = curveEntriesTest (f .m) u ∷ []
+
+  pub plain-call : (output : ℕ) → CallOf f (plainTests f u output)
+  unfolding plainTests valueTests familyRows
+  plain-call output = record { before = []; between = curveLength ∷ outputTest (size f) output ∷ []; after = curveEntries; tests = refl }
+
+  pub tree-call : (output work : ℕ) → CallOf f (treeTests f u output work)
+  unfolding treeTests valueTests familyRows
+  tree-call output work = record {
+    before = [];
+    between = curveLength ∷ outputTest (size f) output ∷ workTest work ∷ [];
+    after = curveEntries;
+    tests = refl;
+  }
+
+pub moments-call : (f : Family) (output work : ℕ) → CallOf f (momentsTests f output work)
+unfolding momentsTests familyRows rowInverses
+moments-call f output work =
+    record { before = []; between = outputTest (momentCount f) output ∷ workTest work ∷ []; after = []; tests = refl }
+
+pub norms-call : (f : Family) (output : ℕ) → CallOf f (normsTests f output)
+unfolding normsTests familyRows rowInverses
+norms-call f output = record { before = []; between = outputTest (size f) output ∷ []; after = []; tests = refl }
+
+module _ (j : Job) (output : ℕ) where
+  abbrev jobCurve : Test
+  jobCurve = curveLengthTest (curveCount (j .operation) (rows (j .family))) (length (j .curve))
+
+  abbrev jobEntries : List Test
+  jobEntries = curveEntriesTest (j .family .m) (j .curve) ∷ []
+
+  pub writing-call : CallOf (j .family) (writingTests j output)
+  unfolding writingTests lengthTests shapeTests valueTests familyRows
+  writing-call = record { before = []; between = jobCurve ∷ textOutputTest jobOutputLength output ∷ []; after = jobEntries; tests = refl }
+
+-- a text of the form, in which the job w stands, behind 1 and 2
+pub text-call : (w : WrittenJob) (bytes output work : ℕ)
+    → CallOf (meant w .family) (textLengthTest bytes ∷ formTests (found w) output work)
+unfolding formTests jobTests sizeTests lengthTests shapeTests valueTests familyRows
+text-call w bytes output work = record {
+  before = textLengthTest bytes ∷ test 2 false ∷ [];
+  between = jobCurve (meant w) output ∷ textOutputTest textOutputLength output ∷ workTest work ∷ [];
+  after = jobEntries (meant w) output;
+  tests = refl;
+}
+
+-- ---- the range
 module _ (f : Family) (all : (i : ℕ) → i < size f → HasInverse (f .m) (rowAt f i .c)) where
   c-from-any-row : 0 < f .m → (first later : ℕ) → cInverseTest first f ≡ cInverseTest later f
   unfolding cInverseTest
@@ -45,7 +108,8 @@ module _ (f : Family) (all : (i : ℕ) → i < size f → HasInverse (f .m) (row
         split (suc m) e = ap (λ t. verdict (familyShape f ++ (between ++ ((entriesTest f ∷ aInverseTest f ∷ t ∷ []) ++ after))) values)
             (c-from-any-row (omega arith) first later)
 
-    pub verdict-from-any-row : (before : List Test) (first : ℕ) → verdict (callFrom first f before between after) values
-        ≡ verdict (before ++ (familyShape f ++ (between ++ (familyRows f ++ after)))) values
-    unfolding familyRows
-    verdict-from-any-row before first = verdict-behind before _ _ values (from-any-row first firstC)
+  pub verdict-from-any-row : (ts : List Test) (call : CallOf f ts) (first : ℕ) (values : List ℕ)
+      → verdict (callFrom first f (call .before) (call .between) (call .after)) values ≡ verdict ts values
+  verdict-from-any-row ts call first values =
+      verdict-behind (call .before) _ _ values (from-any-row (call .between) (call .after) values first firstC)
+      ∙ ap (λ ts. verdict ts values) (sym (call .tests))

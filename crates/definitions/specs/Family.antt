@@ -3,7 +3,7 @@
 --   Row            three numbers a, b, c;  ones  the closing row 1 1 1;  RowBelow  all three are below m
 --   Family         the modulus, the lists a, b and c, and the closing row, which is row n
 --   F f j i        the coefficient of x^i in F_j; G f j i the same of G_j
---   Accepted f     what the paper accepts;  Convertible f  the fewer inverses that the laws need
+--   Accepted f     what the paper accepts;  Convertible f  what the laws need of it: the inverses
 --   Curve f u      u is a list of n numbers below m
 -- Row i of the paper, i = 1 to n, stands at place i - 1: the closing row is row n. Places n - 1 and higher read as the closing row, so
 -- that F_j is there for every j. The scope paper, 'Channel, family, curve' and 'The definitions'. Assumes nothing.

@@ -1,4 +1,4 @@
--- Which c_1 a family has makes no difference to a call, as long as it is below m.
+-- Which c_1 a family has makes no difference to what the calls on lists answer and hand out, as long as it is below m.
 -- Proved of two families that differ in c_1 alone (begun of theory, FirstC), where both c_1 are below m: the tests on their rows are the
 -- same, and what a call promises of the one it promises of the other: the answer, the output and the working list. So a family whose c_1
 -- has no inverse is answered as the one whose c_1 is 1. Item 2 of the change requests. Assumes nothing.
@@ -49,6 +49,7 @@ module _ (m : ℕ) (a b c : List ℕ) (close : Row) (x y : ℕ) (xBelow : x < m)
   rows-first = rw (same-entries, same-a, same-c)
 
   module _ (v : Verdict) (output output′ : List ℕ) where
+    -- expand, adjoint and decompose are such conversions: expand-first, adjoint-first and decompose-first of theory
     module _ (convert : Family → List ℕ → List ℕ) (u : List ℕ) (same : convert f u ≡ convert g u) where
       pub plain-first : PlainCall convert g u v output output′ → PlainCall convert f u v output output′
       unfolding plainTests valueTests

@@ -20,7 +20,8 @@ pub fn invert(m: u32, x: u32) -> Valued
 
 // Expand, row by row: from a curve the n coefficients, in powers of x, of the sum of its entries times F_i.
 // Refused with 3 to 7: m, the lists or their lengths are not in order (the station's program); with 9 to 11: an entry of the family
-// is not below m or lacks an inverse (the maker of the element); with 12: a curve entry is not below m (the sender of the curve).
+// is not below m, or an a, or a c from row 2 on, has no inverse (the maker of the element); with 12: a curve entry is not below m (the
+// sender of the curve).
 pub fn plain_expand(
     m: u32,
     a: &[u32],
