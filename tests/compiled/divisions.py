@@ -20,7 +20,8 @@ import sys
 TABLE = """
 products::add_products        1  0  0
 inverses::of_list             2  2  2
-verdicts::rows                1  6  4
+checks::lacks_inverse         1  2  2
+verdicts::rows                1  2  0
 subproduct::descend           1  0  0
 subproduct::build             1  0  0
 tree::expand                  1  1  0
