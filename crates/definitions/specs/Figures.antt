@@ -51,12 +51,15 @@ infix 80 _gives_
 abbrev _gives_ : Call → Verdict → Figure
 call gives hands = record { call = call; hands = hands }
 
--- the paper's R, of which F_2 = 2 x^2 + 3 x + 5, and a family of four rows modulo 35
+-- the paper's R, of which F_2 = 2 x^2 + 3 x + 5, and a family of four rows modulo 35, with any c_1 and with 3
 abbrev pub R : Family
 R = family 7 (1 ∷ 2 ∷ []) (0 ∷ 3 ∷ []) (1 ∷ 5 ∷ [])
 
+abbrev pub fourFrom : ℕ → Family
+fourFrom c = family 35 (2 ∷ 3 ∷ 4 ∷ 6 ∷ []) (1 ∷ 0 ∷ 34 ∷ 5 ∷ []) (c ∷ 8 ∷ 9 ∷ 11 ∷ [])
+
 abbrev pub four : Family
-four = family 35 (2 ∷ 3 ∷ 4 ∷ 6 ∷ []) (1 ∷ 0 ∷ 34 ∷ 5 ∷ []) (3 ∷ 8 ∷ 9 ∷ 11 ∷ [])
+four = fourFrom 3
 
 -- P1 to P12 in their order; P11 and P12 are two rows each
 abbrev pub figures : List Figure
@@ -105,7 +108,7 @@ abbrev pub zeroFirst : Family
 zeroFirst = family 35 (1 ∷ 3 ∷ []) (0 ∷ 0 ∷ []) (0 ∷ 6 ∷ [])
 
 abbrev pub sharedFirst : Family
-sharedFirst = family 35 (2 ∷ 3 ∷ 4 ∷ 6 ∷ []) (1 ∷ 0 ∷ 34 ∷ 5 ∷ []) (10 ∷ 8 ∷ 9 ∷ 11 ∷ [])
+sharedFirst = fourFrom 10
 
 abbrev pub onlyRow : Family
 onlyRow = family 15 (2 ∷ []) (1 ∷ []) (6 ∷ [])

@@ -4,7 +4,7 @@
 -- has no inverse is answered as the one whose c_1 is 1. Item 2 of the change requests. Assumes nothing.
 use mathlib.Core.Path.{_≡_, refl, sym, _∙_, ap}
 use mathlib.Core.Bool.{_||_}
-use mathlib.Core.List.{List, _∷_}
+use mathlib.Core.List.{List}
 use Prim.Native.Nat.{ℕ, zero, suc, _<_, _≤_}
 use native.Mathlib.Omega.{arith}
 use Rattle.definitions.specs.Answers.{PlainCall, TreeCall, NormsCall, MomentsCall}

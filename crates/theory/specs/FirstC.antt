@@ -2,14 +2,13 @@
 --   begun m a b c close x   the family whose c_1 is x, and whose c from row 2 on are those of the list c
 -- Proves that Expand, Adjoint, Decompose, Moments and Norms are the same for every c_1, whether it has an inverse or not: so a family
 -- whose c_1 is 0 has the lists of the one whose c_1 is 1. Item 2 of the change requests. Assumes nothing.
-use mathlib.Core.Path.{_≡_, refl, ap, ap₂, fun-ext}
+use mathlib.Core.Path.{_≡_, refl, fun-ext}
 use mathlib.Core.List.{List, _∷_}
 use Prim.Native.Nat.{ℕ, zero, suc, _<_}
 use native.Mathlib.Omega.{arith}
 use Rattle.definitions.specs.Conversion.{expand, adjoint, decompose}
 use Rattle.definitions.specs.Family.{Family, Row, rows, size, rowAt, F, G}
-use Rattle.definitions.specs.Number.{negative, inverse}
-use Rattle.definitions.specs.Orthogonality.{reversal, quotient, momentCount, moments, signedProduct, norm, norms}
+use Rattle.definitions.specs.Orthogonality.{moments, signedProduct, norm, norms}
 use Rattle.numbers.specs.Lists.{table-equal}
 use Rattle.theory.specs.SameRows.{Agree, term-equal, expand-same, adjoint-same, decompose-same}
 
