@@ -1,6 +1,7 @@
 -- The tests of the calls:
 --   Verdicts     each test as a plain fact, and verdicts settled test by test
 --   Stages       how a call makes its tests stage by stage
+--   Promises     what a call promises, from the answer of its tests
 --   Given        which numbers its tests can give
 --   Acceptance   what a call that finishes has been lent
 --   Range        from which row on 11 looks at the c, where every c has an inverse
@@ -8,6 +9,7 @@
 -- Assumes nothing.
 pub mod Verdicts
 pub mod Stages
+pub mod Promises
 pub mod Given
 pub mod Acceptance
 pub mod Range

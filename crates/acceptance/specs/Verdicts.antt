@@ -6,15 +6,16 @@
 -- not hold.
 -- Assumes nothing.
 use mathlib.Core.Path.{_≡_, refl, sym, _∙_, ap, ap₂, subst}
-use mathlib.Core.Bool.{Bool, true, false, not, _||_, not-eq-not, true≢false}
+use mathlib.Core.Bool.{Bool, true, false, not, _||_, _&&_, not-eq-not, true≢false}
 use mathlib.Core.List.{List, [], _∷_, _++_}
-use mathlib.Core.Logic.{_↔_, Iff·rfl, Iff·trans, ⊎-elim}
+use mathlib.Core.Logic.{_↔_, Iff·rfl, Iff·trans, ⊎-elim, by-cases}
 use Prim.Native.Nat.{ℕ, zero, suc, _+_, _*_, _-_, _%_, _<_, _≤_}
+use native.Mathlib.Decide.{decLt}
 use native.Mathlib.Nat.{le-of-suc-le-suc, eq-or-lt-of-le}
 use native.Mathlib.Omega.{arith}
-use lib.Dec.{eqb, ltb}
+use lib.Dec.{eqb, ltb, leb}
 use lib.ListN.{length, getD}
-use borrow.Author.Tests.{eq-eqb, eqb-true, le-ltb, leb-false, lt-leb, ltb-false, not-false}
+use borrow.Author.Tests.{eq-eqb, eqb-true, le-leb, le-ltb, leb-false, lt-leb, ltb-false, not-false}
 use Rattle.definitions.specs.Number.{HasInverse, inverse}
 use Rattle.definitions.specs.Family.{Row, Family, Modulus, RowBelow, mostRows, size, rowAt}
 use Rattle.definitions.specs.Refusals.{Test, Verdict, finished, refused, verdict, some, someFrom, someRow, differ, notBelow, noInverse}
@@ -158,10 +159,10 @@ from-next : (passes : ℕ → Bool) (first count : ℕ) → passes first ≡ fal
 unfolding someFrom
 from-next passes first count e = rw (e, someFrom)
 
-abbrev Within : (ℕ → Bool) → ℕ → ℕ → Type 0
+abbrev pub Within : (ℕ → Bool) → ℕ → ℕ → Type 0
 Within passes first count = (i : ℕ) → first ≤ i → i < first + count → passes i ≡ false
 
-someFrom-false : (passes : ℕ → Bool) (first count : ℕ) → (someFrom passes first count ≡ false) ↔ Within passes first count
+pub someFrom-false : (passes : ℕ → Bool) (first count : ℕ) → (someFrom passes first count ≡ false) ↔ Within passes first count
 unfolding someFrom
 someFrom-false passes first zero = (λ e i l h. absurd (omega arith), λ all. refl)
 someFrom-false passes first (suc count) = split (passes first) refl (someFrom-false passes (suc first) count)
@@ -249,20 +250,25 @@ pub curve-entries-pass : (m : ℕ) (u : List ℕ) (d : ℕ) → (curveEntriesTes
 unfolding curveEntriesTest
 curve-entries-pass m u d = some-notBelow-false m u d
 
+pub row-below-false : (m : ℕ) (row : Row) → ((notBelow m (row .a) || notBelow m (row .b) || notBelow m (row .c)) ≡ false) ↔ RowBelow m row
+row-below-false m row = simp (or-false, notBelow-false) (
+  λ p. record { aBelow = p .0 .0; bBelow = p .0 .1; cBelow = p .1 },
+  λ h. ((h .aBelow, h .bBelow), h .cBelow),
+)
+
+-- a test that is made from a place on
+pub from-false : (first place : ℕ) (t : Bool) → ((leb first place && t) ≡ false) ↔ (first ≤ place → t ≡ false)
+from-false first place t = by-cases (decLt place first)
+    (λ l. (λ e h. absurd (omega arith), λ h. ap (λ s. s && t) (lt-leb first place l)))
+    (λ l. let e : leb first place ≡ true = le-leb first place (omega arith) in rw e (λ q h. q, λ h. h (omega arith)))
+
 module _ (f : Family) where
   pub entries-pass : (entriesTest f .holds ≡ false) ↔ ((i : ℕ) → i < size f → RowBelow (f .m) (rowAt f i))
   unfolding entriesTest
   entries-pass = Iff·trans (someRow-false f 0 _) (
-    λ all i h. below (rowAt f i) .0 (all i (omega arith) h),
-    λ all i l h. below (rowAt f i) .1 (all i h),
+    λ all i h. row-below-false (f .m) (rowAt f i) .0 (all i (omega arith) h),
+    λ all i l h. row-below-false (f .m) (rowAt f i) .1 (all i h),
   )
-    where
-      below : (row : Row) → ((notBelow (f .m) (row .a) || notBelow (f .m) (row .b) || notBelow (f .m) (row .c)) ≡ false)
-          ↔ RowBelow (f .m) row
-      below row = simp (or-false, notBelow-false) (
-        λ p. record { aBelow = p .0 .0; bBelow = p .0 .1; cBelow = p .1 },
-        λ h. ((h .aBelow, h .bBelow), h .cBelow),
-      )
 
   module _ (pos : 0 < f .m) where
     pub a-inverses-pass : (aInverseTest f .holds ≡ false) ↔ ((i : ℕ) → i < size f → HasInverse (f .m) (rowAt f i .a))

@@ -11,10 +11,13 @@
 --   Reading       how a job text is read
 --   TextCall      the tests of the text call in their order, what it hands out, and its promise
 --   JobWriting    the tests of the call that writes a job text in their order, and its promise
+--   Prepared      the record of a family, what it means that a record is right, its changes with their tests and promises
+--   PreparedCalls the tests and promises of the operations on a record
 --   Printing      what the program prints for the bytes that it reads
 --   TextExamples  the paper's job and its answer byte for byte, texts that are refused, and what is printed for each, computed
 --   RefusalExamples  every fault at once, and then one after another mended, computed
 --   PromiseExamples  the outcome that each promise allows of the paper's family and job, computed
+--   PreparedExamples  the record of the paper's family, what breaks a record, and changes one after another, computed
 -- Assumes nothing.
 pub mod Number
 pub mod Family
@@ -27,7 +30,10 @@ pub mod Text
 pub mod Reading
 pub mod TextCall
 pub mod JobWriting
+pub mod Prepared
+pub mod PreparedCalls
 pub mod Printing
 pub mod TextExamples
 pub mod RefusalExamples
 pub mod PromiseExamples
+pub mod PreparedExamples
