@@ -3,3 +3,4 @@ pub mod Passes
 pub mod Settling
 pub mod Shape
 pub mod RowTests
+pub mod NewRow

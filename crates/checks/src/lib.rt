@@ -7,6 +7,7 @@ ghost use Prim.Native.Nat.{ℕ, _≤_, _<_};
 ghost use lib.ListN.{length};
 ghost use Rattle.definitions.specs.Answers.{answered};
 ghost use Rattle.definitions.specs.Family.{rowOf};
+ghost use Rattle.definitions.specs.Prepared.{rowTests};
 ghost use Rattle.definitions.specs.Refusals.{verdict, some, notBelow, modulusTest, equalLengthsTest, rowCountTest, curveLengthTest};
 ghost use Rattle.definitions.specs.Refusals.{outputTest, workTest, entriesTest, curveEntriesTest, numberTest, shapeTests, rowInverses, familyRows};
 ghost use Rattle.definitions.specs.TextCall.{textLengthTest, textOutputTest};
@@ -52,7 +53,8 @@ fn all_below(m: u32, list: &[u32]) -> bool
     all
 }
 
-fn entries_below(m: u32, list: &[u32]) -> Entries
+// Whether all entries are below m, and if not, the first that is not.
+pub fn entries_below(m: u32, list: &[u32]) -> Entries
     ensures { λ r. ⌜ BelowAnswer m (now (list .entry)) r ⌝ }
 {
     if all_below(m, list) {
@@ -300,6 +302,32 @@ pub fn family_rows(
         return entries;
     };
     row_inverses(m, a, c, r, FIRST_C, close_a, close_c)
+}
+
+// 9, 10 and 11 of a new row, which is to stand at a place.
+pub fn new_row(m: u32, place: usize, a: u32, b: u32, c: u32) -> Answer
+    requires { ⌜ 0 < m ⌝ }
+    ensures { λ r. ⌜ answered r ≡ verdict (rowTests m place (rowOf a b c)) [] ⌝ }
+{
+    if m <= a {
+        return Answer::Refused(9);
+    }
+    if m <= b {
+        return Answer::Refused(9);
+    }
+    if m <= c {
+        return Answer::Refused(9);
+    }
+    let Inversion::Found(_) = invert(m, a) else {
+        return Answer::Refused(10);
+    };
+    if place < FIRST_C {
+        return Answer::Finished;
+    }
+    let Inversion::Found(_) = invert(m, c) else {
+        return Answer::Refused(11);
+    };
+    Answer::Finished
 }
 
 // 12: the entries of a curve.

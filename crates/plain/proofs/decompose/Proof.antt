@@ -17,6 +17,11 @@ Inv-loop m a-inverses b c coefficients n output rows rise stay fall current₀ i
 abbrev μ-loop : tie.MeasureT-loop
 μ-loop m a-inverses b c coefficients n output rows rise stay fall current₀ i₀ current i = n - i
 
+returns : tie.Need-returns Inv-loop μ-loop
+returns c =
+    let start = c .before .before .before .before .before .before in
+    λ a inverts. absurd (omega (arith, start .pre .most))
+
 sub-rows : tie.Need-sub-rows Inv-loop μ-loop
 sub-rows c = omega arith
 
@@ -38,7 +43,7 @@ slice-aggregate-negative-products-2 c = omega arith
 negative-products-requires-2 : tie.Need-negative-products-requires-2 Inv-loop μ-loop
 negative-products-requires-2 c κs =
     let arrays = c .before .before .before .before .before .before .before in
-    let input = arrays .before .before .before .before .before .before .before .before .before .pre in
+    let input = arrays .before .before .before .before .before .before .before .before .before .before .pre in
     omega (arith, ap length (arrays .before .zeros3 .ensures), input)
 
 loop-holds : tie.Need-loop-holds Inv-loop μ-loop
@@ -79,14 +84,14 @@ decompose-row-requires : tie.Need-decompose-row-requires Inv-loop μ-loop
 decompose-row-requires c κs =
     let loop = c .before .before .before .before .before .before in
     let arrays = loop .before .before .before .before .before .before .before .before .before .before in
-    let input = arrays .before .before .before .before .before .before .before .before .before .pre in
+    let input = arrays .before .before .before .before .before .before .before .before .before .before .pre in
     decompose-step-input input (loop .loop .inv .0) (c .before .before .before .before .before .loop-test .taken) (loop .loop .inv .1)
 
 add-i : tie.Need-add-i Inv-loop μ-loop
 add-i c =
     let loop = c .before .before .before .before .before .before .before .before in
     let arrays = loop .before .before .before .before .before .before .before .before .before .before in
-    let input = arrays .before .before .before .before .before .before .before .before .before .pre in
+    let input = arrays .before .before .before .before .before .before .before .before .before .before .pre in
     omega (arith, input .most)
 
 loop-less : tie.Need-loop-less Inv-loop μ-loop
@@ -97,7 +102,7 @@ loop-again c =
     let test = c .before .before .before .before .before .before .before in
     let loop = test .before in
     let arrays = loop .before .before .before .before .before .before .before .before .before .before in
-    let input = arrays .before .before .before .before .before .before .before .before .before .pre in (
+    let input = arrays .before .before .before .before .before .before .before .before .before .before .pre in (
       loop .loop .inv .0,
       decompose-step input (loop .loop .inv .0) (test .loop-test .taken) (loop .loop .inv .1) (c .before .decompose-row .ensures),
     )
@@ -111,20 +116,20 @@ copy-requires-2 c κs = omega arith
 same-length : tie.Need-same-length Inv-loop μ-loop
 same-length c = omega arith
 
-returns : tie.Need-returns Inv-loop μ-loop
-returns c =
+returns-2 : tie.Need-returns-2 Inv-loop μ-loop
+returns-2 c =
     let test = c .before .before .before .before .before in
     let loop = test .before in
     let arrays = loop .before .before .before .before .before .before .before .before .before .before in
-    let input = arrays .before .before .before .before .before .before .before .before .before .pre in
+    let input = arrays .before .before .before .before .before .before .before .before .before .before .pre in
     decompose-ends input (test .loop-test .left) (loop .loop .inv .1) (c .before .before .copy2 .ensures)
 
 pub decompose-spec : {M : Type 1} → statement M
 decompose-spec =
     tie.close
     (tie.spec
-    Inv-loop μ-loop sub-rows (search needs) (search needs) (search needs) (search needs) slice-aggregate-copy copy-requires
+    Inv-loop μ-loop returns sub-rows (search needs) (search needs) (search needs) (search needs) slice-aggregate-copy copy-requires
     slice-aggregate-negative-products negative-products-requires slice-aggregate-negative-products-2 negative-products-requires-2
     loop-holds sub-decompose-row mul-decompose-row shared-slice-read-decompose-row slice-aggregate-decompose-row
     slice-aggregate-decompose-row-2 slice-aggregate-decompose-row-3 slice-aggregate-decompose-row-4 add-decompose-row
-    decompose-row-requires add-i loop-less loop-again slice-aggregate-copy-2 copy-requires-2 same-length returns)
+    decompose-row-requires add-i loop-less loop-again slice-aggregate-copy-2 copy-requires-2 same-length returns-2)

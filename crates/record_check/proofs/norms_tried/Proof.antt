@@ -1,0 +1,140 @@
+-- `norms_tried` meets its contract. The loop's invariant: the product at hand is that of this place, and the flag says of the places before it
+-- whether each ties with the next. The measure is how many rows are left. Assumes nothing.
+use mathlib.Core.Path.{_≡_, sym, _∙_, ap, ap₂}
+use mathlib.Core.Logic.{⊎-elim, Iff·trans}
+use Prim.Native.Nat.{_+_, _*_, _-_, _%_, _<_}
+use native.Mathlib.Nat.{mod-lt}
+use native.Mathlib.Omega.{arith}
+use lib.ListN.{getD}
+use borrow.Author.Needs.{needs}
+use Rattle.record_check.specs.Findings.{says-no}
+use Rattle.record_check.specs.Norms.{weighedAt, Ties, first-fails, all-tie, sum-fits}
+use Rattle.record_check.specs.Scans.{Scanned, scan-starts, scan-holds, scan-fails, scan-ends}
+use Rattle.record_check.proofs.norms_tried.Statement.{statement}
+use Rattle.record_check.proofs.norms_tried.Tie as tie
+
+abbrev Inv-loop : tie.InvT-loop
+Inv-loop m count a c norms reciprocal before₀ all₀ i₀ before all i =
+    (before ≡ weighedAt m count a norms i) × Scanned (Ties m count a c norms) 0 count all i
+
+abbrev μ-loop : tie.MeasureT-loop
+μ-loop m count a c norms reciprocal before₀ all₀ i₀ before all i = count - i
+
+-- the first product, of what is stored
+first-product : (c : tie.After-product-by Inv-loop μ-loop)
+    → let args = c .before .before .before .before .before .before .before .args in c .product-by .result ≡ weighedAt (args .m) (args .count) (args .a .now) (args .norms .now) 0
+first-product c =
+    let args = c .before .before .before .before .before .before .before .args in
+    c .product-by .ensures ∙ ap (λ x. getD (args .norms .now) 0 0 * x % args .m) (c .before .row-entry .ensures)
+
+reciprocal-requires : tie.Need-reciprocal-requires Inv-loop μ-loop
+reciprocal-requires c κs = c .before .before .before .pre .0
+
+shared-slice-read-product-by : tie.Need-shared-slice-read-product-by Inv-loop μ-loop
+shared-slice-read-product-by c = omega arith
+
+row-entry-requires : tie.Need-row-entry-requires Inv-loop μ-loop
+row-entry-requires c κs = c .before .before .before .before .before .pre .2
+
+product-by-requires : tie.Need-product-by-requires Inv-loop μ-loop
+product-by-requires c κs = c .before .before .reciprocal .ensures
+
+returns : tie.Need-returns Inv-loop μ-loop
+returns c = λ b.
+    let product = c .before in
+    let args = product .before .before .before .before .before .before .before .args in
+    says-no (first-fails (args .m) (args .count) (args .a .now) b (args .c .now) (args .norms .now) (λ e. c .if1 .taken (first-product product ∙ e)))
+
+loop-holds : tie.Need-loop-holds Inv-loop μ-loop
+loop-holds c = (first-product (c .before), scan-starts)
+
+add-product-by : tie.Need-add-product-by Inv-loop μ-loop
+add-product-by c = omega arith
+
+mul-product-by : tie.Need-mul-product-by Inv-loop μ-loop
+mul-product-by c = omega arith
+
+shared-slice-read-product-by-2 : tie.Need-shared-slice-read-product-by-2 Inv-loop μ-loop
+shared-slice-read-product-by-2 c = omega arith
+
+add-row-entry : tie.Need-add-row-entry Inv-loop μ-loop
+add-row-entry c = omega arith
+
+row-entry-requires-2 : tie.Need-row-entry-requires-2 Inv-loop μ-loop
+row-entry-requires-2 c κs = c .before .before .before .before .before .before .before .before .before .before .before .pre .2
+
+product-by-requires-2 : tie.Need-product-by-requires-2 Inv-loop μ-loop
+product-by-requires-2 c κs = c .before .before .before .before .before .before .before .before .reciprocal .ensures
+
+add-row-entry-2 : tie.Need-add-row-entry-2 Inv-loop μ-loop
+add-row-entry-2 c = omega arith
+
+row-entry-requires-3 : tie.Need-row-entry-requires-3 Inv-loop μ-loop
+row-entry-requires-3 c κs = c .before .before .before .before .before .before .before .before .before .before .before .before .before .pre .3
+
+before-below : (c : tie.After-row-entry3 Inv-loop μ-loop) → c .before .before .before .before .before .loop .before < c .before .before .before .before .before .before .before .before .before .before .before .before .before .before .args .m
+before-below c =
+    let loop = c .before .before .before .before .before in
+    rw (loop .loop .inv .0) (mod-lt _ (loop .before .before .before .before .before .before .before .before .before .pre .0))
+
+cast-sum-2 : tie.Need-cast-sum-2 Inv-loop μ-loop
+cast-sum-2 c = omega (arith, before-below c)
+
+-- what is multiplied and added up is of 32 bits
+sum-below : (c : tie.After-row-entry3 Inv-loop μ-loop)
+    → c .before .product-by2 .result + c .before .before .before .before .before .loop .before * c .row-entry3 .result < 18446744073709551616
+sum-below c =
+    let start = c .before .before .before .before .before .before .before .before .before .before .before .before .before .before in
+    let next : c .before .product-by2 .result < start .args .m = rw (c .before .product-by2 .ensures) (mod-lt _ (start .pre .0)) in
+    sum-fits _ _ _ (omega (arith, before-below c)) (omega arith) (omega (arith, next))
+
+mul-sum : tie.Need-mul-sum Inv-loop μ-loop
+mul-sum c = omega (arith, sum-below c)
+
+add-sum : tie.Need-add-sum Inv-loop μ-loop
+add-sum c = omega (arith, sum-below c)
+
+remainder-requires : tie.Need-remainder-requires Inv-loop μ-loop
+remainder-requires c κs = c .before .before .before .before .before .before .before .before .before .before .reciprocal .ensures
+
+add-i : tie.Need-add-i Inv-loop μ-loop
+add-i c = omega arith
+
+loop-less : tie.Need-loop-less Inv-loop μ-loop
+loop-less c = omega arith
+
+loop-again : tie.Need-loop-again Inv-loop μ-loop
+loop-again c =
+    let remainder = c .before in
+    let factor = remainder .before in
+    let product = factor .before in
+    let inside = product .before .before .before in
+    let so-far = inside .before .loop .inv in
+    let args = inside .before .before .before .before .before .before .before .before .before .before .args in
+    let next = product .product-by2 .ensures ∙ ap (λ x. getD (args .norms .now) (inside .before .loop .i + 1) 0 * x % args .m)
+    (product .before .row-entry2 .ensures) in
+    let sum = remainder .remainder .ensures
+    ∙ ap₂ (λ x y. (x + y) % args .m) next (ap₂ (λ x y. x * y) (so-far .0) (factor .row-entry3 .ensures)) in (
+      next,
+      ⊎-elim
+          (λ w. scan-fails (so-far .1) (inside .loop-test .taken) (w .1) (λ ties. w .0 .taken (sum ∙ ties)))
+          (λ w. scan-holds (so-far .1) (inside .loop-test .taken) (w .1) (sym sum ∙ w .0 .left))
+          (c .if2 .came),
+    )
+
+returns-2 : tie.Need-returns-2 Inv-loop μ-loop
+returns-2 c = λ b.
+    let loop = c .before in
+    let args = loop .before .before .before .before .before .before .before .before .before .args in
+    Iff·trans (scan-ends (loop .loop .inv .1) (c .loop-test .left))
+    (all-tie _ _ (args .a .now) b (args .c .now) (args .norms .now) (loop .before .before .before .before .before .before .before .before .before .pre .2)
+    (sym (first-product (loop .before .before)) ∙ loop .before .if1 .left))
+
+pub norms-tried-spec : {M : Type 1} → statement M
+norms-tried-spec =
+    tie.close
+    (tie.spec
+    Inv-loop μ-loop reciprocal-requires shared-slice-read-product-by row-entry-requires product-by-requires returns loop-holds
+    add-product-by mul-product-by shared-slice-read-product-by-2 add-row-entry row-entry-requires-2 product-by-requires-2
+    add-row-entry-2 row-entry-requires-3 (search needs) cast-sum-2 (search needs) mul-sum add-sum remainder-requires add-i loop-less
+    loop-again returns-2)
