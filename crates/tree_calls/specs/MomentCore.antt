@@ -11,13 +11,13 @@ use Rattle.definitions.specs.Orthogonality.{moments}
 use Rattle.definitions.specs.Refusals.{verdict, momentsTests}
 use Rattle.definitions.specs.declared.Answer.{Answer}
 use Rattle.acceptance.specs.Acceptance.{MomentsInput, TreeInput, moments-passes}
+use Rattle.acceptance.specs.Promises.{both-made}
 use Rattle.acceptance.specs.Stages.{stage-none}
 use Rattle.inverses.specs.InverseArray.{InverseArray, whole-inverts, whole-inverts-c}
 use Rattle.lists.specs.Held.{Output}
 use Rattle.lists.specs.Lent.{lent}
-use Rattle.lists.specs.Whole.{accepted-long, accepted-lent, lent-family, curve-held}
+use Rattle.lists.specs.Whole.{accepted-long, accepted-lent, lent-family, curve-held, output-whole}
 use Rattle.moment_way.specs.Input.{MomentsCoreInput, DecomposeInput, accepted-moments, accepted-decompose}
-use Rattle.tree_calls.specs.TreeCore.{both-made}
 
 pub moments-accepted : {f : Family} {output work : ℕ} {r : Answer} → answered r ≡ verdict (momentsTests f output work) []
     → r ≡ Answer.Finished → MomentsInput f output work
@@ -44,4 +44,4 @@ pub moments-made : {m : ℕ} {a b c output work : List ℕ} → MomentsInput (fa
     → Output (moments (lent m (length a + 1 - 1) a b c ones)) (2 * (length a + 1) - 1) output output′ work work′
     → MomentsCall (family m a b c) (answered Answer.Finished) output output′ work work′
 moments-made {a = a} input e q left =
-    both-made e q left (omega (arith, input .outputLength)) (ap moments (lent-family (input .accepted)))
+    both-made e q (output-whole left (omega (arith, input .outputLength)) (ap moments (lent-family (input .accepted)))) (left .wiped)

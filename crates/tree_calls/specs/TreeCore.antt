@@ -1,42 +1,28 @@
--- A call with a working list, and a call on a curve by the tree way.
--- Proved: what a refusal and what a core leaves is what such a call promises; from the verdict of the tests to what the tree's cores are
--- handed, and from their list, which is the model's, to the definition's. Assumes nothing.
-use mathlib.Core.Path.{_≡_, sym, _∙_, ap, ap₂}
+-- A call on a curve by the tree way.
+-- Proved: from the verdict of the tests to what the tree's cores are handed, and from their list, which is the model's, to the
+-- definition's. Assumes nothing.
+use mathlib.Core.Path.{_≡_, _∙_, ap₂}
 use mathlib.Core.List.{List, []}
 use Prim.Native.Nat.{ℕ, suc, _+_, _-_}
 use native.Mathlib.Omega.{arith}
 use lib.ListN.{length, take}
 use lib.Seq.{take-all}
-use Rattle.definitions.specs.Answers.{answered, cleared, ConvertedIn, TreeCall}
+use Rattle.definitions.specs.Answers.{answered, TreeCall}
 use Rattle.definitions.specs.Conversion.{expand, adjoint}
 use Rattle.definitions.specs.Family.{Family, family, ones}
-use Rattle.definitions.specs.Refusals.{Test, verdict, treeTests}
+use Rattle.definitions.specs.Refusals.{verdict, treeTests}
 use Rattle.definitions.specs.declared.Answer.{Answer}
 use Rattle.acceptance.specs.Acceptance.{TreeInput, tree-passes}
-use Rattle.acceptance.specs.Stages.{list-stays, stage-none}
+use Rattle.acceptance.specs.Promises.{both-made}
+use Rattle.acceptance.specs.Stages.{stage-none}
 use Rattle.lists.specs.Held.{Output}
 use Rattle.lists.specs.Lent.{lent}
 use Rattle.tree_model.specs.Tree.{treeExpand, treeAdjoint}
 use Rattle.tree_model.specs.TreeExpand.{tree-expand-accepted}
 use Rattle.tree_model.specs.TreeAdjoint.{tree-adjoint-accepted}
 use Rattle.tree.specs.Input.{Input, accepted-input}
-use Rattle.lists.specs.Whole.{accepted-long, accepted-lent, lent-family, curve-held, written-whole}
+use Rattle.lists.specs.Whole.{accepted-long, accepted-lent, lent-family, curve-held, output-whole}
 
--- ---- a call with a working list
-module _ {tests : List Test} {result output work : List ℕ} {r : Answer} (e : answered r ≡ verdict tests []) where
-  pub both-kept : {k : ℕ} → r ≡ Answer.Refused k → ConvertedIn tests result (answered r) output output work work
-  both-kept {k} q = record { answer = e; written = list-stays r k result output q; wiped = list-stays r k (cleared work) work q }
-
-  -- a core that fills the output
-  pub both-made : {n : ℕ} {made output′ work′ : List ℕ} → r ≡ Answer.Finished → Output made n output output′ work work′ → length output ≡ n
-      → made ≡ result → ConvertedIn tests result (answered Answer.Finished) output output′ work work′
-  both-made {n} {made} q left long is = record {
-    answer = sym (ap answered q) ∙ e;
-    written = left .written ∙ written-whole made output n long ∙ is;
-    wiped = left .wiped;
-  }
-
--- ---- by the tree way
 pub tree-input : {f : Family} {u : List ℕ} {output work : ℕ} {r : Answer} → answered r ≡ verdict (treeTests f u output work) []
     → r ≡ Answer.Finished → TreeInput f u output work
 tree-input {f} {u} {output} {work} {r} e q = tree-passes f u output work .0 (stage-none (treeTests f u output work) r e q)
@@ -55,8 +41,8 @@ module _ {m : ℕ} {a b c u output work : List ℕ} (input : TreeInput (family m
       → TreeCall convert (family m a b c) u (answered Answer.Finished) output output′ work work′
   tree-made way convert same e q left =
       let long : length u ≡ suc (length a) = input .plain .curve .long in
-      both-made e q left (omega (arith, input .plain .outputLength))
-      (ap₂ way (lent-family (input .plain .accepted)) (take-all (length a + 1) u (omega arith)) ∙ same)
+      both-made e q (output-whole left (omega (arith, input .plain .outputLength))
+      (ap₂ way (lent-family (input .plain .accepted)) (take-all (length a + 1) u (omega arith)) ∙ same)) (left .wiped)
 
 module _ {f : Family} {u : List ℕ} {output work : ℕ} (input : TreeInput f u output work) where
   pub expand-is : treeExpand f u ≡ expand f u

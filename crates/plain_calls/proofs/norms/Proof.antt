@@ -1,7 +1,8 @@
 -- `norms` meets its promise: it answers the verdict of its tests, and its core, lent the inverses of the a, writes the definition's
 -- list. Assumes nothing.
 use mathlib.Core.Path.{_∙_}
-use Rattle.plain_calls.specs.PlainCall.{tests-refuse, tests-finish, norms-input}
+use Rattle.acceptance.specs.Promises.{tests-refuse, tests-finish}
+use Rattle.plain_calls.specs.PlainCall.{norms-input}
 use Rattle.inverses.specs.InverseArray.{a-room, array-is, whole-inverts}
 use Rattle.plain_calls.specs.PlainCore.{norms-core, norms-written}
 use borrow.Author.Needs.{needs}

@@ -2,7 +2,8 @@
 -- definition's list. Assumes nothing.
 use mathlib.Core.Path.{_∙_}
 use Rattle.definitions.specs.Conversion.{decompose}
-use Rattle.plain_calls.specs.PlainCall.{tests-refuse, tests-finish, plain-input}
+use Rattle.acceptance.specs.Promises.{tests-refuse, tests-finish}
+use Rattle.plain_calls.specs.PlainCall.{plain-input}
 use Rattle.inverses.specs.InverseArray.{a-room, array-is, whole-inverts}
 use Rattle.plain_calls.specs.PlainCore.{decompose-core, plain-written}
 use borrow.Author.Needs.{needs}

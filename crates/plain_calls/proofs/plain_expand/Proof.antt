@@ -1,7 +1,8 @@
 -- `plain_expand` meets its promise: it answers the verdict of its tests, and its core writes the definition's list. Assumes nothing.
 use mathlib.Core.Path.{_∙_}
 use Rattle.definitions.specs.Conversion.{expand}
-use Rattle.plain_calls.specs.PlainCall.{tests-refuse, tests-finish, plain-input}
+use Rattle.acceptance.specs.Promises.{tests-refuse, tests-finish}
+use Rattle.plain_calls.specs.PlainCall.{plain-input}
 use Rattle.plain_calls.specs.PlainCore.{plain-core, plain-written}
 use borrow.Author.Needs.{needs}
 use Rattle.plain_calls.proofs.plain_expand.Statement.{statement}

@@ -2,7 +2,7 @@
 -- list and leaves the working list clear. Assumes nothing.
 use Rattle.tree_calls.specs.MomentCore.{moments-accepted, moments-input, moments-made}
 use Rattle.inverses.specs.InverseArray.{a-room, array-is}
-use Rattle.tree_calls.specs.TreeCore.{both-kept}
+use Rattle.acceptance.specs.Promises.{both-kept}
 use borrow.Author.Needs.{needs}
 use Rattle.tree_calls.proofs.moments.Statement.{statement}
 use Rattle.tree_calls.proofs.moments.Tie as tie

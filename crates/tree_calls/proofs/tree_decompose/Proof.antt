@@ -4,7 +4,8 @@ use mathlib.Core.Path.{refl}
 use Rattle.definitions.specs.Conversion.{decompose}
 use Rattle.tree_calls.specs.MomentCore.{decompose-input}
 use Rattle.inverses.specs.InverseArray.{a-room, c-room, array-is}
-use Rattle.tree_calls.specs.TreeCore.{both-kept, tree-input, tree-made}
+use Rattle.acceptance.specs.Promises.{both-kept}
+use Rattle.tree_calls.specs.TreeCore.{tree-input, tree-made}
 use borrow.Author.Needs.{needs}
 use Rattle.tree_calls.proofs.tree_decompose.Statement.{statement}
 use Rattle.tree_calls.proofs.tree_decompose.Tie as tie

@@ -2,7 +2,8 @@
 -- definition's list and leaves the working list clear. Assumes nothing.
 use Rattle.definitions.specs.Conversion.{expand}
 use Rattle.tree_model.specs.Tree.{treeExpand}
-use Rattle.tree_calls.specs.TreeCore.{both-kept, tree-input, core-input, tree-made, expand-is}
+use Rattle.acceptance.specs.Promises.{both-kept}
+use Rattle.tree_calls.specs.TreeCore.{tree-input, core-input, tree-made, expand-is}
 use borrow.Author.Needs.{needs}
 use Rattle.tree_calls.proofs.tree_expand.Statement.{statement}
 use Rattle.tree_calls.proofs.tree_expand.Tie as tie
