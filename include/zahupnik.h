@@ -6,40 +6,57 @@
  * c_1 multiplies F_{-1} = 0 only: it may be any number below m, 0 too, as in Legendre's recurrence, and no converted list depends on it.
  *
  * What a function returns: ZAHUPNIK_FINISHED, and then the result that its comment states is written; or the number of a
- * refusal, and then nothing is written, so that the output is what it was: look at the number before you use the output. A function
- * tests all that it is lent, so no number and no length is asked of the caller. Its comment lists the refusals that it tests, in this
- * order, each over all rows or entries before the next; the first that is the case is returned.
+ * refusal, and then nothing is written, so that the output is what it was: look at the number before you use the output. The changes of a
+ * prepared family return such a number and a record. A function tests all that it is lent, so no number and no length is asked of the
+ * caller. Its comment lists the refusals that it tests, in this order, each over all rows or entries before the next; the first that is
+ * the case is returned.
  *
- * Which way to take: the plain way is the quicker one at every size that bench/run measures, and the tree way gives the same list.
+ * Which way to take: the plain way is the quicker one at every size that bench/run measures, and the tree way gives the same list. A
+ * prepared family saves Norms much of its time, Decompose and Moments of many rows a little, and costs Expand, Adjoint and families of few
+ * rows some, since its test looks at the whole record (docs/PERFORMANCE.md).
  *
- * A function of the tree way, zahupnik_moments and zahupnik_convert_text are lent a working list besides, of any length from
- * ZAHUPNIK_LEAST_WORK on, and what it holds does not matter. When the function has finished, the first ZAHUPNIK_LEAST_WORK numbers
- * of it are zero, and what lies beyond is untouched.
+ * A function of the tree way, on a record too, zahupnik_moments, zahupnik_prepared_moments and zahupnik_convert_text are lent a working
+ * list besides, of any length from ZAHUPNIK_LEAST_WORK on, and what it holds does not matter. When the function has finished, the first
+ * ZAHUPNIK_LEAST_WORK numbers of it are zero, and what lies beyond is untouched.
  *
- * What the caller owes: behind a pointer there are as many initialised numbers as the length beside it says, and the one number
- * behind `inverse` and `length`; a list of length 0 may have any pointer, NULL too. What a call writes (the inverse, the length, the
- * output, the working list) overlaps nothing else that it is lent, and nobody else touches what is lent while the call runs.
+ * What the caller owes: behind a pointer there are as many initialised numbers as the length beside it says, the one number
+ * behind `inverse` and `length`, and every number of a record that is handed in; a list of length 0 may have any pointer, NULL too.
+ * What a call writes (the inverse, the length, the output, the working list) overlaps nothing else that it is lent, and nobody else
+ * touches what is lent while the call runs.
  *
  * Nothing is allocated and nothing is kept, so calls from several threads do not disturb one another.
  *
  * The stack that a call takes at most, in bytes: measured by tests/stack/run on a painted stack and rounded up, not proved. It counts
- * the arguments, and memcpy and memset of the C library; a dynamic linker that binds one of these at its first call takes some kilobytes
- * of its own.
- *     zahupnik_invert              64
- *     zahupnik_plain_expand      1536
- *     zahupnik_plain_adjoint     1536
- *     zahupnik_plain_decompose   3072
- *     zahupnik_norms             1024
- *     zahupnik_tree_expand       2560
- *     zahupnik_tree_adjoint      2560
- *     zahupnik_tree_decompose   11264
- *     zahupnik_moments           8704
- *     zahupnik_convert_text     15360
- *     zahupnik_write_job         1024
+ * the arguments, a record of 3,060 bytes among them, and memcpy and memset of the C library; a dynamic linker that binds one of these at
+ * its first call takes some kilobytes of its own.
+ *     zahupnik_invert                       64
+ *     zahupnik_plain_expand               1536
+ *     zahupnik_plain_adjoint              1536
+ *     zahupnik_plain_decompose            3072
+ *     zahupnik_norms                      1024
+ *     zahupnik_tree_expand                2560
+ *     zahupnik_tree_adjoint               2560
+ *     zahupnik_tree_decompose            11264
+ *     zahupnik_moments                    8704
+ *     zahupnik_convert_text              15360
+ *     zahupnik_write_job                  1024
+ *     zahupnik_prepared_empty            15360
+ *     zahupnik_prepared_append           19456
+ *     zahupnik_prepared_drop_last        19456
+ *     zahupnik_prepared_replace          19456
+ *     zahupnik_prepared_plain_expand     12288
+ *     zahupnik_prepared_plain_adjoint    12288
+ *     zahupnik_prepared_plain_decompose  11264
+ *     zahupnik_prepared_norms            10240
+ *     zahupnik_prepared_tree_expand      11264
+ *     zahupnik_prepared_tree_adjoint     11264
+ *     zahupnik_prepared_tree_decompose   18432
+ *     zahupnik_prepared_moments          15872
  *
  * Build the library with `rt staticlib zahupnik` and link target/staticlib/libzahupnik.a; it is for x86-64 Linux. The functions
- * are proved to do this on every input (crates/zahupnik; that a job that is written is carried out, crates/text_laws); that these
- * declarations fit them is tested (tests/library).
+ * are proved to do this on every input (crates/zahupnik; that a job that is written is carried out, crates/text_laws; that a record
+ * comes back when a row is put back, and that a record answers as the lists do, crates/prepared_laws); that these declarations fit
+ * them is tested (tests/library).
  */
 #ifndef ZAHUPNIK_H
 #define ZAHUPNIK_H
@@ -80,6 +97,9 @@ extern "C" {
 #define ZAHUPNIK_C_INVERSE 11     /* some c from row 2 on has no inverse modulo m */
 #define ZAHUPNIK_CURVE_ENTRY 12   /* a curve entry, a coefficient or the number to invert is not below m */
 #define ZAHUPNIK_NO_INVERSE 13    /* the number to invert has no inverse modulo m */
+#define ZAHUPNIK_RECORD 14        /* the prepared family is not the record of its own rows, or these are not accepted */
+#define ZAHUPNIK_NO_ROWS 15       /* there is no row to drop */
+#define ZAHUPNIK_ABSENT_ROW 16    /* there is no such row to replace */
 
 /* Inverse: *inverse becomes the one number below m that times x leaves 1 modulo m.
  * Refuses with 3 12 13. */
@@ -158,6 +178,74 @@ uint32_t zahupnik_convert_text(const uint8_t *text, size_t text_length, uint8_t 
 uint32_t zahupnik_write_job(uint32_t m, const uint32_t *a, size_t a_length, const uint32_t *b, size_t b_length,
                             const uint32_t *c, size_t c_length, uint32_t operation, const uint32_t *curve, size_t curve_length,
                             uint8_t *output, size_t output_length, uint32_t *length);
+
+/* A prepared family: the rows with their inverses and the norms, worked out once. It holds
+ *     modulus      m
+ *     rows         r, from 0 to ZAHUPNIK_MOST_ROWS
+ *     a, b, c      row i at index i - 1
+ *     a_inverses   at index i - 1 the inverse of a_i modulo m
+ *     c_inverses   at index i - 1 the inverse of c_i, and 0 for c_1, which needs none
+ *     norms        the n numbers of zahupnik_norms
+ * and zeros in every place past these. A record that holds anything else, or whose rows zahupnik_norms would refuse, is not right.
+ * It is a plain struct of numbers in this machine's byte order, without a pointer and without padding: whoever likes may copy it, compare it
+ * byte for byte, store it or send it. Nobody is trusted with it: every function that takes one tests all of it, and refuses with 14 where
+ * it is not right. That is no checksum: a record that was changed into the right one of another family is taken, as with another number
+ * below m in b or for c_1, or with another m where there are no rows.
+ * Whether a record is right, and nothing else: zahupnik_prepared_norms(family, NULL, 0) returns 7 if it is, since no list of norms is empty,
+ * and 14 if it is not. */
+struct zahupnik_prepared {
+    uint32_t modulus, rows;
+    uint32_t a[ZAHUPNIK_MOST_ROWS], b[ZAHUPNIK_MOST_ROWS], c[ZAHUPNIK_MOST_ROWS];
+    uint32_t a_inverses[ZAHUPNIK_MOST_ROWS], c_inverses[ZAHUPNIK_MOST_ROWS];
+    uint32_t norms[ZAHUPNIK_MOST_ROWS + 1];
+};
+
+/* What a change returns: its number, and the record after it. When it refuses, the record is the one that it was handed, whatever that
+ * holds: so look at the number before the next change, or a row that was refused is missing and nothing says so later. */
+struct zahupnik_change {
+    uint32_t answer;
+    struct zahupnik_prepared family;
+};
+
+/* The record of the family without rows. Refuses with 3, and then the record is all zeros. */
+struct zahupnik_change zahupnik_prepared_empty(uint32_t m);
+
+/* The record with the row a, b, c behind its last. Refuses with 14 5 9 10 11; 5 to 11 are those of the new row, and 11 passes over it
+ * where it is row 1. */
+struct zahupnik_change zahupnik_prepared_append(struct zahupnik_prepared family, uint32_t a, uint32_t b, uint32_t c);
+
+/* The record without its last row. After an append it is the record before it. Refuses with 14 15. */
+struct zahupnik_change zahupnik_prepared_drop_last(struct zahupnik_prepared family);
+
+/* The record with a, b, c in the place of a row, counted from 1. With the old row put back it is the old record. Refuses with
+ * 14 16 9 10 11; 9 to 11 are those of the new row, and 11 passes over it where it is row 1. */
+struct zahupnik_change zahupnik_prepared_replace(struct zahupnik_prepared family, uint32_t row, uint32_t a, uint32_t b, uint32_t c);
+
+/* The conversions, Norms and Moments on a record: output and work become what the function of the same name without prepared_ makes them
+ * with the record's m and its r numbers of a, of b and of c. The lengths are those of that function. */
+
+/* Refuse with 14 6 7 12. */
+uint32_t zahupnik_prepared_plain_expand(struct zahupnik_prepared family, const uint32_t *curve, size_t curve_length,
+                                        uint32_t *output, size_t output_length);
+uint32_t zahupnik_prepared_plain_adjoint(struct zahupnik_prepared family, const uint32_t *curve, size_t curve_length,
+                                         uint32_t *output, size_t output_length);
+uint32_t zahupnik_prepared_plain_decompose(struct zahupnik_prepared family, const uint32_t *coefficients, size_t coefficients_length,
+                                           uint32_t *output, size_t output_length);
+
+/* Refuses with 14 7. */
+uint32_t zahupnik_prepared_norms(struct zahupnik_prepared family, uint32_t *output, size_t output_length);
+
+/* Refuse with 14 6 7 8 12. */
+uint32_t zahupnik_prepared_tree_expand(struct zahupnik_prepared family, const uint32_t *curve, size_t curve_length,
+                                       uint32_t *output, size_t output_length, uint32_t *work, size_t work_length);
+uint32_t zahupnik_prepared_tree_adjoint(struct zahupnik_prepared family, const uint32_t *curve, size_t curve_length,
+                                        uint32_t *output, size_t output_length, uint32_t *work, size_t work_length);
+uint32_t zahupnik_prepared_tree_decompose(struct zahupnik_prepared family, const uint32_t *coefficients, size_t coefficients_length,
+                                          uint32_t *output, size_t output_length, uint32_t *work, size_t work_length);
+
+/* Refuses with 14 7 8. */
+uint32_t zahupnik_prepared_moments(struct zahupnik_prepared family, uint32_t *output, size_t output_length, uint32_t *work,
+                                   size_t work_length);
 
 #ifdef __cplusplus
 }

@@ -5,8 +5,12 @@ use mathlib.Core.List.{List, _++_}
 use Prim.Native.Nat.{ℕ, _<_}
 use native.Mathlib.Omega.{arith}
 use borrow.Author.Needs.{needs}
-use Rattle.definitions.specs.Family.{Family}
-use Rattle.definitions.specs.Refusals.{Test, modulusTest, curveLengthTest, outputTest, workTest, numberTest, numberInverseTest}
+use Rattle.definitions.specs.Family.{Family, Row}
+use Rattle.definitions.specs.Prepared.{Prepared, recordTest, noRowsTest, absentRowTest, rowTests}
+use Rattle.definitions.specs.Prepared.{emptyTests, appendTests, dropTests, replaceTests}
+use Rattle.definitions.specs.PreparedCalls.{preparedPlainTests, preparedTreeTests, preparedNormsTests, preparedMomentsTests}
+use Rattle.definitions.specs.Refusals.{Test, modulusTest, rowCountTest, curveLengthTest, outputTest, workTest, curveEntriesTest}
+use Rattle.definitions.specs.Refusals.{numberTest, numberInverseTest}
 use Rattle.definitions.specs.Refusals.{familyShape, familyRows, valueTests, plainTests, treeTests, momentsTests, normsTests, inverseTests}
 use Rattle.definitions.specs.Text.{WrittenJob, meant}
 use Rattle.definitions.specs.Reading.{Read, found, malformed, readJob}
@@ -80,3 +84,41 @@ chosen-positive (Choice.Named operation) job output =
           (lengths-positive _ _ _ _ _ _ _ output)
           (values-positive (meant w .family) (w .curve)),
     )
+
+-- ---- a prepared family
+row-positive : (m place : ℕ) (row : Row) → Positive (rowTests m place row)
+unfolding rowTests
+row-positive m place row = search needs
+
+pub empty-positive : (m : ℕ) → Positive (emptyTests m)
+unfolding emptyTests modulusTest
+empty-positive m = search needs
+
+module _ (p : Prepared) where
+  pub append-positive : (row : Row) → Positive (appendTests p row)
+  unfolding appendTests recordTest rowCountTest
+  append-positive row = (λ e. omega arith, (λ e. omega arith, row-positive _ _ row))
+
+  pub drop-positive : Positive (dropTests p)
+  unfolding dropTests recordTest noRowsTest
+  drop-positive = search needs
+
+  pub replace-positive : (i : ℕ) (row : Row) → Positive (replaceTests p i row)
+  unfolding replaceTests recordTest absentRowTest
+  replace-positive i row = (λ e. omega arith, (λ e. omega arith, row-positive _ _ row))
+
+  pub prepared-plain-positive : (u : List ℕ) (output : ℕ) → Positive (preparedPlainTests p u output)
+  unfolding preparedPlainTests recordTest curveLengthTest outputTest curveEntriesTest
+  prepared-plain-positive u output = search needs
+
+  pub prepared-tree-positive : (u : List ℕ) (output work : ℕ) → Positive (preparedTreeTests p u output work)
+  unfolding preparedTreeTests recordTest curveLengthTest outputTest workTest curveEntriesTest
+  prepared-tree-positive u output work = search needs
+
+  pub prepared-norms-positive : (output : ℕ) → Positive (preparedNormsTests p output)
+  unfolding preparedNormsTests recordTest outputTest
+  prepared-norms-positive output = search needs
+
+  pub prepared-moments-positive : (output work : ℕ) → Positive (preparedMomentsTests p output work)
+  unfolding preparedMomentsTests recordTest outputTest workTest
+  prepared-moments-positive output work = search needs

@@ -1,6 +1,6 @@
 -- From the answer of a public call to what its exported function returns and leaves.
 -- Proved: the number of a verdict says what the verdict does, where no test has the number 0 (returned-is); so a call that writes a list
--- keeps its promise when its answer is turned into a number, with a working list or without, and so do Inverse, whether it finishes or
+-- keeps its promise when its answer is turned into a number, with a working list or without, and so do a change of a record, Inverse, whether it finishes or
 -- refuses, the text call, and the call that writes a job, whether its number names an operation or not. Assumes nothing.
 use mathlib.Core.Path.{_≡_, refl, sym, _∙_, ap, subst}
 use mathlib.Core.Bool.{false}
@@ -9,6 +9,7 @@ use Prim.Native.Nat.{ℕ, zero, suc, _<_, _≤_}
 use native.Mathlib.Omega.{arith}
 use lib.ListN.{length, drop}
 use Rattle.definitions.specs.Answers.{valued, after, cleared, Converted, ConvertedIn}
+use Rattle.definitions.specs.Prepared.{Prepared, Changed, handedBack}
 use Rattle.definitions.specs.Refusals.{Test, Verdict, finished, refused, verdict, test}
 use Rattle.definitions.specs.Text.{WrittenJob, meant, jobText}
 use Rattle.definitions.specs.TextCall.{textTests, reply, TextConverted}
@@ -51,6 +52,13 @@ module _ (tests : List Test) (positive : Positive tests) where
       → ConvertedIn tests result (returned k) output output′ work work′
   list-returned-in {result} {output} {output′} {work} {work′} v k made e =
       subst (λ w. ConvertedIn tests result w output output′ work work′) (sym (returned-is v (made .answer) k e)) made
+
+  -- a change
+  pub change-returned : {new old out out′ : Prepared} (v : Verdict) (k : ℕ) → Changed tests new old v out → k ≡ number v → out′ ≡ out
+      → Changed tests new old (returned k) out′
+  change-returned {new} {old} v k made e same =
+      let says = returned-is v (made .answer) k e in
+      record { answer = says ∙ made .answer; handed = same ∙ made .handed ∙ ap (λ w. handedBack w new old) (sym says) }
 
   -- a call that hands out a number: x is the definition's, old what was lent
   module _ (x old : ℕ) where

@@ -1,21 +1,33 @@
-// The public calls for C, as include/zahupnik.h declares them: numbers and lent lists only, and each returns 0 or the refusal
-// number. None has a 'requires', and each has one 'ensures' that settles the number and what is lent on every input.
+// The public calls for C, as include/zahupnik.h declares them: numbers, lent lists and records by value, and each returns 0 or the
+// refusal number, a change with the record after it. None has a 'requires', and each has one 'ensures' that settles the number and what is lent on every input.
 ghost use mathlib.Core.Path.{_≡_};
 ghost use mathlib.Core.List.{[], _∷_};
 ghost use Rattle.definitions.specs.Answers.{answered, Converted, PlainCall, TreeCall, NormsCall, MomentsCall};
 ghost use Rattle.definitions.specs.Conversion.{expand, adjoint, decompose};
-ghost use Rattle.definitions.specs.Family.{family};
+ghost use Rattle.definitions.specs.Family.{family, rowOf};
 ghost use Rattle.definitions.specs.Number as Number;
+ghost use Rattle.definitions.specs.Prepared.{EmptyCall, AppendCall, DropCall, ReplaceCall};
+ghost use Rattle.definitions.specs.PreparedCalls.{PreparedPlainCall, PreparedTreeCall, PreparedNormsCall, PreparedMomentsCall};
 ghost use Rattle.definitions.specs.Refusals.{inverseTests};
+ghost use Rattle.prepared.specs.Held.{held};
 ghost use Rattle.zahupnik.specs.Returned.{returned, number, TextReturned, choice, jobFor, JobReturned};
 use definitions::Answer;
 use definitions::Operation;
 use definitions::Valued;
+use prepared::Change;
+use prepared::Prepared;
 
 // What a number names: an operation of a job, or nothing.
 pub enum Choice {
     Named(Operation),
     Nothing,
+}
+
+// The answer of a change as a number, and the record after it.
+#[repr(C)]
+pub struct NumberedChange {
+    pub answer: u32,
+    pub family: Prepared,
 }
 
 // 0 for the finished kind, and a refusal's number.
@@ -228,4 +240,161 @@ pub extern "C" fn zahupnik_write_job(
         }
         Valued::Refused(k) => k,
     }
+}
+
+// A change, with the number of its answer.
+fn numbered(change: Change) -> NumberedChange
+    ensures { λ r. ⌜ (r .answer ≡ number (answered (change .answer))) × (held (r .family) ≡ held (change .family)) ⌝ }
+{
+    let answer = change.answer;
+    let family = change.family;
+    NumberedChange {
+        answer: number(answer),
+        family: family,
+    }
+}
+
+// The record of the family without rows. Refused as Prepared::empty is.
+#[no_mangle]
+pub extern "C" fn zahupnik_prepared_empty(m: u32) -> NumberedChange
+    ensures { λ r. ⌜ EmptyCall m (returned (r .answer)) (held (r .family)) ⌝ }
+{
+    numbered(Prepared::empty(m))
+}
+
+// The record with one row more. Refused as Prepared::append is.
+#[no_mangle]
+pub extern "C" fn zahupnik_prepared_append(
+    family: Prepared,
+    a: u32,
+    b: u32,
+    c: u32,
+) -> NumberedChange
+    ensures { λ r. ⌜ AppendCall (held family) (rowOf a b c) (returned (r .answer)) (held (r .family)) ⌝ }
+{
+    numbered(family.append(a, b, c))
+}
+
+// The record without its last row. Refused as Prepared::drop_last is.
+#[no_mangle]
+pub extern "C" fn zahupnik_prepared_drop_last(family: Prepared) -> NumberedChange
+    ensures { λ r. ⌜ DropCall (held family) (returned (r .answer)) (held (r .family)) ⌝ }
+{
+    numbered(family.drop_last())
+}
+
+// The record with another row in the place of one. Refused as Prepared::replace is.
+#[no_mangle]
+pub extern "C" fn zahupnik_prepared_replace(
+    family: Prepared,
+    row: u32,
+    a: u32,
+    b: u32,
+    c: u32,
+) -> NumberedChange
+    ensures { λ r. ⌜ ReplaceCall (held family) row (rowOf a b c) (returned (r .answer)) (held (r .family)) ⌝ }
+{
+    numbered(family.replace(row, a, b, c))
+}
+
+// Expand on a record by the plain way. Refused as prepared_plain::plain_expand is.
+#[no_mangle]
+pub extern "C" fn zahupnik_prepared_plain_expand(
+    family: Prepared,
+    curve: &[u32],
+    output: &mut [u32],
+) -> u32
+    ensures { λ r. ⌜ PreparedPlainCall expand (held family) (now (curve .entry)) (returned r)
+        (now (output .entry)) (now (output .exit)) ⌝ }
+{
+    number(prepared_plain::plain_expand(family, curve, output))
+}
+
+// Adjoint on a record by the plain way. Refused as prepared_plain::plain_adjoint is.
+#[no_mangle]
+pub extern "C" fn zahupnik_prepared_plain_adjoint(
+    family: Prepared,
+    curve: &[u32],
+    output: &mut [u32],
+) -> u32
+    ensures { λ r. ⌜ PreparedPlainCall adjoint (held family) (now (curve .entry)) (returned r)
+        (now (output .entry)) (now (output .exit)) ⌝ }
+{
+    number(prepared_plain::plain_adjoint(family, curve, output))
+}
+
+// Decompose on a record by the plain way. Refused as prepared_plain::plain_decompose is.
+#[no_mangle]
+pub extern "C" fn zahupnik_prepared_plain_decompose(
+    family: Prepared,
+    coefficients: &[u32],
+    output: &mut [u32],
+) -> u32
+    ensures { λ r. ⌜ PreparedPlainCall decompose (held family) (now (coefficients .entry)) (returned r)
+        (now (output .entry)) (now (output .exit)) ⌝ }
+{
+    number(prepared_plain::plain_decompose(family, coefficients, output))
+}
+
+// Norms of a record. Refused as prepared_plain::norms is.
+#[no_mangle]
+pub extern "C" fn zahupnik_prepared_norms(family: Prepared, output: &mut [u32]) -> u32
+    ensures { λ r. ⌜ PreparedNormsCall (held family) (returned r) (now (output .entry)) (now (output .exit)) ⌝ }
+{
+    number(prepared_plain::norms(family, output))
+}
+
+// Expand on a record by the tree way, in the working list. Refused as prepared_tree::tree_expand is.
+#[no_mangle]
+pub extern "C" fn zahupnik_prepared_tree_expand(
+    family: Prepared,
+    curve: &[u32],
+    output: &mut [u32],
+    work: &mut [u32],
+) -> u32
+    ensures { λ r. ⌜ PreparedTreeCall expand (held family) (now (curve .entry)) (returned r)
+        (now (output .entry)) (now (output .exit)) (now (work .entry)) (now (work .exit)) ⌝ }
+{
+    number(prepared_tree::tree_expand(family, curve, output, work))
+}
+
+// Adjoint on a record by the tree way, in the working list. Refused as prepared_tree::tree_adjoint is.
+#[no_mangle]
+pub extern "C" fn zahupnik_prepared_tree_adjoint(
+    family: Prepared,
+    curve: &[u32],
+    output: &mut [u32],
+    work: &mut [u32],
+) -> u32
+    ensures { λ r. ⌜ PreparedTreeCall adjoint (held family) (now (curve .entry)) (returned r)
+        (now (output .entry)) (now (output .exit)) (now (work .entry)) (now (work .exit)) ⌝ }
+{
+    number(prepared_tree::tree_adjoint(family, curve, output, work))
+}
+
+// Decompose on a record by the tree way, in the working list. Refused as prepared_tree::tree_decompose is.
+#[no_mangle]
+pub extern "C" fn zahupnik_prepared_tree_decompose(
+    family: Prepared,
+    coefficients: &[u32],
+    output: &mut [u32],
+    work: &mut [u32],
+) -> u32
+    ensures { λ r. ⌜ PreparedTreeCall decompose (held family) (now (coefficients .entry)) (returned r)
+        (now (output .entry)) (now (output .exit)) (now (work .entry)) (now (work .exit)) ⌝ }
+{
+    number(prepared_tree::tree_decompose(family, coefficients, output, work))
+}
+
+// Moments of a record, in the working list. Refused as prepared_tree::moments is.
+#[no_mangle]
+pub extern "C" fn zahupnik_prepared_moments(
+    family: Prepared,
+    output: &mut [u32],
+    work: &mut [u32],
+) -> u32
+    ensures { λ r. ⌜ PreparedMomentsCall (held family) (returned r)
+        (now (output .entry)) (now (output .exit)) (now (work .entry)) (now (work .exit)) ⌝ }
+{
+    number(prepared_tree::moments(family, output, work))
 }
