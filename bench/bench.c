@@ -76,6 +76,42 @@ LIBRARY(tree_adjoint, FAMILY, x->v, x->r + 1, result, x->r + 1, work, ZAHUPNIK_L
 LIBRARY(tree_decompose, FAMILY, x->v, x->r + 1, result, x->r + 1, work, ZAHUPNIK_LEAST_WORK)
 LIBRARY(moments, FAMILY, result, 2 * x->r + 1, work, ZAHUPNIK_LEAST_WORK)
 
+/* The families as records. */
+static struct zahupnik_prepared records[FAMILIES];
+#define RECORD records[x - jobs]
+LIBRARY(prepared_plain_expand, RECORD, x->v, x->r + 1, result, x->r + 1)
+LIBRARY(prepared_plain_adjoint, RECORD, x->v, x->r + 1, result, x->r + 1)
+LIBRARY(prepared_plain_decompose, RECORD, x->v, x->r + 1, result, x->r + 1)
+LIBRARY(prepared_norms, RECORD, result, x->r + 1)
+LIBRARY(prepared_tree_expand, RECORD, x->v, x->r + 1, result, x->r + 1, work, ZAHUPNIK_LEAST_WORK)
+LIBRARY(prepared_tree_adjoint, RECORD, x->v, x->r + 1, result, x->r + 1, work, ZAHUPNIK_LEAST_WORK)
+LIBRARY(prepared_tree_decompose, RECORD, x->v, x->r + 1, result, x->r + 1, work, ZAHUPNIK_LEAST_WORK)
+LIBRARY(prepared_moments, RECORD, result, 2 * x->r + 1, work, ZAHUPNIK_LEAST_WORK)
+
+/* Test 14, and nothing after it: Norms refuses an output of another length. */
+static void test_record(const struct job *x, uint32_t *result) {
+    if (zahupnik_prepared_norms(RECORD, result, 0) != ZAHUPNIK_OUTPUT_LENGTH) fail("prepared_norms", "takes an empty output", x);
+}
+
+/* The last row replaced by itself. */
+static void replace_row(const struct job *x, uint32_t *result) {
+    (void)result;
+    size_t i = x->r - 1;
+    struct zahupnik_change change = zahupnik_prepared_replace(RECORD, (uint32_t)x->r, x->a[i], x->b[i], x->c[i]);
+    if (change.answer != ZAHUPNIK_FINISHED) fail("prepared_replace", "refuses the row", x);
+    RECORD = change.family;
+}
+
+/* The record of a family, row by row. */
+static void append_rows(const struct job *x, uint32_t *result) {
+    (void)result;
+    struct zahupnik_change change = zahupnik_prepared_empty(x->m);
+    for (size_t i = 0; i < x->r && change.answer == ZAHUPNIK_FINISHED; i++)
+        change = zahupnik_prepared_append(change.family, x->a[i], x->b[i], x->c[i]);
+    if (change.answer != ZAHUPNIK_FINISHED) fail("prepared_append", "refuses the family", x);
+    RECORD = change.family;
+}
+
 static uint8_t answer_text[ZAHUPNIK_LEAST_TEXT_OUTPUT];
 static uint32_t answer_length;
 
@@ -112,6 +148,24 @@ static const struct call {
     {"Inverse", invert, INVERT, STRAIGHTFORWARD, 1.0},
 };
 enum { CALLS = sizeof calls / sizeof *calls };
+
+/* The operations on a record, each beside the call on the lists. */
+static const struct on_record {
+    const char *name;
+    convert *by_record, *by_lists;
+    enum operation operation;
+    double most; /* the ratio at the most rows */
+} on_records[] = {
+    {"plain Expand", prepared_plain_expand, plain_expand, EXPAND, 1.2},
+    {"tree Expand", prepared_tree_expand, tree_expand, EXPAND, 1.2},
+    {"plain Adjoint", prepared_plain_adjoint, plain_adjoint, ADJOINT, 1.2},
+    {"tree Adjoint", prepared_tree_adjoint, tree_adjoint, ADJOINT, 1.2},
+    {"plain Decompose", prepared_plain_decompose, plain_decompose, DECOMPOSE, 1.0},
+    {"tree Decompose", prepared_tree_decompose, tree_decompose, DECOMPOSE, 1.0},
+    {"Moments", prepared_moments, moments, MOMENTS, 1.0},
+    {"Norms", prepared_norms, norms, NORMS, 1.0},
+};
+enum { ON_RECORDS = sizeof on_records / sizeof *on_records };
 
 static size_t result_length(enum operation operation, size_t r) {
     return operation == INVERT ? 1 : operation == MOMENTS ? 2 * r + 1 : r + 1;
@@ -178,6 +232,7 @@ static void make_jobs(uint32_t m, size_t r) {
         at += sprintf(at, "op=expand\n");
         at += append_list(at, "v", x->v, r + 1);
         job_lengths[i] = (size_t)(at - job_texts[i]);
+        append_rows(x, NULL);
     }
 }
 
@@ -206,6 +261,12 @@ static void compare(void) {
                 } else if (memcmp(found, expected, size))
                     fail(calls[k].name, "gives another answer than straightforward C", x);
             }
+            for (size_t k = 0; k < ON_RECORDS; k++) {
+                if (on_records[k].operation != operation) continue;
+                memset(found, 0xFF, sizeof found);
+                on_records[k].by_record(x, found);
+                if (memcmp(found, expected, size)) fail(on_records[k].name, "gives another answer on a record", x);
+            }
         }
     }
 }
@@ -232,14 +293,15 @@ static double sample_of(const struct participant *p) {
     return seconds() - start;
 }
 
-static void measure(struct participant *participants, size_t count, bool brief) {
+/* Samples of the usual time; or so many times as many, each so many times as short, for participants that differ by little. */
+static void measure(struct participant *participants, size_t count, bool brief, unsigned times) {
     for (size_t i = 0; i < count; i++) {
         struct participant *p = &participants[i];
         p->repetitions = 1;
-        while ((p->time = sample_of(p)) < (brief ? SHORT_SAMPLE_TIME : SAMPLE_TIME)) p->repetitions *= 2;
+        while ((p->time = sample_of(p)) < (brief ? SHORT_SAMPLE_TIME : SAMPLE_TIME / times)) p->repetitions *= 2;
         p->time /= p->repetitions;
     }
-    for (size_t sample = brief ? SAMPLES : 1; sample < SAMPLES; sample++)
+    for (size_t sample = brief ? SAMPLES * times : 1; sample < SAMPLES * times; sample++)
         for (size_t i = 0; i < count; i++) {
             double time = sample_of(&participants[i]) / participants[i].repetitions;
             if (time < participants[i].time) participants[i].time = time;
@@ -306,11 +368,39 @@ static void print_zero_c_1(uint32_t m, size_t r, bool brief) {
         if (calls[i].operation == INVERT) continue;
         for (size_t k = 0; k < FAMILIES; k++)
             alone[k] = (struct participant){.convert = calls[i].convert, .families = &jobs[k], .count = 1};
-        measure(alone, FAMILIES, brief);
+        measure(alone, FAMILIES, brief, 1);
         for (size_t k = 1; k < FAMILIES; k++) others += alone[k].time / (FAMILIES - 1);
         printf("| %s | %.2f | %.2f | %.2f | %.2f |\n", calls[i].name, alone[0].time * 1e6, others * 1e6, alone[0].time / others,
                MOST_FOR_ZERO_C_1);
     }
+}
+
+/* Many curves on one family: the operations on its record held against those on its lists, the second family by itself. Then what the
+ * record itself takes. */
+static void print_records(uint32_t m, size_t r, bool brief) {
+    static const struct {
+        const char *name;
+        convert *convert;
+    } others[] = {{"test 14", test_record}, {"replace a row", replace_row}, {"append all rows, one by one", append_rows}};
+    enum { OTHERS = sizeof others / sizeof *others };
+    static struct participant alone[2 * ON_RECORDS + OTHERS];
+    for (size_t i = 0; i < ON_RECORDS; i++) {
+        alone[2 * i] = (struct participant){.convert = on_records[i].by_record, .families = &jobs[1], .count = 1};
+        alone[2 * i + 1] = (struct participant){.convert = on_records[i].by_lists, .families = &jobs[1], .count = 1};
+    }
+    for (size_t i = 0; i < OTHERS; i++)
+        alone[2 * ON_RECORDS + i] = (struct participant){.convert = others[i].convert, .families = &jobs[1], .count = 1};
+    measure(alone, sizeof alone / sizeof *alone, brief, 10);
+    printf("\nm = %" PRIu32 ", r = %zu: microseconds for a curve, of hundreds on one family, by the record and by the lists\n\n", m, r);
+    printf("| call | record | lists | ratio |%s\n|---|---:|---:|---:|%s\n", r == MOST_ROWS ? " at most |" : "", r == MOST_ROWS ? "---:|" : "");
+    for (size_t i = 0; i < ON_RECORDS; i++) {
+        double record = alone[2 * i].time, lists = alone[2 * i + 1].time;
+        printf("| %s | %.2f | %.2f | %.2f |", on_records[i].name, record * 1e6, lists * 1e6, record / lists);
+        if (r == MOST_ROWS) printf(" %.2f |", on_records[i].most);
+        printf("\n");
+    }
+    printf("\n");
+    for (size_t i = 0; i < OTHERS; i++) printf("%s: %.2f\n", others[i].name, alone[2 * ON_RECORDS + i].time * 1e6);
 }
 
 static void time_all(uint32_t m, size_t r, bool brief) {
@@ -318,8 +408,9 @@ static void time_all(uint32_t m, size_t r, bool brief) {
     for (size_t k = 0; k < CONTESTANTS; k++)
         for (enum operation operation = 0; operation < OPERATIONS; operation++)
             *of_contestant(k, operation) = (struct participant){contestants[k]->convert[operation], jobs, FAMILIES, 0, 0};
-    measure(participants, sizeof participants / sizeof *participants, brief);
+    measure(participants, sizeof participants / sizeof *participants, brief, 1);
     print_table(m, r);
+    print_records(m, r, brief);
     if (r != MOST_ROWS) return;
     print_zero_c_1(m, r, brief);
     if (!brief) print_bounds(m);
@@ -339,6 +430,7 @@ static void count(const char *name, const char *what, convert *convert, uint32_t
 
 static void count_all(uint32_t m) {
     for (size_t i = 0; i < CALLS; i++) count("library", calls[i].name, calls[i].convert, m);
+    for (size_t i = 0; i < ON_RECORDS; i++) count("record", on_records[i].name, on_records[i].by_record, m);
     for (size_t k = 0; k < CONTESTANTS; k++)
         for (enum operation operation = 0; operation < OPERATIONS; operation++) {
             static const char *const names[OPERATIONS] = {"Inverse", "Expand", "Adjoint", "Decompose", "Norms", "Moments"};

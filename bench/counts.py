@@ -50,7 +50,7 @@ def main(paths):
             modulus, name, call = label.split("/")
             counts.setdefault(modulus, {}).setdefault(name, {})[call] = costs
     for modulus, names in counts.items():
-        library, contestants = names.pop("library"), names
+        library, records, contestants = names.pop("library"), names.pop("record"), names
         print(f"\nm = {modulus}, r = 127: thousands of instructions for a call, and the library's over the contestant's\n")
         print("| call | library |" + "".join(f" {name} | ratio |" for name in contestants))
         print("|---|---:|" + "---:|---:|" * len(contestants))
@@ -62,6 +62,12 @@ def main(paths):
                 other = sum(calls[operation].values())
                 print(f" {other / 1000:.1f} | {own / other:.2f} |", end="")
             print()
+        print(f"\nm = {modulus}, r = 127: thousands of instructions for a call on a record and on the lists\n")
+        print("| call | record | lists | ratio |")
+        print("|---|---:|---:|---:|")
+        for call, costs in records.items():
+            own, other = sum(costs.values()), sum(library[call].values())
+            print(f"| {call} | {own / 1000:.1f} | {other / 1000:.1f} | {own / other:.2f} |")
         print(f"\nm = {modulus}, r = 127: where the library's instructions are, with what the compiler has put in line\n")
         print("| call | functions |")
         print("|---|---|")

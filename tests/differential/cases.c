@@ -9,7 +9,7 @@ static const uint32_t PRIMES[] = {3, 5, 7, 13, 127, 131, 257, 65537, 1000003, 21
 static const uint32_t COMPOSITES[] = {4,    6,     8,       9,         12,         15,         30,         210,
                                       1001, 30030, 1000000, 223092870, 1073741824, 2147395600, 2147483645, 2147483646};
 
-static uint32_t some_modulus(struct random *random) {
+uint32_t some_modulus(struct random *random) {
     switch (below(random, 8)) {
     case 0: return 2;
     case 1: return GREATEST_MODULUS;
@@ -21,8 +21,12 @@ static uint32_t some_modulus(struct random *random) {
     }
 }
 
-/* Short families most often: a call by the tree at 127 rows takes as long as hundreds at 3. */
-static size_t some_rows(struct random *random) {
+uint32_t some_wrong_modulus(struct random *random) {
+    const uint32_t moduli[] = {0, 1, GREATEST_MODULUS + UINT32_C(1), UINT32_MAX, UINT32_MAX - below(random, GREATEST_MODULUS)};
+    return ONE_OF(random, moduli);
+}
+
+size_t some_rows(struct random *random) {
     uint32_t kind = below(random, 100);
     if (kind < 50) return below(random, 9);
     if (kind < 76) return below(random, 33);
@@ -30,15 +34,14 @@ static size_t some_rows(struct random *random) {
     return kind < 98 ? below(random, MOST_ROWS + 1) : MOST_ROWS;
 }
 
-static uint32_t some_unit(struct random *random, uint32_t m) {
+uint32_t some_unit(struct random *random, uint32_t m) {
     for (;;) {
         uint32_t number = below(random, m);
         if (common_divisor(number, m) == 1) return number;
     }
 }
 
-/* A number below m without an inverse: one that shares a factor with m if one is met soon, else 0. */
-static uint32_t some_non_unit(struct random *random, uint32_t m) {
+uint32_t some_non_unit(struct random *random, uint32_t m) {
     for (int tries = 0; tries < 6; tries++) {
         uint32_t number = below(random, m);
         if (number && common_divisor(number, m) != 1) return number;
@@ -46,8 +49,7 @@ static uint32_t some_non_unit(struct random *random, uint32_t m) {
     return 0;
 }
 
-/* A c_1 that may have no inverse: 0, a number that shares a factor with m if one is met soon, the greatest, or any. */
-static uint32_t some_first_c(struct random *random, uint32_t m) {
+uint32_t some_first_c(struct random *random, uint32_t m) {
     switch (below(random, 4)) {
     case 0: return 0;
     case 1: return some_non_unit(random, m);
@@ -56,8 +58,7 @@ static uint32_t some_first_c(struct random *random, uint32_t m) {
     }
 }
 
-/* A number that is not below m: the least, the greatest, or any. */
-static uint32_t some_not_below(struct random *random, uint32_t m) {
+uint32_t some_not_below(struct random *random, uint32_t m) {
     switch (below(random, 4)) {
     case 0: return m;
     case 1: return UINT32_MAX;
@@ -88,6 +89,15 @@ static void resize(struct random *random, struct list *list, size_t length, uint
     fill(random, *list, before, m, one_in(random, 2) ? UNITS : RESIDUES);
 }
 
+/* The curve and the lengths that the call asks for. */
+static void add_rest(struct random *random, struct lent *x, enum kind kind) {
+    x->curve = (struct list){curve, curve_length(x)};
+    fill(random, x->curve, 0, x->m, x->operation == INVERSE ? kind : RESIDUES);
+    x->output_length = result_length(x);
+    if (least_output(x)) x->output_length = least_output(x) + below(random, one_in(random, 2) ? 2 : 2000);
+    if (takes_work(x)) x->work_length = LEAST_WORK + below(random, one_in(random, 2) ? 2 : 2000);
+}
+
 static struct lent accepted(struct random *random, enum operation operation, enum way way) {
     struct lent x = {operation, way, some_modulus(random), {a, 0}, {b, 0}, {c, 0}, {curve, 0}, 0, 0};
     /* where many numbers have no inverse, some families are let be as they come */
@@ -99,11 +109,7 @@ static struct lent accepted(struct random *random, enum operation operation, enu
         fill(random, x.c, 0, x.m, kind);
         if (x.c.length && one_in(random, 2)) x.c.entries[0] = some_first_c(random, x.m);
     }
-    x.curve.length = curve_length(&x);
-    fill(random, x.curve, 0, x.m, operation == INVERSE ? kind : RESIDUES);
-    x.output_length = result_length(&x);
-    if (least_output(&x)) x.output_length = least_output(&x) + below(random, one_in(random, 2) ? 2 : 2000);
-    if (takes_work(&x)) x.work_length = LEAST_WORK + below(random, one_in(random, 2) ? 2 : 2000);
+    add_rest(random, &x, kind);
     return x;
 }
 
@@ -131,10 +137,7 @@ static void replace(struct random *random, struct list *list, uint32_t number) {
 
 /* The faults. Each is meant to bring about the refusal of its number, but what stood there before may be refused otherwise. */
 
-static void fault_3(struct random *random, struct lent *x) {
-    const uint32_t moduli[] = {0, 1, GREATEST_MODULUS + UINT32_C(1), UINT32_MAX, UINT32_MAX - below(random, GREATEST_MODULUS)};
-    x->m = ONE_OF(random, moduli);
-}
+static void fault_3(struct random *random, struct lent *x) { x->m = some_wrong_modulus(random); }
 
 /* m in its range, but not the one that the lists were made for. */
 static void fault_other_modulus(struct random *random, struct lent *x) { x->m = some_modulus(random); }
@@ -220,4 +223,15 @@ struct lent make_case(struct random *random, enum operation operation, enum way 
         while (one_in(random, 3)) damage(random, &x);
     }
     return x;
+}
+
+void complete_case(struct random *random, struct lent *x) {
+    static fault *const faults[] = {fault_7, fault_6, fault_12, fault_8};
+    add_rest(random, x, RESIDUES);
+    if (one_in(random, 2)) return;
+    do {
+        fault *fault = ONE_OF(random, faults);
+        bool on_curve = fault == fault_6 || fault == fault_12;
+        if (on_curve ? takes_curve(x) : fault == fault_7 || takes_work(x)) fault(random, x);
+    } while (one_in(random, 3));
 }

@@ -1,4 +1,4 @@
-/* Random cases of the calls on lists: accepted ones and damaged ones, long and short. */
+/* Random cases of the calls on lists: accepted ones and damaged ones, long and short. And the random numbers that they are made of. */
 #ifndef CASES_H
 #define CASES_H
 
@@ -11,5 +11,23 @@ enum { LIST_ROOM = 512, WORK_ROOM = LEAST_WORK + 2048 };
  * long, and nothing that a call may write has more than WORK_ROOM numbers. What the call has to answer is not known here: the
  * model says it. */
 struct lent make_case(struct random *random, enum operation operation, enum way way);
+
+/* Gives a case that has its operation, way and accepted family the rest, which may be damaged: the curve and the lengths. The curve stays
+ * as a list of make_case does. */
+void complete_case(struct random *random, struct lent *x);
+
+/* A modulus in its range, and one that is not. */
+uint32_t some_modulus(struct random *random);
+uint32_t some_wrong_modulus(struct random *random);
+
+/* How many rows: short families most often, since a call by the tree at 127 rows takes as long as hundreds at 3. */
+size_t some_rows(struct random *random);
+
+/* A number below m with an inverse; one without, which shares a factor with m if one is met soon and is 0 else; a c_1, with an inverse or
+ * without; a number that is not below m: the least, the greatest, or any. */
+uint32_t some_unit(struct random *random, uint32_t m);
+uint32_t some_non_unit(struct random *random, uint32_t m);
+uint32_t some_first_c(struct random *random, uint32_t m);
+uint32_t some_not_below(struct random *random, uint32_t m);
 
 #endif

@@ -2,13 +2,15 @@
  *
  * usage: differential [CASES [SEED [FIRST]]]
  *
- * Of the first 1,100,000 cases each eleventh is of write_job, and each of the others is of any of the other ten calls. The rest,
- * 4,550,000 if CASES is not stated, are of the five quick calls in turn. So each quick call has a million cases and more, and
- * each of the others about 100,000. What write_job wrote is read by the text call in the same case.
+ * Of the first 180,000 cases each twelfth is a sequence of up to 48 calls on a prepared family: 15,000 sequences. Of the first 1,100,000
+ * others each eleventh is of write_job, and each of the rest is of any of the other ten calls on lists and texts. Those after them,
+ * 4,550,000 if CASES is not stated, are of the five quick calls in turn. So each quick call has a million cases and more, each of the
+ * others about 100,000, and the twelve on a prepared family have 370,000 together. What write_job wrote is read by the text call in the
+ * same case.
  *
- * Compares the number returned, all that a call writes, and that it writes nothing else (trial.h). Prints how many cases each call
- * had, how often it gave each answer, and how often it finished with a c_1 that is 0 and with one that shares a factor with m, and
- * exits 0; shows the first case that differs and exits 1. It exits 1 too if some call never gave one of the answers that it can
+ * Compares the number and the record returned, all that a call writes, and that it writes nothing else (trial.h). Prints how many cases
+ * each call had, how often it gave each answer, and how often it finished with a c_1 that is 0 and with one that shares a factor with m,
+ * and exits 0; shows the first case that differs and exits 1. It exits 1 too if some call never gave one of the answers that it can
  * give, or if one on families never finished with such a c_1, unless FIRST, the number of the first case, is stated. Bad arguments
  * exit with 2.
  */
@@ -18,17 +20,18 @@
 
 #include "cases.h"
 #include "job.h"
+#include "prepared.h"
 #include "text.h"
 #include "trial.h"
 #include "zahupnik.h"
 
-static const uint64_t ALL_CALLS = 1100000, QUICK_CALLS = 4550000, SEED = 20240229;
+static const uint64_t SEQUENCES = 15000, ALL_CALLS = 1100000, QUICK_CALLS = 4550000, SEED = 20240229;
 
-enum { ANSWERS = 14, QUICK = 5 };
+enum { ANSWERS = 17, QUICK = 5, EACH_SEQUENCE = 12, MOST_STEPS = 48 };
 
 /* A call by its name in the header without zahupnik_, which answers it can give, how it is run on lists, how often it gave each
  * answer, whether it finished with so many rows, and how often with such a c_1. What writes a text is not run on lists: its cases
- * are run alone. */
+ * are run alone. Nor is what is on a prepared family: its cases are steps of a sequence. */
 struct call {
     const char *name;
     const char *answers;
@@ -39,6 +42,7 @@ struct call {
     bool finished[MOST_ROWS + 1];
     unsigned long finished_with[KINDS_OF_FIRST_C];
     uint32_t (*run_alone)(struct trial *trial, struct random *random);
+    step *run_step;
 };
 
 #define LIST(list) x->list.entries, x->list.length
@@ -60,26 +64,49 @@ RUN(tree_adjoint, FAMILY, LIST(curve), OUTPUT, WORK)
 RUN(tree_decompose, FAMILY, LIST(curve), OUTPUT, WORK)
 RUN(moments, FAMILY, OUTPUT, WORK)
 
-/* Answers: a sign for each number from 0 to 13, a point where the call cannot give it. The quick calls come first, and write_job
- * comes last. */
+/* Answers: a sign for each number from 0 to 16, a point where the call cannot give it. The quick calls come first, and write_job comes
+ * last of those that are not run in steps. Of those that are, the changes come first, in the order of their kinds. */
+#define ON_LISTS(call, can_give, operation, way) {#call, can_give, operation, way, call, {0}, {0}, {0}, NULL, NULL}
+#define ALONE(call, can_give, function) {.name = #call, .answers = can_give, .run_alone = function}
+#define IN_STEPS(call, can_give) {.name = #call, .answers = can_give, .run_step = call}
 static struct call calls[] = {
-    {"invert", "0..3........CD", INVERSE, PLAIN, invert, {0}, {0}, {0}, NULL},
-    {"plain_expand", "0..34567.9ABC.", EXPAND, PLAIN, plain_expand, {0}, {0}, {0}, NULL},
-    {"plain_adjoint", "0..34567.9ABC.", ADJOINT, PLAIN, plain_adjoint, {0}, {0}, {0}, NULL},
-    {"plain_decompose", "0..34567.9ABC.", DECOMPOSE, PLAIN, plain_decompose, {0}, {0}, {0}, NULL},
-    {"norms", "0..345.7.9AB..", NORMS, PLAIN, norms, {0}, {0}, {0}, NULL},
-    {"tree_expand", "0..3456789ABC.", EXPAND, TREE, tree_expand, {0}, {0}, {0}, NULL},
-    {"tree_adjoint", "0..3456789ABC.", ADJOINT, TREE, tree_adjoint, {0}, {0}, {0}, NULL},
-    {"tree_decompose", "0..3456789ABC.", DECOMPOSE, TREE, tree_decompose, {0}, {0}, {0}, NULL},
-    {"moments", "0..345.789AB..", MOMENTS, TREE, moments, {0}, {0}, {0}, NULL},
-    {.name = "convert_text", .answers = "0123456789ABC.", .run_alone = run_on_text},
-    {.name = "write_job", .answers = "0.234567.9ABC.", .run_alone = run_on_job},
+    ON_LISTS(invert, "0..3........CD...", INVERSE, PLAIN),
+    ON_LISTS(plain_expand, "0..34567.9ABC....", EXPAND, PLAIN),
+    ON_LISTS(plain_adjoint, "0..34567.9ABC....", ADJOINT, PLAIN),
+    ON_LISTS(plain_decompose, "0..34567.9ABC....", DECOMPOSE, PLAIN),
+    ON_LISTS(norms, "0..345.7.9AB.....", NORMS, PLAIN),
+    ON_LISTS(tree_expand, "0..3456789ABC....", EXPAND, TREE),
+    ON_LISTS(tree_adjoint, "0..3456789ABC....", ADJOINT, TREE),
+    ON_LISTS(tree_decompose, "0..3456789ABC....", DECOMPOSE, TREE),
+    ON_LISTS(moments, "0..345.789AB.....", MOMENTS, TREE),
+    ALONE(convert_text, "0123456789ABC....", run_on_text),
+    ALONE(write_job, "0.234567.9ABC....", run_on_job),
+    IN_STEPS(prepared_empty, "0..3............."),
+    IN_STEPS(prepared_append, "0....5...9AB..E.."),
+    IN_STEPS(prepared_drop_last, "0.............EF."),
+    IN_STEPS(prepared_replace, "0........9AB..E.G"),
+    IN_STEPS(prepared_plain_expand, "0.....67....C.E.."),
+    IN_STEPS(prepared_plain_adjoint, "0.....67....C.E.."),
+    IN_STEPS(prepared_plain_decompose, "0.....67....C.E.."),
+    IN_STEPS(prepared_norms, "0......7......E.."),
+    IN_STEPS(prepared_tree_expand, "0.....678...C.E.."),
+    IN_STEPS(prepared_tree_adjoint, "0.....678...C.E.."),
+    IN_STEPS(prepared_tree_decompose, "0.....678...C.E.."),
+    IN_STEPS(prepared_moments, "0......78.....E.."),
 };
-enum { COUNT = sizeof calls / sizeof *calls, WRITE_JOB = COUNT - 1 };
+enum { COUNT = sizeof calls / sizeof *calls, CHANGES = 4, OPERATIONS = 8, IN_NO_STEPS = COUNT - CHANGES - OPERATIONS };
+enum { WRITE_JOB = IN_NO_STEPS - 1 };
 
 static bool can_give(const struct call *call, int answer) { return call->answers[answer] != '.'; }
 
-static bool is_on_families(const struct call *call) { return can_give(call, 11); }
+static bool is_on_families(const struct call *call) { return can_give(call, 11) || can_give(call, 14); }
+
+static void count(struct call *call, const struct trial *trial, uint32_t answer) {
+    call->met[answer]++;
+    if (answer != 0) return;
+    call->finished[trial->rows] = true;
+    call->finished_with[trial->first_c]++;
+}
 
 /* Runs a random case of a call on lists and holds it against the model; the answer. */
 static uint32_t run_on_lists(const struct call *call, struct trial *trial, struct random *random) {
@@ -97,12 +124,12 @@ static uint32_t run_on_lists(const struct call *call, struct trial *trial, struc
     return trial->number;
 }
 
-/* The call of a case, and its random source. The cases of write_job that come before it and the others are counted apart, so that
- * the share of write_job moves no other case. */
-static struct call *call_of_case(uint64_t seed, uint64_t number_of_case, struct random *random) {
-    bool of_all = number_of_case < ALL_CALLS;
-    uint64_t jobs = (of_all ? number_of_case : ALL_CALLS) / COUNT, others = number_of_case - jobs;
-    if (of_all && number_of_case % COUNT == WRITE_JOB) {
+/* The call of a case that is no sequence, and its random source. The cases of write_job that come before it and the others are counted
+ * apart, so that the share of write_job moves no other case. */
+static struct call *call_of_case(uint64_t seed, uint64_t number, struct random *random) {
+    bool of_all = number < ALL_CALLS;
+    uint64_t jobs = (of_all ? number : ALL_CALLS) / IN_NO_STEPS, others = number - jobs;
+    if (of_all && number % IN_NO_STEPS == WRITE_JOB) {
         *random = random_of_case(~seed, jobs);
         return &calls[WRITE_JOB];
     }
@@ -110,15 +137,34 @@ static struct call *call_of_case(uint64_t seed, uint64_t number_of_case, struct 
     return &calls[of_all ? below(random, WRITE_JOB) : others % QUICK];
 }
 
+/* Half of the steps are changes, and of these more append a row than drop one, since more of them are refused. */
+static struct call *call_of_step(struct random *random) {
+    static const enum kind_of_change changes[] = {EMPTY, APPEND, APPEND, APPEND, DROP_LAST, REPLACE, REPLACE, REPLACE};
+    return &calls[IN_NO_STEPS + (one_in(random, 2) ? ONE_OF(random, changes) : CHANGES + below(random, OPERATIONS))];
+}
+
+static void run_sequence(uint64_t seed, uint64_t number_of_case, struct random random) {
+    static struct sequence sequence;
+    uint32_t steps = 1 + below(&random, MOST_STEPS);
+    begin_sequence(&random, &sequence);
+    for (uint32_t step = 1; step <= steps; step++) {
+        struct call *call = call_of_step(&random);
+        struct trial trial = {.call = call->name, .seed = seed, .number_of_case = number_of_case, .step = step};
+        count(call, &trial, call->run_step(&trial, &random, &sequence));
+    }
+}
+
+/* The sequences are counted apart too. */
 static void run_case(uint64_t seed, uint64_t number_of_case) {
+    uint64_t sequences = number_of_case / EACH_SEQUENCE;
+    if (sequences < SEQUENCES && number_of_case % EACH_SEQUENCE == EACH_SEQUENCE - 1) {
+        run_sequence(seed, number_of_case, random_of_case(mixed(~seed), sequences));
+        return;
+    }
     struct random random;
-    struct call *call = call_of_case(seed, number_of_case, &random);
+    struct call *call = call_of_case(seed, number_of_case - (sequences < SEQUENCES ? sequences : SEQUENCES), &random);
     struct trial trial = {.call = call->name, .seed = seed, .number_of_case = number_of_case};
-    uint32_t answer = call->run ? run_on_lists(call, &trial, &random) : call->run_alone(&trial, &random);
-    call->met[answer]++;
-    if (answer != 0) return;
-    call->finished[trial.rows] = true;
-    call->finished_with[trial.first_c]++;
+    count(call, &trial, call->run ? run_on_lists(call, &trial, &random) : call->run_alone(&trial, &random));
 }
 
 /* How often something was met, where it can be. */
@@ -132,13 +178,13 @@ static void print_met(bool can_be, unsigned long met) {
 /* How many cases each call had, how often it gave each answer, with how many different numbers of rows it finished, and how often
  * with a c_1 that is 0 and with one that shares a factor with m. */
 static void print_table(void) {
-    printf("%-15s %7s", "answer", "cases");
+    printf("%-24s %7s", "answer", "cases");
     for (int answer = 0; answer < ANSWERS; answer++) printf(" %6d", answer);
     printf("  rows  c_1=0 shares\n");
     for (size_t i = 0; i < COUNT; i++) {
         unsigned long cases = 0;
         for (int answer = 0; answer < ANSWERS; answer++) cases += calls[i].met[answer];
-        printf("%-15s %7lu", calls[i].name, cases);
+        printf("%-24s %7lu", calls[i].name, cases);
         for (int answer = 0; answer < ANSWERS; answer++) print_met(can_give(&calls[i], answer), calls[i].met[answer]);
         int numbers_of_rows = 0;
         for (int rows = 0; rows <= MOST_ROWS; rows++) numbers_of_rows += calls[i].finished[rows];
@@ -196,7 +242,8 @@ int main(int argc, char **argv) {
         fprintf(stderr, "usage: differential [CASES [SEED [FIRST]]]\n");
         return 2;
     }
-    uint64_t cases = argument(argc, argv, 1, ALL_CALLS + QUICK_CALLS), seed = argument(argc, argv, 2, SEED), first = argument(argc, argv, 3, 0);
+    uint64_t cases = argument(argc, argv, 1, SEQUENCES + ALL_CALLS + QUICK_CALLS);
+    uint64_t seed = argument(argc, argv, 2, SEED), first = argument(argc, argv, 3, 0);
     prepare_trials(WORK_ROOM * sizeof(uint32_t));
     for (uint64_t i = 0; i < cases; i++) run_case(seed, first + i);
     print_table();

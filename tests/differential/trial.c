@@ -39,9 +39,32 @@ static void show(const void *numbers, size_t width, size_t length) {
     fprintf(stderr, "\n");
 }
 
+/* A record, without the zeros at the end of each list. */
+static void show_record(struct record *record) {
+    fprintf(stderr, "  modulus %" PRIu32 "\n  rows %" PRIu32 "\n", record->modulus, record->rows);
+    for (unsigned i = 0; i < RECORD_LISTS; i++) {
+        struct record_list list = record_list(record, i);
+        while (list.length && !list.places[list.length - 1]) list.length--;
+        fprintf(stderr, "  %s", list.name);
+        show(list.places, sizeof *list.places, list.length);
+    }
+}
+
+static void show_change(const struct change *x) {
+    if (x->kind == EMPTY) fprintf(stderr, " m %" PRIu32 "\n", x->m);
+    if (x->kind == REPLACE) fprintf(stderr, " row %" PRIu32 "\n", x->row);
+    if (x->kind == APPEND || x->kind == REPLACE) fprintf(stderr, " a %" PRIu32 ", b %" PRIu32 ", c %" PRIu32 "\n", x->a, x->b, x->c);
+}
+
 /* The whole case. Of what the call may write the length says enough: what it held before comes back with the seed. */
 static void show_case(const struct trial *trial) {
     fprintf(stderr, "differential: seed %" PRIu64 ", case %" PRIu64 ": %s\n", trial->seed, trial->number_of_case, trial->call);
+    if (trial->step) fprintf(stderr, " step %" PRIu32 "\n", trial->step);
+    if (trial->handed) {
+        fprintf(stderr, " record\n");
+        show_record(trial->handed);
+    }
+    if (trial->change) show_change(trial->change);
     if (trial->m) fprintf(stderr, " m %" PRIu32 "\n", *trial->m);
     if (trial->operation) fprintf(stderr, " operation %" PRIu32 "\n", *trial->operation);
     for (size_t i = 0; i < trial->lendings; i++) {
@@ -103,6 +126,8 @@ void note_family(struct trial *trial, const struct lent *x) {
     trial->first_c = c_1 == 0 ? ZERO : common_divisor(c_1, x->m) != 1 ? SHARES_FACTOR : INVERTIBLE;
 }
 
+void watch(const struct trial *trial) { running = trial; }
+
 void *lend(struct trial *trial, struct random *random, struct lending lending) {
     size_t place = trial->lendings++, bytes = lending.length * lending.width;
     trial->lending[place] = lending;
@@ -112,11 +137,11 @@ void *lend(struct trial *trial, struct random *random, struct lending lending) {
         memset(trial->at[place] - ZONE, ZONE_BYTE, ZONE);
         if (bytes) memcpy(trial->at[place], lending.before, bytes);
     }
-    running = trial;
+    watch(trial);
     return trial->at[place];
 }
 
-static struct list lend_list(struct trial *trial, struct random *random, const char *name, struct list list) {
+struct list lend_list(struct trial *trial, struct random *random, const char *name, struct list list) {
     struct lending lending = {name, sizeof *list.entries, list.entries, list.length, NULL, 0};
     return (struct list){lend(trial, random, lending), list.length};
 }
@@ -169,8 +194,12 @@ static bool holds(const struct lending *x, const unsigned char *at, size_t front
            (all == front || memcmp(at + front, (const unsigned char *)x->before + front, all - front) == 0);
 }
 
+static bool same_record(const struct trial *trial) {
+    return !trial->wanted || memcmp(trial->wanted, trial->returned, sizeof *trial->wanted) == 0;
+}
+
 void compare(const struct trial *trial, uint32_t returned) {
-    bool same = returned == trial->number;
+    bool same = returned == trial->number && same_record(trial);
     running = NULL;
     for (size_t i = 0; i < trial->lendings; i++) {
         const struct lending *x = &trial->lending[i];
@@ -180,6 +209,12 @@ void compare(const struct trial *trial, uint32_t returned) {
     show_case(trial);
     show_returned("expected", trial->number);
     show_returned("got", returned);
+    if (!same_record(trial)) {
+        fprintf(stderr, " record expected\n");
+        show_record(trial->wanted);
+        fprintf(stderr, " record got\n");
+        show_record(trial->returned);
+    }
     for (size_t i = 0; i < trial->lendings; i++) {
         const struct lending *x = &trial->lending[i];
         size_t front_length = trial->number ? 0 : x->front_length;

@@ -9,7 +9,7 @@
 #include <stddef.h>
 #include <stdint.h>
 
-#include "model.h"
+#include "prepared_model.h"
 #include "random.h"
 
 enum { MOST_LENDINGS = 6 };
@@ -29,12 +29,16 @@ struct lending {
 /* What a family's c_1 is: it has an inverse, or there is no row; it is 0; it is another number that shares a factor with m. */
 enum first_c { INVERTIBLE, ZERO, SHARES_FACTOR, KINDS_OF_FIRST_C };
 
-/* A case of a call. Number is what it has to return; a text has no m of its own, and only write_job is told the number of an
- * operation. Rows says how long its family is. */
+/* A case of a call, or a step of one that is a sequence. Number is what it has to return; a text has no m of its own, and only
+ * write_job is told the number of an operation. Rows says how long its family is. A call on a record is handed one; a change has
+ * returned one besides, and has to return the one wanted. */
 struct trial {
     const char *call;
     uint64_t seed, number_of_case;
+    uint32_t step;
     const uint32_t *m, *operation;
+    const struct change *change;
+    struct record *handed, *wanted, *returned;
     uint32_t number;
     size_t rows, lendings;
     enum first_c first_c;
@@ -51,8 +55,14 @@ const void *dirt(struct random *random, size_t bytes);
 /* Notes the rows and the c_1 of the trial's family. */
 void note_family(struct trial *trial, const struct lent *x);
 
-/* Lends numbers, and returns where they are: for none of them sometimes NULL. */
+/* From here on to the comparing the library runs, so that a fault is its own. */
+void watch(const struct trial *trial);
+
+/* Lends numbers, and returns where they are: for none of them sometimes NULL. Watches too. */
 void *lend(struct trial *trial, struct random *random, struct lending lending);
+
+/* Lends a list that the call may not write, and returns it where it was lent. */
+struct list lend_list(struct trial *trial, struct random *random, const char *name, struct list list);
 
 /* Lends the lists that the call takes, and returns x with what was lent in their places. */
 struct lent lend_lists(struct trial *trial, struct random *random, const struct lent *x);
@@ -61,8 +71,8 @@ struct lent lend_lists(struct trial *trial, struct random *random, const struct 
 uint32_t *lend_numbers(struct trial *trial, struct random *random, const char *name, size_t length, const uint32_t *front,
                        size_t front_length);
 
-/* Holds the number that the call returned, and all that it was lent, against what has to be. At a difference the case is shown
- * and the program ends with 1. It ends so too if the library touches what it may not, between the first lending and here. */
+/* Holds the number and the record that the call returned, and all that it was lent, against what has to be. At a difference the case
+ * is shown and the program ends with 1. It ends so too if the library touches what it may not while it is watched. */
 void compare(const struct trial *trial, uint32_t returned);
 
 #endif

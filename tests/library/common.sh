@@ -19,7 +19,7 @@ sanitizes() { # whether cc and this machine have the sanitizers
     cc "${sanitize[@]}" -x c -o "$built/sanitized" - <<<'int main(void) { return 0; }' && "$built/sanitized"
 }
 functions() { # of what the header declares, or of what nm lists, the functions of zahupnik
-    sed -nE 's/^(uint32_t|.* T) (zahupnik_[a-z_]+).*/\2/p' | sort
+    sed -nE 's/^(uint32_t|struct zahupnik_change|.* T) (zahupnik_[a-z_]+).*/\2/p' | sort
 }
 is_sealed() { # whether the archive is the one that the kit made last, and no source has changed since that build began
     local newer

@@ -25,8 +25,27 @@ static void expect(const char *function, const char *with, const char *what, uin
     }
 }
 
-/* What a function on families is lent. */
+/* A change answers with the number and hands out the record. */
+static void hands_out(const char *function, const char *with, struct zahupnik_change change, uint32_t number,
+                      const struct zahupnik_prepared *record) {
+    expect(function, with, "the answer", change.answer, number);
+    expect(function, with, "that the record is the one wanted", !memcmp(&change.family, record, sizeof *record), 1);
+    cases++;
+}
+
+/* The record of so many rows 1 1 1 modulo 7, at most as many as there may be. */
+static struct zahupnik_prepared of_ones(size_t rows) {
+    static struct zahupnik_prepared records[ZAHUPNIK_MOST_ROWS + 1];
+    if (!records[0].modulus) {
+        records[0] = zahupnik_prepared_empty(7).family;
+        for (size_t i = 0; i < ZAHUPNIK_MOST_ROWS; i++) records[i + 1] = zahupnik_prepared_append(records[i], 1, 1, 1).family;
+    }
+    return records[rows < ZAHUPNIK_MOST_ROWS ? rows : ZAHUPNIK_MOST_ROWS];
+}
+
+/* What a function on families is lent: lists, or a record. */
 struct input {
+    struct zahupnik_prepared family;
     uint32_t m, a[ROOM], b[ROOM], c[ROOM], curve[ROOM];
     size_t a_length, b_length, c_length, curve_length, output_length, work_length;
 };
@@ -48,6 +67,14 @@ FUNCTION(tree_expand, FAMILY, CURVE, OUTPUT, WORK)
 FUNCTION(tree_adjoint, FAMILY, CURVE, OUTPUT, WORK)
 FUNCTION(tree_decompose, FAMILY, CURVE, OUTPUT, WORK)
 FUNCTION(moments, FAMILY, OUTPUT, WORK)
+FUNCTION(prepared_plain_expand, x->family, CURVE, OUTPUT)
+FUNCTION(prepared_plain_adjoint, x->family, CURVE, OUTPUT)
+FUNCTION(prepared_plain_decompose, x->family, CURVE, OUTPUT)
+FUNCTION(prepared_norms, x->family, OUTPUT)
+FUNCTION(prepared_tree_expand, x->family, CURVE, OUTPUT, WORK)
+FUNCTION(prepared_tree_adjoint, x->family, CURVE, OUTPUT, WORK)
+FUNCTION(prepared_tree_decompose, x->family, CURVE, OUTPUT, WORK)
+FUNCTION(prepared_moments, x->family, OUTPUT, WORK)
 
 /* A function by its name, whether it takes a curve, how long its output is with no rows and how much longer with each row, and how
  * many numbers at the front of the working list are zero when it has finished. The function that writes a job stands here once for
@@ -62,6 +89,7 @@ struct function {
 /* An input that the function takes: rows 1 1 1 and a curve of ones, modulo 7. */
 static struct input accepted(const struct function *f, size_t rows) {
     struct input x = {.m = 7, .a_length = rows, .b_length = rows, .c_length = rows, .work_length = ZAHUPNIK_LEAST_WORK};
+    x.family = of_ones(rows);
     x.curve_length = f->takes_curve ? rows + 1 : 0;
     x.output_length = f->output + f->each_row * rows;
     for (size_t i = 0; i < ROOM; i++) x.a[i] = x.b[i] = x.c[i] = x.curve[i] = 1;
@@ -149,6 +177,123 @@ static void on_family(const struct function *f) {
     GIVES(FINISHED, 2, (x.m = 15, x.c[0] = 6));
     GIVES(FINISHED, ZAHUPNIK_MOST_ROWS, x.c[0] = 0);
     GIVES(C_INVERSE, ZAHUPNIK_MOST_ROWS, x.c[ZAHUPNIK_MOST_ROWS - 1] = 0);
+}
+
+/* The record of the rows 1 1 1 in which something else stands: that of another family, or not right, which goes before all else. */
+static void on_record(const struct function *f) {
+    GIVES(FINISHED, 0, x.family.rows = 0);
+    GIVES(FINISHED, ZAHUPNIK_MOST_ROWS, x.family.rows = ZAHUPNIK_MOST_ROWS);
+    GIVES(FINISHED, 0, x.family.modulus = 8);
+    GIVES(FINISHED, 0, x.family.modulus = ZAHUPNIK_GREATEST_MODULUS);
+    GIVES(RECORD, 0, x.family.modulus = 0);
+    GIVES(RECORD, 0, x.family.modulus = 1);
+    GIVES(RECORD, 0, x.family.modulus = ZAHUPNIK_GREATEST_MODULUS + 1);
+    GIVES(RECORD, 2, x.family.modulus = 0);
+    GIVES(RECORD, 2, x.family.modulus = 8);
+    GIVES(RECORD, 2, x.family.rows = 0);
+    GIVES(RECORD, 2, x.family.rows = 1);
+    GIVES(RECORD, 2, x.family.rows = 3);
+    GIVES(RECORD, ZAHUPNIK_MOST_ROWS, x.family.rows = ZAHUPNIK_MOST_ROWS + 1);
+    GIVES(RECORD, ZAHUPNIK_MOST_ROWS, x.family.rows = UINT32_MAX);
+    GIVES(FINISHED, 2, x.family.b[1] = 6);
+    GIVES(FINISHED, 2, x.family.c[0] = 0);
+    GIVES(RECORD, 2, x.family.a[1] = 0);
+    GIVES(RECORD, 2, x.family.a[1] = 2);
+    GIVES(RECORD, 2, x.family.a[1] = 8);
+    GIVES(RECORD, 2, x.family.b[1] = 7);
+    GIVES(RECORD, 2, x.family.c[0] = 7);
+    GIVES(RECORD, 2, x.family.c[1] = 0);
+    GIVES(RECORD, 2, x.family.c[1] = 8);
+    GIVES(RECORD, 2, x.family.a_inverses[0] = 8);
+    GIVES(RECORD, 2, x.family.a_inverses[1] = 0);
+    GIVES(RECORD, 2, x.family.c_inverses[0] = 1);
+    GIVES(RECORD, 2, x.family.c_inverses[1] = 8);
+    GIVES(RECORD, 2, x.family.norms[0] = 0);
+    GIVES(RECORD, 2, x.family.norms[2] = 8);
+    GIVES(RECORD, 2, x.family.a[2] = 1);
+    GIVES(RECORD, 2, x.family.b[2] = 1);
+    GIVES(RECORD, 2, x.family.c[2] = 1);
+    GIVES(RECORD, 2, x.family.a_inverses[2] = 1);
+    GIVES(RECORD, 2, x.family.c_inverses[2] = 1);
+    GIVES(RECORD, 2, x.family.norms[3] = 1);
+    GIVES(RECORD, 2, x.family.b[ZAHUPNIK_MOST_ROWS - 1] = 1);
+    GIVES(RECORD, 2, x.family.norms[ZAHUPNIK_MOST_ROWS] = 1);
+    GIVES(RECORD, ZAHUPNIK_MOST_ROWS, x.family.norms[ZAHUPNIK_MOST_ROWS] = 0);
+    GIVES(RECORD, 2, (x.family.norms[2] = 0, x.curve_length = x.output_length = x.work_length = 0));
+    GIVES(RECORD, 2, (x.family.norms[2] = 0, x.curve[2] = 7));
+    GIVES(OUTPUT_LENGTH, 2, x.output_length = 0);
+    GIVES(OUTPUT_LENGTH, 2, x.output_length--);
+}
+
+/* Changed in one thing, the record of some rows 1 1 1 is handed back with the number. */
+#define HANDED_BACK(number, rows, change, function, ...)                                                     \
+    do {                                                                                                     \
+        struct zahupnik_prepared x = of_ones(rows);                                                          \
+        change;                                                                                              \
+        hands_out(#function, #rows " rows, " #change ", given " #__VA_ARGS__, zahupnik_##function(__VA_ARGS__), \
+                  ZAHUPNIK_##number, &x);                                                                    \
+    } while (0)
+
+static void on_changes(void) {
+    HANDED_BACK(RECORD, 2, x.modulus = 0, prepared_append, x, 1, 1, 1);
+    HANDED_BACK(RECORD, 2, x.norms[2] = 0, prepared_append, x, 7, 7, 7);
+    HANDED_BACK(RECORD, ZAHUPNIK_MOST_ROWS, x.rows++, prepared_append, x, 1, 1, 1);
+    HANDED_BACK(ROWS, ZAHUPNIK_MOST_ROWS, x.b[0] = 0, prepared_append, x, 1, 1, 1);
+    HANDED_BACK(ROWS, ZAHUPNIK_MOST_ROWS, x.b[0] = 0, prepared_append, x, 7, 0, 0);
+    HANDED_BACK(ENTRY, 2, x.b[0] = 0, prepared_append, x, 7, 1, 1);
+    HANDED_BACK(ENTRY, 2, x.b[0] = 0, prepared_append, x, 0, 7, 0);
+    HANDED_BACK(ENTRY, 0, x.modulus = 7, prepared_append, x, 1, 1, 7);
+    HANDED_BACK(A_INVERSE, 0, x.modulus = 7, prepared_append, x, 0, 1, 1);
+    HANDED_BACK(A_INVERSE, 0, x.modulus = 15, prepared_append, x, 6, 1, 0);
+    HANDED_BACK(A_INVERSE, 2, x.b[0] = 0, prepared_append, x, 0, 1, 0);
+    HANDED_BACK(C_INVERSE, 1, x.b[0] = 0, prepared_append, x, 1, 1, 0);
+    HANDED_BACK(C_INVERSE, 2, x.b[0] = 0, prepared_append, x, 1, 1, 0);
+
+    HANDED_BACK(RECORD, 0, x.norms[0] = 0, prepared_drop_last, x);
+    HANDED_BACK(RECORD, 2, x.a[2] = 1, prepared_drop_last, x);
+    HANDED_BACK(NO_ROWS, 0, x.modulus = 7, prepared_drop_last, x);
+
+    HANDED_BACK(RECORD, 2, x.c_inverses[1] = 8, prepared_replace, x, 2, 1, 1, 1);
+    HANDED_BACK(RECORD, 2, x.c_inverses[1] = 8, prepared_replace, x, 0, 7, 7, 7);
+    HANDED_BACK(ABSENT_ROW, 0, x.modulus = 7, prepared_replace, x, 1, 1, 1, 1);
+    HANDED_BACK(ABSENT_ROW, 2, x.b[0] = 0, prepared_replace, x, 0, 1, 1, 1);
+    HANDED_BACK(ABSENT_ROW, 2, x.b[0] = 0, prepared_replace, x, 3, 7, 0, 0);
+    HANDED_BACK(ABSENT_ROW, ZAHUPNIK_MOST_ROWS, x.b[0] = 0, prepared_replace, x, ZAHUPNIK_MOST_ROWS + 1, 1, 1, 1);
+    HANDED_BACK(ABSENT_ROW, ZAHUPNIK_MOST_ROWS, x.b[0] = 0, prepared_replace, x, UINT32_MAX, 1, 1, 1);
+    HANDED_BACK(ENTRY, 2, x.b[0] = 0, prepared_replace, x, 1, 1, 1, 7);
+    HANDED_BACK(ENTRY, 2, x.b[0] = 0, prepared_replace, x, 2, 0, 7, 0);
+    HANDED_BACK(A_INVERSE, 2, x.b[0] = 0, prepared_replace, x, 1, 0, 1, 0);
+    HANDED_BACK(A_INVERSE, 2, x.b[0] = 0, prepared_replace, x, 2, 0, 1, 0);
+    HANDED_BACK(C_INVERSE, 2, x.b[0] = 0, prepared_replace, x, 2, 1, 1, 0);
+    HANDED_BACK(C_INVERSE, ZAHUPNIK_MOST_ROWS, x.b[0] = 0, prepared_replace, x, ZAHUPNIK_MOST_ROWS, 1, 1, 0);
+
+    /* A row that is already there. */
+    HANDED_BACK(FINISHED, 2, x.b[0] = 0, prepared_replace, x, 1, 1, 0, 1);
+    HANDED_BACK(FINISHED, ZAHUPNIK_MOST_ROWS, x.b[0] = 0, prepared_replace, x, ZAHUPNIK_MOST_ROWS, 1, 1, 1);
+}
+
+/* The records of the paper's rows, by the names of their parts. */
+static void on_records(void) {
+    const struct zahupnik_prepared zeros = {.modulus = 0}, none = {.modulus = 7, .norms = {1}};
+    const struct zahupnik_prepared one = {.modulus = 7, .rows = 1, .a = {1}, .c = {1}, .a_inverses = {1}, .norms = {1, 6}};
+    const struct zahupnik_prepared two = {.modulus = 7, .rows = 2, .a = {1, 2}, .b = {0, 3}, .c = {1, 5},
+                                          .a_inverses = {1, 4}, .c_inverses = {0, 3}, .norms = {1, 1, 5}};
+    struct zahupnik_prepared other = two;
+    other.a[0] = 3;
+    other.b[0] = 4;
+    other.c[0] = 0;
+    other.a_inverses[0] = other.norms[0] = 5;
+    hands_out("prepared_empty", "m = 0", zahupnik_prepared_empty(0), ZAHUPNIK_MODULUS, &zeros);
+    hands_out("prepared_empty", "m = 1", zahupnik_prepared_empty(1), ZAHUPNIK_MODULUS, &zeros);
+    hands_out("prepared_empty", "m = 7", zahupnik_prepared_empty(7), ZAHUPNIK_FINISHED, &none);
+    hands_out("prepared_empty", "m = 2147483648", zahupnik_prepared_empty(2147483648), ZAHUPNIK_MODULUS, &zeros);
+    hands_out("prepared_empty", "m = 4294967295", zahupnik_prepared_empty(UINT32_MAX), ZAHUPNIK_MODULUS, &zeros);
+    hands_out("prepared_append", "no rows", zahupnik_prepared_append(none, 1, 0, 1), ZAHUPNIK_FINISHED, &one);
+    hands_out("prepared_append", "one row", zahupnik_prepared_append(one, 2, 3, 5), ZAHUPNIK_FINISHED, &two);
+    hands_out("prepared_drop_last", "two rows", zahupnik_prepared_drop_last(two), ZAHUPNIK_FINISHED, &one);
+    hands_out("prepared_drop_last", "one row", zahupnik_prepared_drop_last(one), ZAHUPNIK_FINISHED, &none);
+    hands_out("prepared_replace", "row 1", zahupnik_prepared_replace(two, 1, 3, 4, 0), ZAHUPNIK_FINISHED, &other);
+    hands_out("prepared_replace", "the old row 1", zahupnik_prepared_replace(other, 1, 1, 0, 1), ZAHUPNIK_FINISHED, &two);
 }
 
 static void on_curve(const struct function *f) {
@@ -316,6 +461,16 @@ static void on_null(void) {
     LEAVES(zahupnik_tree_decompose(NO_ROWS, curve, 1, output, 1, NO_LIST), ZAHUPNIK_WORK_TOO_SHORT, UINT32_MAX);
     LEAVES(zahupnik_moments(NO_ROWS, output, 1, NO_LIST), ZAHUPNIK_WORK_TOO_SHORT, UINT32_MAX);
 
+    const struct zahupnik_prepared family = zahupnik_prepared_empty(7).family;
+    LEAVES(zahupnik_prepared_plain_expand(family, NO_LIST, output, 1), ZAHUPNIK_CURVE_LENGTH, UINT32_MAX);
+    LEAVES(zahupnik_prepared_plain_adjoint(family, NO_LIST, output, 1), ZAHUPNIK_CURVE_LENGTH, UINT32_MAX);
+    LEAVES(zahupnik_prepared_plain_decompose(family, curve, 1, NO_LIST), ZAHUPNIK_OUTPUT_LENGTH, UINT32_MAX);
+    LEAVES(zahupnik_prepared_norms(family, NO_LIST), ZAHUPNIK_OUTPUT_LENGTH, UINT32_MAX);
+    LEAVES(zahupnik_prepared_tree_expand(family, curve, 1, output, 1, NO_LIST), ZAHUPNIK_WORK_TOO_SHORT, UINT32_MAX);
+    LEAVES(zahupnik_prepared_tree_adjoint(family, curve, 1, output, 1, NO_LIST), ZAHUPNIK_WORK_TOO_SHORT, UINT32_MAX);
+    LEAVES(zahupnik_prepared_tree_decompose(family, curve, 1, output, 1, NO_LIST), ZAHUPNIK_WORK_TOO_SHORT, UINT32_MAX);
+    LEAVES(zahupnik_prepared_moments(family, output, 1, NO_LIST), ZAHUPNIK_WORK_TOO_SHORT, UINT32_MAX);
+
     /* what a job leaves there is the length of its text */
     static uint8_t text[ZAHUPNIK_LEAST_JOB_OUTPUT];
     LEAVES(zahupnik_write_job(NO_ROWS, ZAHUPNIK_NORMS, NO_LIST, text, sizeof text, output), ZAHUPNIK_FINISHED, 27);
@@ -336,6 +491,16 @@ int main(void) {
         {"tree_decompose", tree_decompose, 1, 1, 1, ZAHUPNIK_LEAST_WORK, 0},
         {"moments", moments, 0, 1, 2, ZAHUPNIK_LEAST_WORK, 0},
     };
+    const struct function prepared[] = {
+        {"prepared_plain_expand", prepared_plain_expand, 1, 1, 1, 0, 0},
+        {"prepared_plain_adjoint", prepared_plain_adjoint, 1, 1, 1, 0, 0},
+        {"prepared_plain_decompose", prepared_plain_decompose, 1, 1, 1, 0, 0},
+        {"prepared_norms", prepared_norms, 0, 1, 1, 0, 0},
+        {"prepared_tree_expand", prepared_tree_expand, 1, 1, 1, ZAHUPNIK_LEAST_WORK, 0},
+        {"prepared_tree_adjoint", prepared_tree_adjoint, 1, 1, 1, ZAHUPNIK_LEAST_WORK, 0},
+        {"prepared_tree_decompose", prepared_tree_decompose, 1, 1, 1, ZAHUPNIK_LEAST_WORK, 0},
+        {"prepared_moments", prepared_moments, 0, 1, 2, ZAHUPNIK_LEAST_WORK, 0},
+    };
     const struct function none[] = {
         {"write_job, operation 5", NULL, 1, ZAHUPNIK_LEAST_JOB_OUTPUT, 0, 0, 5},
         {"write_job, operation 4294967295", NULL, 0, ZAHUPNIK_LEAST_JOB_OUTPUT, 0, 0, UINT32_MAX},
@@ -343,6 +508,13 @@ int main(void) {
     for (size_t i = 0; i < sizeof functions / sizeof *functions; i++) {
         const struct function *f = &functions[i];
         on_family(f);
+        on_result(f);
+        if (f->takes_curve) on_curve(f);
+        if (f->cleared) on_work(f);
+    }
+    for (size_t i = 0; i < sizeof prepared / sizeof *prepared; i++) {
+        const struct function *f = &prepared[i];
+        on_record(f);
         on_result(f);
         if (f->takes_curve) on_curve(f);
         if (f->cleared) on_work(f);
@@ -355,6 +527,8 @@ int main(void) {
     }
     for (size_t i = 0; i < sizeof none / sizeof *none; i++) on_no_operation(&none[i]);
     on_job_text();
+    on_changes();
+    on_records();
     on_number();
     on_null();
     on_text();

@@ -96,6 +96,9 @@ static inline void expect(const char *what, size_t place, uint32_t given, uint32
     exit(1);
 }
 
+/* What the call gave is the next number of OUT. */
+static inline void expect_next(const char *what, size_t place, uint32_t given) { expect(what, place, given, next_number(&out)); }
+
 /* The bytes of the whole pages that so many bytes take. */
 static inline size_t room(size_t bytes) {
     size_t page = (size_t)sysconf(_SC_PAGESIZE);
@@ -111,8 +114,11 @@ static inline void *lend(size_t bytes) {
     return pages + room(bytes) - bytes;
 }
 
+/* Nothing was written in front of what was lent. */
 static inline void take_back(void *lent, size_t bytes) {
-    munmap((char *)lent + bytes - room(bytes), room(bytes) + (size_t)sysconf(_SC_PAGESIZE));
+    char *pages = (char *)lent + bytes - room(bytes);
+    for (char *at = pages; at < (char *)lent; at++) expect("a byte in front of what is lent", (size_t)(at - pages), (uint8_t)*at, 0);
+    munmap(pages, room(bytes) + (size_t)sysconf(_SC_PAGESIZE));
 }
 
 struct list {
@@ -134,6 +140,25 @@ static inline struct list next_list(struct file *file) {
     return list;
 }
 
+/* The list holds what stands next on the line of IN that it was read from. */
+static inline void expect_unchanged(const char *what, struct list list) {
+    expect(what, 0, (uint32_t)list.length, next_number(&in));
+    for (size_t i = 0; i < list.length; i++) expect(what, i, list.entries[i], next_number(&in));
+}
+
+/* An output as it is before a call. */
+static inline struct list make_output(size_t length) {
+    struct list output = make_list(length);
+    for (size_t i = 0; i < length; i++) output.entries[i] = (uint32_t)(UINT32_MAX - i);
+    return output;
+}
+
+/* The output is the list that stands next on the line of OUT. */
+static inline void expect_output(struct list output) {
+    expect_next("the length of the output", 0, (uint32_t)output.length);
+    for (size_t i = 0; i < output.length; i++) expect_next("the output", i, output.entries[i]);
+}
+
 /* What a working list holds before a call. */
 static inline uint32_t work_before(size_t i) { return (uint32_t)(4000000000 + i % 1000); }
 
@@ -141,6 +166,18 @@ static inline struct list make_work(size_t length) {
     struct list work = make_list(length);
     for (size_t i = 0; i < length; i++) work.entries[i] = work_before(i);
     return work;
+}
+
+/* What OUT says of a working list: how many of its numbers are zero, and their sum modulo 4294967291. */
+static inline void expect_work(struct list work) {
+    uint32_t zeros = 0;
+    uint64_t sum = 0;
+    for (size_t i = 0; i < work.length; i++) {
+        zeros += work.entries[i] == 0;
+        sum += work.entries[i];
+    }
+    expect_next("the count of zeros in the working list", 0, zeros);
+    expect_next("the sum of the working list", 0, (uint32_t)(sum % 4294967291));
 }
 
 /* What a call that writes a text is lent for it: the output, and the place of its length. */

@@ -32,21 +32,6 @@ enum { NUMBERS = sizeof NAMES / sizeof *NAMES };
 
 static unsigned long agreed[NUMBERS];
 
-/* What the call gave is the next number of OUT. */
-static void expect_next(const char *what, size_t place, uint32_t given) { expect(what, place, given, next_number(&out)); }
-
-/* What OUT says of a working list: how many of its numbers are zero, and their sum modulo 4294967291. */
-static void expect_work(struct list work) {
-    uint32_t zeros = 0;
-    uint64_t sum = 0;
-    for (size_t i = 0; i < work.length; i++) {
-        zeros += work.entries[i] == 0;
-        sum += work.entries[i];
-    }
-    expect_next("the count of zeros in the working list", 0, zeros);
-    expect_next("the sum of the working list", 0, (uint32_t)(sum % 4294967291));
-}
-
 /* Runs the case of a line of IN, and holds what it gives against the line of OUT. */
 static void run_case(void) {
     unsigned call = next_number(&in);
@@ -58,8 +43,7 @@ static void run_case(void) {
     if (call == INVERT && v.length != 1) unusable(&in, "not one number to invert");
 
     /* the inverse is written to one number */
-    struct list output = make_list(call == INVERT ? 1 : output_length);
-    for (size_t i = 0; i < output.length; i++) output.entries[i] = (uint32_t)(UINT32_MAX - i);
+    struct list output = make_output(call == INVERT ? 1 : output_length);
     struct list work = make_work(work_length);
     uint32_t returned = 0;
 #define RUN(number, name, ...) \
@@ -74,8 +58,7 @@ static void run_case(void) {
         expect_next("the count of inverses", 0, 0);
         expect("the number lent to a refused call", 0, output.entries[0], UINT32_MAX);
     } else {
-        expect_next("the length of the output", 0, (uint32_t)output.length);
-        for (size_t i = 0; i < output.length; i++) expect_next("the output", i, output.entries[i]);
+        expect_output(output);
     }
     if (call >= FIRST_WITH_WORK) expect_work(work);
     end_line(&out);

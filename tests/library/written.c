@@ -45,12 +45,6 @@ static void carry_out(const struct job *job, struct text_output text) {
     expect("the end of the text call's answer", 0, (uint32_t)strcmp(at, "\n"), 0);
 }
 
-/* The list holds what stands next on the line that it was read from. */
-static void expect_unchanged(const char *what, struct list list) {
-    expect(what, 0, (uint32_t)list.length, next_number(&in));
-    for (size_t i = 0; i < list.length; i++) expect(what, i, list.entries[i], next_number(&in));
-}
-
 /* Runs the job of a line of IN, and holds what the call leaves against the line of OUT. */
 static void run_job(void) {
     struct job lent, *job = &lent;

@@ -128,9 +128,9 @@ def cleared(working):
     return [0] * WORKING_LENGTH + list(working[WORKING_LENGTH:])
 
 
-def outcome(lent, numbers):
-    """The outcome of a call on lists whose tests have the given numbers."""
-    verdict = first_refusal(lent, numbers, CONDITIONS)
+def outcome(lent, numbers, conditions=CONDITIONS):
+    """The outcome of a call whose tests have the given numbers."""
+    verdict = first_refusal(lent, numbers, conditions)
     if verdict != 0:
         return Outcome(verdict, lent.output, lent.working)
     working = None if lent.working is None else cleared(lent.working)

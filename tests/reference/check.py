@@ -14,6 +14,7 @@ import sys
 import check_classical
 import check_figures
 import check_identities
+import check_prepared
 import check_refusals
 import check_texts
 import check_written
@@ -27,6 +28,7 @@ PARTS = (
     check_refusals,
     check_texts,
     check_written,
+    check_prepared,
     check_classical,
     check_identities,
 )

@@ -59,13 +59,17 @@ def input_line(case):
     )
 
 
-def expected_line(case):
-    """The line of OUT for a case."""
-    outcome = cases.run(case)
+def outcome_line(outcome):
+    """The line of OUT for what a call leaves."""
     numbers = [outcome.verdict, *with_length(outcome.output)]
-    if case.call in cases.WITH_WORKING:
+    if outcome.working is not None:
         numbers += [outcome.working.count(0), sum(outcome.working) % SUM_MODULUS]
     return line(numbers)
+
+
+def expected_line(case):
+    """The line of OUT for a case."""
+    return outcome_line(cases.run(case))
 
 
 def contents_of(found, *lines):

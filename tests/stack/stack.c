@@ -3,9 +3,10 @@
  * usage: stack
  *
  * For each function a line: its name and the most bytes that it took, of accepted cases with r = 127 and r = 0 and of a refused one,
- * modulo a prime and a composite number; of the text call and of the call that writes a job, for every operation. A byte counts if it
- * lies between the frame of the caller, which holds the arguments, and the lowest byte that was written. Exits 1 if a call gives
- * another answer than it should.
+ * modulo a prime and a composite number; of the text call and of the call that writes a job, for every operation; on a record of 127,
+ * 126, 1 and 0 rows, right and damaged. A byte counts if it lies between the frame of the caller, which holds the arguments, and the
+ * lowest byte that was written; the record that a change hands out is the caller's and is not counted. Exits 1 if a call gives another
+ * answer than it should.
  */
 #define _XOPEN_SOURCE 700
 #include <inttypes.h>
@@ -26,6 +27,8 @@ static uint32_t m, a[MOST], b[MOST], c[MOST], curve[MOST + 1], output[LIST], wor
 static size_t r, n, text_length, job_entries;
 static uint8_t text[ZAHUPNIK_MOST_TEXT], text_output[ZAHUPNIK_LEAST_TEXT_OUTPUT], job_output[ZAHUPNIK_LEAST_JOB_OUTPUT];
 static uint32_t operation, length, answer;
+static struct zahupnik_prepared family;
+static struct zahupnik_change change;
 static unsigned char *frame;
 
 #define FAMILY m, a, r, b, r, c, r
@@ -46,6 +49,26 @@ CALL(moments, FAMILY, output, 2 * n - 1, work, ZAHUPNIK_LEAST_WORK)
 CALL(convert_text, text, text_length, text_output, sizeof text_output, work, ZAHUPNIK_LEAST_WORK, &length)
 CALL(write_job, FAMILY, operation, curve, job_entries, job_output, sizeof job_output, &length)
 
+/* A change hands its record out beside the stack that is measured. */
+#define CHANGE(name, ...)                              \
+    static __attribute__((noinline)) void name(void) { \
+        frame = __builtin_frame_address(0);            \
+        change = zahupnik_##name(__VA_ARGS__);         \
+        answer = change.answer;                        \
+    }
+CHANGE(prepared_empty, m)
+CHANGE(prepared_append, family, a[0], b[0], c[0])
+CHANGE(prepared_drop_last, family)
+CHANGE(prepared_replace, family, (uint32_t)r, a[0], b[0], c[0])
+CALL(prepared_plain_expand, family, curve, n, output, n)
+CALL(prepared_plain_adjoint, family, curve, n, output, n)
+CALL(prepared_plain_decompose, family, curve, n, output, n)
+CALL(prepared_norms, family, output, n)
+CALL(prepared_tree_expand, family, curve, n, output, n, work, ZAHUPNIK_LEAST_WORK)
+CALL(prepared_tree_adjoint, family, curve, n, output, n, work, ZAHUPNIK_LEAST_WORK)
+CALL(prepared_tree_decompose, family, curve, n, output, n, work, ZAHUPNIK_LEAST_WORK)
+CALL(prepared_moments, family, output, 2 * n - 1, work, ZAHUPNIK_LEAST_WORK)
+
 static const struct {
     const char *name;
     void (*run)(void);
@@ -61,7 +84,20 @@ static const struct {
     {"zahupnik_moments", moments},
     {"zahupnik_convert_text", convert_text},
     {"zahupnik_write_job", write_job},
+    {"zahupnik_prepared_empty", prepared_empty},
+    {"zahupnik_prepared_append", prepared_append},
+    {"zahupnik_prepared_drop_last", prepared_drop_last},
+    {"zahupnik_prepared_replace", prepared_replace},
+    {"zahupnik_prepared_plain_expand", prepared_plain_expand},
+    {"zahupnik_prepared_plain_adjoint", prepared_plain_adjoint},
+    {"zahupnik_prepared_plain_decompose", prepared_plain_decompose},
+    {"zahupnik_prepared_norms", prepared_norms},
+    {"zahupnik_prepared_tree_expand", prepared_tree_expand},
+    {"zahupnik_prepared_tree_adjoint", prepared_tree_adjoint},
+    {"zahupnik_prepared_tree_decompose", prepared_tree_decompose},
+    {"zahupnik_prepared_moments", prepared_moments},
 };
+enum { CALLS = sizeof calls / sizeof *calls, FIRST_ON_RECORDS = CALLS - 12 };
 
 /* How many bytes of the painted stack lie between the caller's frame and the lowest that the call wrote. */
 static size_t measure(const char *name, void (*run)(void), uint32_t wanted) {
@@ -131,21 +167,52 @@ static size_t most_of(size_t i, uint32_t wanted) {
     return most;
 }
 
+/* The rows at hand as a record. */
+static void make_record(void) {
+    change = zahupnik_prepared_empty(m);
+    for (size_t i = 0; i < r; i++) change = zahupnik_prepared_append(change.family, a[i], b[i], c[i]);
+    family = change.family;
+}
+
+/* What a call on the record at hand answers, which is right. */
+static uint32_t on_record(void (*run)(void)) {
+    if (run == prepared_append && r == MOST) return ZAHUPNIK_ROWS;
+    if (run == prepared_drop_last && r == 0) return ZAHUPNIK_NO_ROWS;
+    if (run == prepared_replace && r == 0) return ZAHUPNIK_ABSENT_ROW;
+    return ZAHUPNIK_FINISHED;
+}
+
+static size_t greater(size_t x, size_t y) { return x < y ? y : x; }
+
+static size_t most_on_lists(size_t i, uint32_t modulus) {
+    make_case(modulus, MOST);
+    size_t most = most_of(i, ZAHUPNIK_FINISHED);
+    a[MOST - 1] = 0;
+    most = greater(most, most_of(i, calls[i].run == invert ? ZAHUPNIK_NO_INVERSE : ZAHUPNIK_A_INVERSE));
+    make_case(modulus, 0);
+    return greater(most, most_of(i, ZAHUPNIK_FINISHED));
+}
+
+static size_t most_on_records(size_t i, uint32_t modulus) {
+    static const size_t rows[] = {MOST, MOST - 1, 1, 0};
+    size_t most = 0;
+    for (size_t k = 0; k < sizeof rows / sizeof *rows; k++) {
+        make_case(modulus, rows[k]);
+        make_record();
+        most = greater(most, most_of(i, on_record(calls[i].run)));
+        family.norms[0] ^= 1;
+        most = greater(most, most_of(i, calls[i].run == prepared_empty ? ZAHUPNIK_FINISHED : ZAHUPNIK_RECORD));
+    }
+    return most;
+}
+
 int main(void) {
     static const uint32_t moduli[] = {ZAHUPNIK_GREATEST_MODULUS, UINT32_C(1) << 30};
-    static const size_t rows[] = {MOST, 0};
-    for (size_t i = 0; i < sizeof calls / sizeof *calls; i++) {
-        size_t most = 0, bytes;
-        for (size_t j = 0; j < 2; j++) {
-            for (size_t k = 0; k < 2; k++) {
-                make_case(moduli[j], rows[k]);
-                if ((bytes = most_of(i, ZAHUPNIK_FINISHED)) > most) most = bytes;
-            }
-            make_case(moduli[j], MOST);
-            a[MOST - 1] = 0;
-            if ((bytes = most_of(i, calls[i].run == invert ? ZAHUPNIK_NO_INVERSE : ZAHUPNIK_A_INVERSE)) > most) most = bytes;
-        }
-        printf("%-24s %6zu\n", calls[i].name, most);
+    for (size_t i = 0; i < CALLS; i++) {
+        size_t most = 0;
+        for (size_t j = 0; j < 2; j++)
+            most = greater(most, i < FIRST_ON_RECORDS ? most_on_lists(i, moduli[j]) : most_on_records(i, moduli[j]));
+        printf("%-33s %6zu\n", calls[i].name, most);
     }
     return 0;
 }

@@ -107,6 +107,121 @@ const struct job_figure JOB_FIGURES[] = {
     {.name = NULL},
 };
 
+#define RIGHT NOTHING, 0, 0
+#define R_1 7, 1, {1}, {0}, {1}
+#define R_OTHER 7, 2, {1, 3}, {0, 1}, {1, 2}
+#define FULL 2, 127, {0}, {0}, {0}
+enum { A, B, C, A_INVERSES, C_INVERSES, NORMS_HELD };
+
+const struct record_figure RECORD_FIGURES[] = {
+    {"a_1 = 8", R, A, 0, 8},
+    {"b_2 = 10", R, B, 1, 10},
+    {"c_1 = 8", R, C, 0, 8},
+    {"c_2 = 12", R, C, 1, 12},
+    {"the inverse of a_2 5", R, A_INVERSES, 1, 5},
+    {"the inverse of c_2 4", R, C_INVERSES, 1, 4},
+    {"the inverse of a_2 11", R, A_INVERSES, 1, 11},
+    {"the inverse of c_2 10", R, C_INVERSES, 1, 10},
+    {"the inverse of c_1 1", R, C_INVERSES, 0, 1},
+    {"norm 1 = 2", R, NORMS_HELD, 1, 2},
+    {"norm 2 = 6", R, NORMS_HELD, 2, 6},
+    {"a_3 = 1", R, A, 2, 1},
+    {"b_3 = 1", R, B, 2, 1},
+    {"c_3 = 1", R, C, 2, 1},
+    {"the inverse of a_3 1", R, A_INVERSES, 2, 1},
+    {"the inverse of c_3 1", R, C_INVERSES, 2, 1},
+    {"norm 3 = 1", R, NORMS_HELD, 3, 1},
+    {"b_127 = 1", R, B, 126, 1},
+    {"one row fewer", R, THE_ROWS, 0, 1},
+    {"one row more", R, THE_ROWS, 0, 3},
+    {"modulo 8", R, THE_MODULUS, 0, 8},
+    {"a_2 = 0 and true of it", 7, 2, {1, 0}, {0, 3}, {1, 5}, RIGHT},
+    {"c_2 = 0 and true of it", 7, 2, {1, 2}, {0, 3}, {1, 0}, RIGHT},
+    {"no rows and m = 0", NO_ROWS(7), THE_MODULUS, 0, 0},
+    {"no rows and m = 1", NO_ROWS(7), THE_MODULUS, 0, 1},
+    {"no rows and m = 2147483648", NO_ROWS(7), THE_MODULUS, 0, 2147483648},
+    {"no rows and norm 0 = 0", NO_ROWS(7), NORMS_HELD, 0, 0},
+    {"128 rows", FULL, THE_ROWS, 0, 128},
+    {.name = NULL},
+};
+
+const struct change_figure CHANGE_FIGURES[] = {
+    {{"empty with m = 7", NO_ROWS(7), RIGHT}, EMPTY, 0, 7, 0, 0, 0},
+    {{"empty with m = 2", NO_ROWS(7), RIGHT}, EMPTY, 0, 2, 0, 0, 0},
+    {{"empty with m = 2147483647", NO_ROWS(7), RIGHT}, EMPTY, 0, 2147483647, 0, 0, 0},
+    {{"empty with m = 1", NO_ROWS(7), RIGHT}, EMPTY, 0, 1, 0, 0, 3},
+    {{"empty with m = 2147483648", NO_ROWS(7), RIGHT}, EMPTY, 0, 2147483648, 0, 0, 3},
+    {{"row 1 of R appended", NO_ROWS(7), RIGHT}, APPEND, 0, 1, 0, 1, 0},
+    {{"row 2 of R appended", R_1, RIGHT}, APPEND, 0, 2, 3, 5, 0},
+    {{"row 1 appended with c_1 = 0", NO_ROWS(7), RIGHT}, APPEND, 0, 3, 0, 0, 0},
+    {{"row 2 appended with c_2 = 0", R_1, RIGHT}, APPEND, 0, 2, 3, 0, 11},
+    {{"row 3 appended with a = 7", R, RIGHT}, APPEND, 0, 7, 3, 5, 9},
+    {{"row 3 appended with a = 8", R, RIGHT}, APPEND, 0, 8, 3, 5, 9},
+    {{"row 3 appended with b = 7", R, RIGHT}, APPEND, 0, 2, 7, 5, 9},
+    {{"row 3 appended with c = 8", R, RIGHT}, APPEND, 0, 2, 3, 8, 9},
+    {{"row 3 appended with a = 0 and b = 7", R, RIGHT}, APPEND, 0, 0, 7, 5, 9},
+    {{"row 3 appended with a = c = 0", R, RIGHT}, APPEND, 0, 0, 3, 0, 10},
+    {{"row 2 appended modulo 15 with a = 3", P12_FAMILY, RIGHT}, APPEND, 0, 3, 1, 4, 10},
+    {{"a wrong norm and row 3 appended with a = 7", R, NORMS_HELD, 1, 2}, APPEND, 0, 7, 3, 5, 14},
+    {{"row 128 appended", FULL, RIGHT}, APPEND, 0, 1, 1, 1, 5},
+    {{"row 128 appended with a = 0", FULL, RIGHT}, APPEND, 0, 0, 1, 1, 5},
+    {{"row 128 appended with a = 2", FULL, RIGHT}, APPEND, 0, 2, 1, 1, 5},
+    {{"row 2 of R dropped", R, RIGHT}, DROP_LAST, 0, 0, 0, 0, 0},
+    {{"row 1 of R dropped", R_1, RIGHT}, DROP_LAST, 0, 0, 0, 0, 0},
+    {{"no row to drop", NO_ROWS(7), RIGHT}, DROP_LAST, 0, 0, 0, 0, 15},
+    {{"no row to drop and m = 1", NO_ROWS(7), THE_MODULUS, 0, 1}, DROP_LAST, 0, 0, 0, 0, 14},
+    {{"row 2 of R replaced", R, RIGHT}, REPLACE, 2, 3, 1, 2, 0},
+    {{"row 2 of R put back", R_OTHER, RIGHT}, REPLACE, 2, 2, 3, 5, 0},
+    {{"row 1 of R replaced", R, RIGHT}, REPLACE, 1, 2, 6, 3, 0},
+    {{"row 1 of R replaced with c_1 = 0", R, RIGHT}, REPLACE, 1, 2, 6, 0, 0},
+    {{"row 2 of R replaced with c_2 = 0", R, RIGHT}, REPLACE, 2, 3, 1, 0, 11},
+    {{"row 0 of R", R, RIGHT}, REPLACE, 0, 3, 1, 2, 16},
+    {{"row 3 of R", R, RIGHT}, REPLACE, 3, 3, 1, 2, 16},
+    {{"row 3 of R with a = 7", R, RIGHT}, REPLACE, 3, 7, 1, 2, 16},
+    {{"row 2 of R replaced with a = 8", R, RIGHT}, REPLACE, 2, 8, 1, 2, 9},
+    {{"row 2 of R replaced with b = 8", R, RIGHT}, REPLACE, 2, 3, 8, 2, 9},
+    {{"row 2 of R replaced with c = 8", R, RIGHT}, REPLACE, 2, 3, 1, 8, 9},
+    {{"row 2 of R replaced with a = 0 and b = 7", R, RIGHT}, REPLACE, 2, 0, 7, 2, 9},
+    {{"row 2 of R replaced with a = c = 0", R, RIGHT}, REPLACE, 2, 0, 3, 0, 10},
+    {{"row 1 replaced modulo 15 with a = 3", P12_FAMILY, RIGHT}, REPLACE, 1, 3, 1, 4, 10},
+    {{"a wrong norm and row 3 of R with a = 7", R, NORMS_HELD, 1, 2}, REPLACE, 3, 7, 1, 2, 14},
+    {.record.name = NULL},
+};
+
+const struct lent_figure LENT_FIGURES[] = {
+    {"a curve of 2", false, -1, 0, 0, 0},
+    {"an output one longer", false, 0, 1, 0, 0},
+    {"a working list of 16,383", false, 0, 0, -1, 0},
+    {"a curve entry 7", false, 0, 0, 0, 7},
+    {"a curve of 2 and an output one longer", false, -1, 1, 0, 0},
+    {"an output one longer and a working list of 16,383", false, 0, 1, -1, 0},
+    {"a curve of 2 and an entry 7", false, -1, 0, 0, 7},
+    {"a wrong norm and a curve of 2", true, -1, 0, 0, 0},
+    {"a wrong norm and an output one longer", true, 0, 1, 0, 0},
+    {.name = NULL},
+};
+
+struct record figure_record(const struct record_figure *figure) {
+    struct record record = {.modulus = figure->m, .rows = (uint32_t)figure->rows};
+    for (size_t i = 0; i < figure->rows; i++) {
+        bool held = figure->rows <= MOST_FIGURE_ROWS;
+        record.a[i] = held ? figure->a[i] : 1;
+        record.b[i] = held ? figure->b[i] : 1;
+        record.c[i] = held ? figure->c[i] : 1;
+    }
+    record = record_of_rows(&record);
+    if (figure->which == THE_MODULUS) record.modulus = figure->number;
+    if (figure->which == THE_ROWS) record.rows = figure->number;
+    if (figure->which < RECORD_LISTS) record_list(&record, figure->which).places[figure->place] = figure->number;
+    return record;
+}
+
+struct change figure_change(const struct change_figure *figure) {
+    struct change change = {figure->kind, figure->a, figure_record(&figure->record), figure->row, figure->a, figure->b, figure->c};
+    if (figure->kind == EMPTY) change.record = (struct record){0};
+    return change;
+}
+
 struct lent figure_lent(const struct figure *figure) {
     struct lent x = {.operation = figure->operation, .m = figure->m};
     x.a = (struct list){(uint32_t *)figure->a, figure->rows};

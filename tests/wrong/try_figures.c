@@ -10,10 +10,11 @@
 #include <string.h>
 
 #include "figures.h"
+#include "library_record.h"
 #include "text_model.h"
 #include "zahupnik.h"
 
-enum { MOST = 2 * MOST_FIGURE_ROWS + 1, WORK = LEAST_WORK + 1, DIRT = 99, DIRT_BYTE = 1, WORDS_ROOM = 400, SHOWN = 120 };
+enum { MOST = MOST_RESULTS, WORK = LEAST_WORK + 1, DIRT = 99, DIRT_BYTE = 1, WORDS_ROOM = 8192, SHOWN = 120, SHOWN_WORDS = 240 };
 
 /* What a call gives is told in words, so that a difference can be read. */
 typedef char words[WORDS_ROOM];
@@ -29,9 +30,9 @@ static void fill(uint32_t *list, size_t length) {
     for (size_t i = 0; i < length; i++) list[i] = DIRT;
 }
 
-/* What is amiss with the working list after a call that is finished, or refused, as it should. */
-static void tell_work(char *told, bool finished) {
-    for (uint32_t i = 0; i < WORK; i++) {
+/* What is amiss with the working list, of so many numbers, after a call that is finished, or refused, as it should. */
+static void tell_work(char *told, bool finished, size_t length) {
+    for (uint32_t i = 0; i < length; i++) {
         if (work[i] != (finished && i < LEAST_WORK ? 0 : DIRT)) {
             tell(told, ", working list wrong at place %" PRIu32, i);
             return;
@@ -98,8 +99,130 @@ static void run_on_lists(const struct call *call, const struct figure *figure, c
     tell_list(given, number, output, x.output_length);
     tell_list(wanted, figure->number, figure->number ? untouched : figure->result, x.output_length);
     bool takes_work = call->operation == MOMENTS || !strncmp(call->name, "tree", strlen("tree"));
-    if (takes_work && number == figure->number) tell_work(given, !number);
+    if (takes_work && number == figure->number) tell_work(given, !number, WORK);
 }
+
+/* ---- records */
+
+#define RECORD to_library(record)
+#define LENT_WORK work, x->work_length
+#define RECORD_CALLS(CALL)                                                           \
+    CALL(prepared_plain_expand, EXPAND, PLAIN, RECORD, CURVE, OUTPUT)                \
+    CALL(prepared_plain_adjoint, ADJOINT, PLAIN, RECORD, CURVE, OUTPUT)              \
+    CALL(prepared_plain_decompose, DECOMPOSE, PLAIN, RECORD, CURVE, OUTPUT)          \
+    CALL(prepared_norms, NORMS, PLAIN, RECORD, OUTPUT)                               \
+    CALL(prepared_tree_expand, EXPAND, TREE, RECORD, CURVE, OUTPUT, LENT_WORK)       \
+    CALL(prepared_tree_adjoint, ADJOINT, TREE, RECORD, CURVE, OUTPUT, LENT_WORK)     \
+    CALL(prepared_tree_decompose, DECOMPOSE, TREE, RECORD, CURVE, OUTPUT, LENT_WORK) \
+    CALL(prepared_moments, MOMENTS, TREE, RECORD, OUTPUT, LENT_WORK)
+#define RECORD_FUNCTION(name, operation, way, ...)                                              \
+    static uint32_t name(const struct record *record, const struct lent *x, uint32_t *output) { \
+        return zahupnik_##name(__VA_ARGS__);                                                    \
+    }
+#define RECORD_ROW(name, operation, way, ...) {#name, operation, way, name},
+
+RECORD_CALLS(RECORD_FUNCTION)
+
+/* An operation on a record: its name, and how it is run. */
+static const struct record_call {
+    const char *name;
+    enum operation operation;
+    enum way way;
+    uint32_t (*run)(const struct record *record, const struct lent *x, uint32_t *output);
+} ON_RECORDS[] = {RECORD_CALLS(RECORD_ROW)};
+
+/* What an operation gives; the model says what it should where there is no result. */
+static void run_operation(const struct record_call *call, const struct record *record, const struct lent *x, const uint32_t *result,
+                          char *given, char *wanted) {
+    uint32_t output[MOST + 1], untouched[MOST + 1], wanted_number = refusal_on(record, x);
+    fill(output, MOST + 1);
+    fill(untouched, MOST + 1);
+    fill(work, WORK);
+    uint32_t number = call->run(record, x, output);
+    tell_list(given, number, output, x->output_length);
+    tell_list(wanted, wanted_number, wanted_number ? untouched : result, x->output_length);
+    if (takes_work(x) && number == wanted_number) tell_work(given, !number, x->work_length);
+}
+
+/* An operation on a record, lent this curve and what else it asks for. */
+static struct lent lent_on(const struct record_call *call, struct record *record, uint32_t *curve) {
+    struct lent x = operation_on(record, call->operation, call->way);
+    x.curve = (struct list){curve, curve_length(&x)};
+    x.output_length = result_length(&x);
+    x.work_length = WORK;
+    return x;
+}
+
+static void run_figure_on_record(const struct record_call *call, const struct figure *figure, char *given, char *wanted) {
+    struct record_figure rows = {.m = figure->m, .rows = figure->rows, .which = NOTHING};
+    memcpy(rows.a, figure->a, sizeof rows.a);
+    memcpy(rows.b, figure->b, sizeof rows.b);
+    memcpy(rows.c, figure->c, sizeof rows.c);
+    struct record record = figure_record(&rows);
+    struct lent x = lent_on(call, &record, (uint32_t *)figure->curve);
+    run_operation(call, &record, &x, figure->result, given, wanted);
+}
+
+static void run_on_record(const struct record_call *call, const struct record_figure *figure, char *given, char *wanted) {
+    uint32_t curve[MOST] = {0};
+    struct record record = figure_record(figure);
+    struct lent x = lent_on(call, &record, curve);
+    run_operation(call, &record, &x, NULL, given, wanted);
+}
+
+static void run_on_lent(const struct record_call *call, const struct lent_figure *figure, char *given, char *wanted) {
+    static const struct record_figure RIGHT = {"", 7, 2, {1, 2}, {0, 3}, {1, 5}, NOTHING, 0, 0};
+    uint32_t curve[] = {figure->entry ? figure->entry : 3, 0, 1}, result[MOST];
+    struct record record = figure_record(&RIGHT);
+    struct lent x = lent_on(call, &record, curve);
+    if (takes_curve(&x)) x.curve.length += (size_t)figure->curve_more;
+    x.output_length += (size_t)figure->output_more;
+    x.work_length = LEAST_WORK + (size_t)figure->work_more;
+    if (figure->damaged) record.norms[1]++;
+    if (!refusal_on(&record, &x)) hand_out(&x, result);
+    run_operation(call, &record, &x, result, given, wanted);
+}
+
+/* The lists of a record without the zeros at their ends. */
+static void tell_record(char *told, struct record *record) {
+    tell(told, "modulus %" PRIu32, record->modulus);
+    tell(told, ", rows %" PRIu32, record->rows);
+    for (unsigned i = 0; i < RECORD_LISTS; i++) {
+        struct record_list list = record_list(record, i);
+        while (list.length && !list.places[list.length - 1]) list.length--;
+        if (!list.length) continue;
+        strcat(strcat(strcat(told, ", "), list.name), " ");
+        tell_numbers(told, list.places, list.length);
+    }
+}
+
+/* The number, and the record if it is not the one handed back by a refusal. */
+static void tell_change(char *told, uint32_t number, struct record *after, const struct record *handed) {
+    if (number) tell(told, "refusal %" PRIu32, number);
+    if (number && !memcmp(after, handed, sizeof *after)) return;
+    if (number) strcat(told, ", ");
+    tell_record(told, after);
+}
+
+static struct zahupnik_change run_change(const struct change *x) {
+    switch (x->kind) {
+    case EMPTY: return zahupnik_prepared_empty(x->m);
+    case APPEND: return zahupnik_prepared_append(to_library(&x->record), x->a, x->b, x->c);
+    case DROP_LAST: return zahupnik_prepared_drop_last(to_library(&x->record));
+    default: return zahupnik_prepared_replace(to_library(&x->record), x->row, x->a, x->b, x->c);
+    }
+}
+
+/* What a change gives. The number is stated, and the record is the model's. */
+static void change(const struct change *x, uint32_t number, char *given, char *wanted) {
+    struct zahupnik_change made = run_change(x);
+    struct record after = from_library(&made.family), model;
+    change_record(x, &model);
+    tell_change(given, made.answer, &after, &x->record);
+    tell_change(wanted, number, &model, &x->record);
+}
+
+static const char *const CHANGES[] = {"prepared_empty", "prepared_append", "prepared_drop_last", "prepared_replace"};
 
 /* ---- texts */
 
@@ -150,7 +273,7 @@ static void run_text(const struct text *job, size_t output_length, uint32_t want
     fill(work, WORK);
     uint32_t number = zahupnik_convert_text(job->bytes, job->length, output, output_length, work, WORK, &length);
     tell_text(given, number, output_length, length, answer->length);
-    if (number == wanted_number) tell_work(given, !number);
+    if (number == wanted_number) tell_work(given, !number, WORK);
     tell_wanted(wanted, wanted_number, answer->bytes, answer->length);
 }
 
@@ -210,42 +333,69 @@ static void compare(const char *name, const char *given, const char *wanted) {
     last = name;
 }
 
+/* Whether a call is asked for: by its name, or as one of every. */
+static const char *asked;
+static bool is_asked(const char *name) { return !strcmp(asked, "every") || !strcmp(asked, name); }
+
+/* Tries a figure by a function that tells what is given and what is wanted. */
+#define TRY(name, function, ...)             \
+    do {                                     \
+        words given = "", wanted = "";       \
+        function(__VA_ARGS__, given, wanted); \
+        compare(name, given, wanted);        \
+    } while (0)
+
+static void try_figure(const struct figure *figure) {
+    for (size_t i = 0; i < sizeof LIST_CALLS / sizeof *LIST_CALLS; i++)
+        if (LIST_CALLS[i].operation == figure->operation && is_asked(LIST_CALLS[i].name))
+            TRY(figure->name, run_on_lists, &LIST_CALLS[i], figure);
+    for (size_t i = 0; i < sizeof ON_RECORDS / sizeof *ON_RECORDS; i++)
+        if (ON_RECORDS[i].operation == figure->operation && is_asked(ON_RECORDS[i].name))
+            TRY(figure->name, run_figure_on_record, &ON_RECORDS[i], figure);
+    if (figure->operation == INVERSE) return;
+    if (is_asked("convert_text")) TRY(figure->name, run_on_figure, figure);
+    if (is_asked("write_job")) TRY(figure->name, write_figure, figure);
+}
+
+/* Whether an operation is lent what the figure changes. */
+static bool is_lent(const struct record_call *call, const struct lent_figure *figure) {
+    const struct lent x = {.operation = call->operation, .way = call->way};
+    return (takes_curve(&x) || !(figure->curve_more || figure->entry)) && (takes_work(&x) || !figure->work_more);
+}
+
+/* The figures of operations on a record that are not of one operation alone. */
+static void try_on_records(const struct record_call *call) {
+    if (!is_asked(call->name)) return;
+    for (const struct record_figure *figure = RECORD_FIGURES; figure->name; figure++) TRY(figure->name, run_on_record, call, figure);
+    for (const struct lent_figure *figure = LENT_FIGURES; figure->name; figure++)
+        if (is_lent(call, figure)) TRY(figure->name, run_on_lent, call, figure);
+}
+
+/* Every change of a record that is not right, with a row that would do. */
+static void try_on_damaged(const struct record_figure *figure) {
+    for (enum kind_of_change kind = APPEND; kind <= REPLACE; kind++) {
+        struct change x = {kind, 0, figure_record(figure), 1, 1, 0, 1};
+        if (is_asked(CHANGES[kind])) TRY(figure->name, change, &x, 14);
+    }
+}
+
 int main(int argc, char **argv) {
     if (argc != 2) {
         fprintf(stderr, "usage: try_figures CALL\n");
         return 2;
     }
-    bool every = !strcmp(argv[1], "every");
-    bool text = every || !strcmp(argv[1], "convert_text"), job = every || !strcmp(argv[1], "write_job");
-    for (const struct figure *figure = FIGURES; figure->name; figure++) {
-        for (size_t i = 0; i < sizeof LIST_CALLS / sizeof *LIST_CALLS; i++) {
-            const struct call *call = &LIST_CALLS[i];
-            words given = "", wanted = "";
-            if (call->operation != figure->operation || (!every && strcmp(argv[1], call->name))) continue;
-            run_on_lists(call, figure, given, wanted);
-            compare(figure->name, given, wanted);
-        }
-        if (text && figure->operation != INVERSE) {
-            words given = "", wanted = "";
-            run_on_figure(figure, given, wanted);
-            compare(figure->name, given, wanted);
-        }
-        if (job && figure->operation != INVERSE) {
-            words given = "", wanted = "";
-            write_figure(figure, given, wanted);
-            compare(figure->name, given, wanted);
-        }
+    asked = argv[1];
+    for (const struct figure *figure = FIGURES; figure->name; figure++) try_figure(figure);
+    for (const struct text_figure *figure = TEXT_FIGURES; is_asked("convert_text") && figure->name; figure++)
+        TRY(figure->name, run_on_text, figure);
+    for (const struct job_figure *figure = JOB_FIGURES; is_asked("write_job") && figure->name; figure++)
+        TRY(figure->name, write_job_figure, figure);
+    for (const struct change_figure *figure = CHANGE_FIGURES; figure->record.name; figure++) {
+        struct change x = figure_change(figure);
+        if (is_asked(CHANGES[x.kind])) TRY(figure->record.name, change, &x, figure->number);
     }
-    for (const struct text_figure *figure = TEXT_FIGURES; text && figure->name; figure++) {
-        words given = "", wanted = "";
-        run_on_text(figure, given, wanted);
-        compare(figure->name, given, wanted);
-    }
-    for (const struct job_figure *figure = JOB_FIGURES; job && figure->name; figure++) {
-        words given = "", wanted = "";
-        write_job_figure(figure, given, wanted);
-        compare(figure->name, given, wanted);
-    }
-    if (first) printf("; %s: %s, not %s\n", first, first_given, first_wanted);
+    for (const struct record_figure *figure = RECORD_FIGURES; figure->name; figure++) try_on_damaged(figure);
+    for (size_t i = 0; i < sizeof ON_RECORDS / sizeof *ON_RECORDS; i++) try_on_records(&ON_RECORDS[i]);
+    if (first) printf("; %s: %.*s, not %.*s\n", first, SHOWN_WORDS, first_given, SHOWN_WORDS, first_wanted);
     return first != NULL;
 }

@@ -6,7 +6,7 @@
 #ifndef VERSION_H
 #define VERSION_H
 
-#include "model.h"
+#include "prepared_model.h"
 
 /* A call on lists as it was made: what it was lent, and where it writes. */
 struct call {
@@ -33,9 +33,17 @@ struct text_call {
     uint32_t *length;
 };
 
-/* What the library does. */
+/* An operation on a record as it was made; the rows that the call has are the record's. */
+struct record_call {
+    struct record record;
+    struct call call;
+};
+
+/* What the library does. A change hands out a record. */
 uint32_t right(const struct call *call);
 uint32_t right_text(const struct text_call *call);
+uint32_t right_change(const struct change *change, struct record *after);
+uint32_t right_on_record(const struct record_call *call);
 
 /* The calls that a version is a version of. */
 enum {
@@ -50,9 +58,22 @@ enum {
     MOMENTS_CALL = 1 << 8,
     CONVERT_TEXT = 1 << 9,
     WRITE_JOB = 1 << 10,
-    CALLS = 11,
+    PREPARED_EMPTY = 1 << 11,
+    PREPARED_APPEND = 1 << 12,
+    PREPARED_DROP_LAST = 1 << 13,
+    PREPARED_REPLACE = 1 << 14,
+    PREPARED_PLAIN_EXPAND = 1 << 15,
+    PREPARED_PLAIN_ADJOINT = 1 << 16,
+    PREPARED_PLAIN_DECOMPOSE = 1 << 17,
+    PREPARED_NORMS = 1 << 18,
+    PREPARED_TREE_EXPAND = 1 << 19,
+    PREPARED_TREE_ADJOINT = 1 << 20,
+    PREPARED_TREE_DECOMPOSE = 1 << 21,
+    PREPARED_MOMENTS = 1 << 22,
+    CALLS = 23,
     ALL = (1 << CALLS) - 1,
-    CONVERSIONS = ALL & ~WRITE_JOB,
+    WITHOUT_RECORD = PREPARED_EMPTY - 1,
+    CONVERSIONS = WITHOUT_RECORD & ~WRITE_JOB,
     PLAIN_CURVES = PLAIN_EXPAND | PLAIN_ADJOINT | PLAIN_DECOMPOSE,
     TREE_CURVES = TREE_EXPAND | TREE_ADJOINT | TREE_DECOMPOSE,
     BY_THE_TREE = TREE_CURVES | MOMENTS_CALL | CONVERT_TEXT,
@@ -60,20 +81,30 @@ enum {
     BY_THE_MOMENTS = MOMENTS_CALL | TREE_DECOMPOSE | CONVERT_TEXT,
     ON_LISTS_ALONE = CONVERSIONS & ~CONVERT_TEXT,
     TO_TEXTS = CONVERT_TEXT | WRITE_JOB,
-    WITH_FAMILY = CONVERSIONS & ~INVERT
+    WITH_FAMILY = CONVERSIONS & ~INVERT,
+    TO_RECORDS = PREPARED_EMPTY | PREPARED_APPEND | PREPARED_DROP_LAST | PREPARED_REPLACE,
+    CHANGES = TO_RECORDS & ~PREPARED_EMPTY,
+    WITH_NEW_ROW = PREPARED_APPEND | PREPARED_REPLACE,
+    ON_RECORDS = ALL & ~WITHOUT_RECORD & ~TO_RECORDS,
+    TAKE_RECORD = CHANGES | ON_RECORDS,
+    BY_THE_TREE_ON_RECORDS = PREPARED_TREE_EXPAND | PREPARED_TREE_ADJOINT | PREPARED_TREE_DECOMPOSE | PREPARED_MOMENTS,
+    CURVES_ON_RECORDS = ON_RECORDS & ~PREPARED_NORMS & ~PREPARED_MOMENTS
 };
 
 /* The calls' names, in the order of the bits. */
 extern const char *const CALL_NAMES[CALLS];
 
-/* A version: a function for the calls that write lists, for those that write a text, or for both. Of the text call, one on lists
- * alone converts the job that was read. A control is right: no test may tell it from the library. */
+/* A version: a function for the calls that write lists, for those that write a text, for the changes of a record and for the operations
+ * on one, or for some of these. One on lists alone, of the text call, converts the job that was read, and of an operation on a record, the
+ * rows of one that is right. A control is right: no test may tell it from the library. */
 struct version {
     const char *name;
     const char *what;
     unsigned calls;
     uint32_t (*on_lists)(const struct call *call);
     uint32_t (*on_text)(const struct text_call *call);
+    uint32_t (*on_change)(const struct change *change, struct record *after);
+    uint32_t (*on_record)(const struct record_call *call);
     bool control;
 };
 

@@ -1,14 +1,37 @@
 /* The tables of version.h. */
 #include "version.h"
 
+#include "changes.h"
 #include "jobs.h"
 #include "lists.h"
+#include "records.h"
 #include "slips.h"
 #include "texts.h"
 
 const char *const CALL_NAMES[CALLS] = {
-    "invert",       "plain_expand",   "plain_adjoint", "plain_decompose", "norms", "tree_expand",
-    "tree_adjoint", "tree_decompose", "moments",       "convert_text",    "write_job",
+    "invert",
+    "plain_expand",
+    "plain_adjoint",
+    "plain_decompose",
+    "norms",
+    "tree_expand",
+    "tree_adjoint",
+    "tree_decompose",
+    "moments",
+    "convert_text",
+    "write_job",
+    "prepared_empty",
+    "prepared_append",
+    "prepared_drop_last",
+    "prepared_replace",
+    "prepared_plain_expand",
+    "prepared_plain_adjoint",
+    "prepared_plain_decompose",
+    "prepared_norms",
+    "prepared_tree_expand",
+    "prepared_tree_adjoint",
+    "prepared_tree_decompose",
+    "prepared_moments",
 };
 
 #define ON_LISTS(version, wrong, which, function) {.name = version, .what = wrong, .calls = which, .on_lists = function}
@@ -17,18 +40,25 @@ const char *const CALL_NAMES[CALLS] = {
 #define ON_JOB(version, wrong, function) ON_TEXTS(version, wrong, WRITE_JOB, function)
 #define ON_BOTH(version, wrong, which, function, text_function) \
     {.name = version, .what = wrong, .calls = which, .on_lists = function, .on_text = text_function}
+#define ON_CHANGES(version, wrong, which, function) {.name = version, .what = wrong, .calls = which, .on_change = function}
+#define ON_RECORD(version, wrong, which, function) {.name = version, .what = wrong, .calls = which, .on_record = function}
+#define ON_EITHER(version, wrong, which, change_function, record_function) \
+    {.name = version, .what = wrong, .calls = which, .on_change = change_function, .on_record = record_function}
+#define DAMAGED(version, wrong) ON_EITHER(#version, wrong, TAKE_RECORD, change_##version, record_##version),
 
 const struct version VERSIONS[] = {
     {.name = "no_slip",
-     .what = "Figures 1 to 3 and the job text once more",
+     .what = "Figures 1 to 3, the job text and the record once more",
      .calls = ALL,
      .on_lists = without_a_slip,
      .on_text = text_without_a_slip,
+     .on_change = change_record,
+     .on_record = record_without_a_slip,
      .control = true},
 
-    ON_BOTH("refuses", "refuses whatever it is lent", ALL, refuses, text_refuses),
-    ON_BOTH("last_untried", "its last refusal untried", ALL, last_untried, text_last_untried),
-    ON_BOTH("finishes", "no refusal told", ALL, finishes, text_finishes),
+    ON_BOTH("refuses", "refuses whatever it is lent", WITHOUT_RECORD, refuses, text_refuses),
+    ON_BOTH("last_untried", "its last refusal untried", WITHOUT_RECORD, last_untried, text_last_untried),
+    ON_BOTH("finishes", "no refusal told", WITHOUT_RECORD, finishes, text_finishes),
     ON_LISTS("constant", "a constant", ON_LISTS_ALONE, constant),
     ON_TEXT("constant", "the answer to the paper's job", text_constant),
     ON_JOB("constant", "the paper's job", job_constant),
@@ -38,8 +68,8 @@ const struct version VERSIONS[] = {
     ON_LISTS("copied", "a copy of the input", ON_LISTS_ALONE, copied),
     ON_TEXT("copied", "a copy of the job text", text_copied),
     ON_LISTS("curve_copied", "a copy of the curve, or of the rows", CONVERT_TEXT, copied),
-    ON_BOTH("untouched", "an untouched output", ALL, untouched, text_untouched),
-    ON_BOTH("touched", "an output touched by a refusal", ALL, touched, text_touched),
+    ON_BOTH("untouched", "an untouched output", WITHOUT_RECORD, untouched, text_untouched),
+    ON_BOTH("touched", "an output touched by a refusal", WITHOUT_RECORD, touched, text_touched),
 
     ON_LISTS("non_zero", "non-zero for invertible", CONVERSIONS, non_zero_taken),
     ON_JOB("non_zero", "non-zero for invertible", job_non_zero),
@@ -123,5 +153,83 @@ const struct version VERSIONS[] = {
     ON_JOB("zero_empty", "no digit for 0", zero_empty),
     ON_JOB("nine_digits", "of ten digits the last nine", nine_digits),
     ON_JOB("last_byte_left_out", "no last byte 10", last_byte_left_out),
+
+    ON_EITHER("refuses", "refuses whatever it is handed", TO_RECORDS | ON_RECORDS, change_refuses, record_refuses),
+    ON_EITHER("finishes", "no refusal told", TO_RECORDS | ON_RECORDS, change_finishes, record_finishes),
+    ON_EITHER("as_lists", "3, 5 and 9 to 11 of a record's rows for 14", TAKE_RECORD, change_as_lists, record_as_lists),
+    DAMAGES(DAMAGED)
+
+    ON_CHANGES("unchanged", "the old record", TO_RECORDS, unchanged),
+    ON_CHANGES("refused_zeros", "zeros for the record on a refusal", CHANGES, refused_zeros),
+    ON_CHANGES("refused_mended", "the record of its rows after 14", CHANGES, refused_mended),
+    ON_CHANGES("refused_written", "the new row written after 9 to 11", WITH_NEW_ROW, refused_written),
+    ON_CHANGES("rows_kept", "the row count as it was", PREPARED_APPEND | PREPARED_DROP_LAST, rows_kept),
+    ON_CHANGES("norms_kept", "the norms as they were", CHANGES, norms_kept),
+    ON_CHANGES("closing_norm_kept", "the closing row's norm as it was", PREPARED_APPEND | PREPARED_DROP_LAST, closing_norm_kept),
+    ON_CHANGES("a_inverses_kept", "the inverses of a as they were", WITH_NEW_ROW, a_inverses_kept),
+    ON_CHANGES("c_inverses_kept", "the inverses of c as they were", WITH_NEW_ROW, c_inverses_kept),
+    ON_CHANGES("c_1_inverted_too", "the inverse of c_1 stored", WITH_NEW_ROW, c_1_inverted_too),
+    ON_CHANGES("new_row_first", "9 tested before 14", WITH_NEW_ROW, new_row_first),
+    ON_CHANGES("a_before_entry", "10 tested before 9", WITH_NEW_ROW, a_before_entry),
+    ON_CHANGES("c_before_a", "11 tested before 10", WITH_NEW_ROW, c_before_a),
+    ON_CHANGES("a_unread", "9 passes over a", WITH_NEW_ROW, a_unread),
+    ON_CHANGES("b_unread", "9 passes over b", WITH_NEW_ROW, b_unread),
+    ON_CHANGES("c_unread", "9 passes over c", WITH_NEW_ROW, c_unread),
+    ON_CHANGES("a_untested", "10 untested", WITH_NEW_ROW, a_untested),
+    ON_CHANGES("c_untested", "11 untested", WITH_NEW_ROW, c_untested),
+    ON_CHANGES("non_zero", "non-zero for invertible", WITH_NEW_ROW, non_zero_rows),
+    ON_CHANGES("c_1_asked", "11 from row 1 on", WITH_NEW_ROW, first_c_asked),
+    ON_CHANGES("c_2_not_asked", "11 from row 3 on", WITH_NEW_ROW, second_c_not_asked),
+    ON_CHANGES("m_kept", "m in the zeros of a refusal", PREPARED_EMPTY, empty_m_kept),
+    ON_CHANGES("norm_zero", "no norm of no rows", PREPARED_EMPTY, empty_norm_zero),
+    ON_CHANGES("modulus_untested", "3 untested", PREPARED_EMPTY, modulus_untested),
+    ON_CHANGES("modulus_1_taken", "m = 1 taken", PREPARED_EMPTY, modulus_1_taken),
+    ON_CHANGES("modulus_past_taken", "m = 2147483648 taken", PREPARED_EMPTY, modulus_past_taken),
+    ON_CHANGES("modulus_2_refused", "m = 2 refused", PREPARED_EMPTY, modulus_2_refused),
+    ON_CHANGES("greatest_refused", "m = 2147483647 refused", PREPARED_EMPTY, greatest_refused),
+    ON_CHANGES("rows_after_entry", "5 tested after 9", PREPARED_APPEND, rows_after_entry),
+    ON_CHANGES("rows_last", "5 tested after 9 to 11", PREPARED_APPEND, rows_last),
+    ON_CHANGES("rows_untested", "5 untested", PREPARED_APPEND, rows_untested),
+    ON_CHANGES("a_left", "a_r left where the row was dropped", PREPARED_DROP_LAST, a_left),
+    ON_CHANGES("b_left", "b_r left where the row was dropped", PREPARED_DROP_LAST, b_left),
+    ON_CHANGES("c_left", "c_r left where the row was dropped", PREPARED_DROP_LAST, c_left),
+    ON_CHANGES("a_inverse_left", "the inverse of a_r left", PREPARED_DROP_LAST, a_inverse_left),
+    ON_CHANGES("c_inverse_left", "the inverse of c_r left", PREPARED_DROP_LAST, c_inverse_left),
+    ON_CHANGES("norm_left", "the last norm left", PREPARED_DROP_LAST, norm_left),
+    ON_CHANGES("no_rows_first", "15 tested before 14", PREPARED_DROP_LAST, no_rows_first),
+    ON_CHANGES("no_rows_untested", "15 untested", PREPARED_DROP_LAST, no_rows_untested),
+    ON_CHANGES("one_norm", "the replaced row's norm alone new", PREPARED_REPLACE, one_norm),
+    ON_CHANGES("put_back_norms", "the norms not put back with the row", PREPARED_REPLACE, put_back_norms),
+    ON_CHANGES("row_from_0", "rows counted from 0", PREPARED_REPLACE, row_from_0),
+    ON_CHANGES("row_0_taken", "row 0 taken for row 1", PREPARED_REPLACE, row_0_taken),
+    ON_CHANGES("row_past_taken", "row r + 1 taken: the row appended", PREPARED_REPLACE, row_past_taken),
+    ON_CHANGES("absent_first", "16 tested before 14", PREPARED_REPLACE, absent_first),
+    ON_CHANGES("absent_last", "16 tested after 9 to 11", PREPARED_REPLACE, absent_last),
+
+    ON_RECORD("last_untried", "its last refusal untried", ON_RECORDS, record_last_untried),
+    ON_RECORD("touched", "an output touched by a refusal", ON_RECORDS, record_touched),
+    ON_RECORD("work_refused", "a working list cleared by a refusal", BY_THE_TREE_ON_RECORDS, record_work_refused),
+    ON_RECORD("record_after_6", "14 tested after 6", CURVES_ON_RECORDS, record_after_6),
+    ON_RECORD("record_last", "14 tested last", ON_RECORDS, record_last),
+    ON_RECORD("output_before_curve", "7 tested before 6", CURVES_ON_RECORDS, output_before_curve),
+    ON_RECORD("work_before_output", "8 tested before 7", BY_THE_TREE_ON_RECORDS, work_before_output),
+    ON_RECORD("entries_first", "12 tested before 6", CURVES_ON_RECORDS, entries_first),
+    ON_RECORD("curve_length_untested", "6 untested", CURVES_ON_RECORDS, curve_length_untested),
+    ON_RECORD("output_untested", "7 untested", ON_RECORDS, output_untested),
+    ON_RECORD("work_untested", "8 untested", BY_THE_TREE_ON_RECORDS, work_untested),
+    ON_RECORD("entries_untested", "12 untested", CURVES_ON_RECORDS, entries_untested),
+    ON_LISTS("constant", "a constant", ON_RECORDS, constant),
+    ON_LISTS("figures_only", "right on the figures alone", ON_RECORDS, figures_only),
+    ON_LISTS("copied", "a copy of the input", ON_RECORDS, copied),
+    ON_LISTS("untouched", "an untouched output", ON_RECORDS, untouched),
+    ON_LISTS("as_adjoint", "Adjoint's list", PREPARED_PLAIN_EXPAND | PREPARED_TREE_EXPAND, adjoint_for_it),
+    ON_LISTS("as_expand", "Expand's list", CURVES_ON_RECORDS & ~PREPARED_PLAIN_EXPAND & ~PREPARED_TREE_EXPAND, expand_for_it),
+    ON_LISTS("as_norms", "the norms", PREPARED_MOMENTS, norms_for_it),
+    ON_LISTS("b_and_c_swapped", "b for c and c for b", ON_RECORDS, b_and_c_swapped),
+    ON_LISTS("closed_by_2", "the closing row 2 1 1", PREPARED_NORMS | PREPARED_MOMENTS, closed_by_2),
+    ON_LISTS("norm_over_a_i", "norm i divided by a_i", PREPARED_NORMS | PREPARED_TREE_DECOMPOSE, norm_over_a_i),
+    ON_LISTS("work_kept", "a working list left as it was", BY_THE_TREE_ON_RECORDS, work_kept),
+    ON_LISTS("work_dirty", "the last of its 16,384 numbers left", BY_THE_TREE_ON_RECORDS, work_dirty),
+    ON_LISTS("work_past", "a number after the 16,384 cleared", BY_THE_TREE_ON_RECORDS, work_past),
     {.name = NULL},
 };

@@ -3,6 +3,7 @@
 #include <stdlib.h>
 #include <string.h>
 
+#include "library_record.h"
 #include "text_model.h"
 #include "version.h"
 
@@ -47,11 +48,15 @@ static const struct version *chosen(unsigned call) {
 #define BYTES uint8_t *output, size_t output_length
 #define TEXTS const uint8_t *text, size_t text_length, BYTES, WORK, uint32_t *length
 #define JOBS FAMILY, uint32_t operation, CURVE, BYTES, uint32_t *length
+#define PREPARED struct zahupnik_prepared family
+#define NEW_ROW uint32_t a, uint32_t b, uint32_t c
 
 /* What ld --wrap calls the library's functions, and the functions in their places. */
-#define WRAPPED(name, ...)                        \
-    uint32_t __real_zahupnik_##name(__VA_ARGS__); \
-    uint32_t __wrap_zahupnik_##name(__VA_ARGS__);
+#define BOTH(type, name, ...)                 \
+    type __real_zahupnik_##name(__VA_ARGS__); \
+    type __wrap_zahupnik_##name(__VA_ARGS__);
+#define WRAPPED(name, ...) BOTH(uint32_t, name, __VA_ARGS__)
+#define WRAPPED_CHANGE(name, ...) BOTH(struct zahupnik_change, name, __VA_ARGS__)
 WRAPPED(invert, uint32_t m, uint32_t x, uint32_t *inverse)
 WRAPPED(plain_expand, FAMILY, CURVE, OUTPUT)
 WRAPPED(plain_adjoint, FAMILY, CURVE, OUTPUT)
@@ -63,6 +68,18 @@ WRAPPED(tree_decompose, FAMILY, CURVE, OUTPUT, WORK)
 WRAPPED(moments, FAMILY, OUTPUT, WORK)
 WRAPPED(convert_text, TEXTS)
 WRAPPED(write_job, JOBS)
+WRAPPED_CHANGE(prepared_empty, uint32_t m)
+WRAPPED_CHANGE(prepared_append, PREPARED, NEW_ROW)
+WRAPPED_CHANGE(prepared_drop_last, PREPARED)
+WRAPPED_CHANGE(prepared_replace, PREPARED, uint32_t row, NEW_ROW)
+WRAPPED(prepared_plain_expand, PREPARED, CURVE, OUTPUT)
+WRAPPED(prepared_plain_adjoint, PREPARED, CURVE, OUTPUT)
+WRAPPED(prepared_plain_decompose, PREPARED, CURVE, OUTPUT)
+WRAPPED(prepared_norms, PREPARED, OUTPUT)
+WRAPPED(prepared_tree_expand, PREPARED, CURVE, OUTPUT, WORK)
+WRAPPED(prepared_tree_adjoint, PREPARED, CURVE, OUTPUT, WORK)
+WRAPPED(prepared_tree_decompose, PREPARED, CURVE, OUTPUT, WORK)
+WRAPPED(prepared_moments, PREPARED, OUTPUT, WORK)
 
 #define LISTS x->m, x->a.entries, x->a.length, x->b.entries, x->b.length, x->c.entries, x->c.length
 #define OUT call->output, x->output_length
@@ -95,6 +112,40 @@ uint32_t right_text(const struct text_call *call) {
                                         call->work_length, call->length);
 }
 
+static struct zahupnik_change real_change(const struct change *x) {
+    struct zahupnik_prepared record = to_library(&x->record);
+    switch (x->kind) {
+    case EMPTY: return __real_zahupnik_prepared_empty(x->m);
+    case APPEND: return __real_zahupnik_prepared_append(record, x->a, x->b, x->c);
+    case DROP_LAST: return __real_zahupnik_prepared_drop_last(record);
+    default: return __real_zahupnik_prepared_replace(record, x->row, x->a, x->b, x->c);
+    }
+}
+
+uint32_t right_change(const struct change *change, struct record *after) {
+    struct zahupnik_change made = real_change(change);
+    *after = from_library(&made.family);
+    return made.answer;
+}
+
+#define BY_RECORD(operation)                                                                                                     \
+    tree ? __real_zahupnik_prepared_tree_##operation(record, x->curve.entries, x->curve.length, OUT, call->work, x->work_length) \
+         : __real_zahupnik_prepared_plain_##operation(record, x->curve.entries, x->curve.length, OUT)
+
+uint32_t right_on_record(const struct record_call *made) {
+    const struct call *call = &made->call;
+    const struct lent *x = &call->lent;
+    struct zahupnik_prepared record = to_library(&made->record);
+    bool tree = x->way == TREE;
+    switch (x->operation) {
+    case EXPAND: return BY_RECORD(expand);
+    case ADJOINT: return BY_RECORD(adjoint);
+    case DECOMPOSE: return BY_RECORD(decompose);
+    case NORMS: return __real_zahupnik_prepared_norms(record, OUT);
+    default: return __real_zahupnik_prepared_moments(record, OUT, call->work, x->work_length);
+    }
+}
+
 /* ---- the library's functions */
 
 static uint32_t answer(unsigned name, const struct call *call) {
@@ -106,6 +157,22 @@ static uint32_t answer_text(unsigned name, const struct text_call *call) {
     const struct version *version = chosen(name);
     if (!version) return right_text(call);
     return version->on_text ? version->on_text(call) : convert_job(call, version->on_lists);
+}
+
+static struct zahupnik_change answer_change(unsigned name, const struct change *change) {
+    const struct version *version = chosen(name);
+    struct zahupnik_change made;
+    struct record after;
+    made.answer = version ? version->on_change(change, &after) : right_change(change, &after);
+    made.family = to_library(&after);
+    return made;
+}
+
+static uint32_t answer_on_record(unsigned name, const struct record_call *call) {
+    const struct version *version = chosen(name);
+    if (!version) return right_on_record(call);
+    if (version->on_record) return version->on_record(call);
+    return is_right(&call->record) ? version->on_lists(&call->call) : 14;
 }
 
 /* No version writes to what a call may not write. */
@@ -156,4 +223,55 @@ uint32_t __wrap_zahupnik_write_job(JOBS) {
     const struct job job = {lists.lent, operation};
     const struct text_call call = {&job, NONE, output, output_length, NONE, length};
     return answer_text(WRITE_JOB, &call);
+}
+
+struct zahupnik_change __wrap_zahupnik_prepared_empty(uint32_t m) {
+    const struct change change = {.kind = EMPTY, .m = m};
+    return answer_change(PREPARED_EMPTY, &change);
+}
+
+struct zahupnik_change __wrap_zahupnik_prepared_append(PREPARED, NEW_ROW) {
+    const struct change change = {APPEND, 0, from_library(&family), 0, a, b, c};
+    return answer_change(PREPARED_APPEND, &change);
+}
+
+struct zahupnik_change __wrap_zahupnik_prepared_drop_last(PREPARED) {
+    const struct change change = {.kind = DROP_LAST, .record = from_library(&family)};
+    return answer_change(PREPARED_DROP_LAST, &change);
+}
+
+struct zahupnik_change __wrap_zahupnik_prepared_replace(PREPARED, uint32_t row, NEW_ROW) {
+    const struct change change = {REPLACE, 0, from_library(&family), row, a, b, c};
+    return answer_change(PREPARED_REPLACE, &change);
+}
+
+static uint32_t on_record(unsigned name, enum operation operation, enum way way, PREPARED, CURVE, OUTPUT, WORK) {
+    struct record_call made = {.record = from_library(&family)};
+    made.call = (struct call){operation_on(&made.record, operation, way), output, work};
+    made.call.lent.curve = lent_list(curve, curve_count);
+    made.call.lent.output_length = output_length;
+    made.call.lent.work_length = work_length;
+    return answer_on_record(name, &made);
+}
+
+#define PLAIN_ON_RECORD(name, bit, operation)                                                             \
+    uint32_t __wrap_zahupnik_prepared_##name(PREPARED, CURVE, OUTPUT) {                                   \
+        return on_record(bit, operation, PLAIN, family, curve, curve_count, output, output_length, NONE); \
+    }
+#define TREE_ON_RECORD(name, bit, operation)                                                                          \
+    uint32_t __wrap_zahupnik_prepared_##name(PREPARED, CURVE, OUTPUT, WORK) {                                         \
+        return on_record(bit, operation, TREE, family, curve, curve_count, output, output_length, work, work_length); \
+    }
+
+PLAIN_ON_RECORD(plain_expand, PREPARED_PLAIN_EXPAND, EXPAND)
+PLAIN_ON_RECORD(plain_adjoint, PREPARED_PLAIN_ADJOINT, ADJOINT)
+PLAIN_ON_RECORD(plain_decompose, PREPARED_PLAIN_DECOMPOSE, DECOMPOSE)
+uint32_t __wrap_zahupnik_prepared_norms(PREPARED, OUTPUT) {
+    return on_record(PREPARED_NORMS, NORMS, PLAIN, family, NONE, output, output_length, NONE);
+}
+TREE_ON_RECORD(tree_expand, PREPARED_TREE_EXPAND, EXPAND)
+TREE_ON_RECORD(tree_adjoint, PREPARED_TREE_ADJOINT, ADJOINT)
+TREE_ON_RECORD(tree_decompose, PREPARED_TREE_DECOMPOSE, DECOMPOSE)
+uint32_t __wrap_zahupnik_prepared_moments(PREPARED, OUTPUT, WORK) {
+    return on_record(PREPARED_MOMENTS, MOMENTS, TREE, family, NONE, output, output_length, work, work_length);
 }
