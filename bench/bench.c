@@ -3,7 +3,8 @@
  * usage: bench full|short|count
  *
  * full   r = 15, 31, 63 and 127, modulo a prime and a composite number: the least of SAMPLES samples of SAMPLE_TIME or more each,
- *        where the participants take turns, so that what else the machine does hits all alike. Times are processor time.
+ *        where the participants take turns, so that what else the machine does hits all alike. Times are processor time. An operation
+ *        on a record and the same on lists, which differ by little, take TURNS short turns, and medians are told.
  * short  r = 15 and 127, and single samples of a fraction of that: for the gate, where no time matters.
  * count  r = 127, each call once: for a run under callgrind, which writes the instructions of each call to a file of its own.
  *
@@ -32,11 +33,12 @@
 enum { FAMILIES = 16 };
 
 #define SAMPLES 15
+#define TURNS 1001
 #define MOST_FOR_ZERO_C_1 1.05
 #define TEXT_OF(number) QUOTED(number)
 #define QUOTED(number) #number
 
-static const double SAMPLE_TIME = 0.020, SHORT_SAMPLE_TIME = 0.001;
+static const double SAMPLE_TIME = 0.020, SHORT_SAMPLE_TIME = 0.001, TURN_TIME = 0.0002;
 
 /* The packages stand last. */
 static const struct contestant *const contestants[] = {
@@ -271,7 +273,7 @@ static void compare(void) {
     }
 }
 
-/* On these families in turn. The time is the least of a call's, over the samples. */
+/* On these families in turn. The time is of one call: the least over the samples, but in measure_two. */
 struct participant {
     convert *convert;
     const struct job *families;
@@ -293,19 +295,47 @@ static double sample_of(const struct participant *p) {
     return seconds() - start;
 }
 
-/* Samples of the usual time; or so many times as many, each so many times as short, for participants that differ by little. */
-static void measure(struct participant *participants, size_t count, bool brief, unsigned times) {
-    for (size_t i = 0; i < count; i++) {
-        struct participant *p = &participants[i];
-        p->repetitions = 1;
-        while ((p->time = sample_of(p)) < (brief ? SHORT_SAMPLE_TIME : SAMPLE_TIME / times)) p->repetitions *= 2;
-        p->time /= p->repetitions;
-    }
-    for (size_t sample = brief ? SAMPLES * times : 1; sample < SAMPLES * times; sample++)
+/* Gives it as many repetitions as take so long, and the time of one. */
+static void set_repetitions(struct participant *p, double least) {
+    p->repetitions = 1;
+    while ((p->time = sample_of(p)) < least) p->repetitions *= 2;
+    p->time /= p->repetitions;
+}
+
+static void measure(struct participant *participants, size_t count, bool brief) {
+    for (size_t i = 0; i < count; i++) set_repetitions(&participants[i], brief ? SHORT_SAMPLE_TIME : SAMPLE_TIME);
+    for (size_t sample = brief ? SAMPLES : 1; sample < SAMPLES; sample++)
         for (size_t i = 0; i < count; i++) {
             double time = sample_of(&participants[i]) / participants[i].repetitions;
             if (time < participants[i].time) participants[i].time = time;
         }
+}
+
+static int in_order(const void *left, const void *right) {
+    double x = *(const double *)left, y = *(const double *)right;
+    return (x > y) - (x < y);
+}
+
+static double median(double *of, size_t count) {
+    qsort(of, count, sizeof *of, in_order);
+    return of[count / 2];
+}
+
+/* Two participants that differ by less than the machine's pace does from one moment to the next: they take short turns, each first in every
+ * other one. The times become the medians; what is returned is the median, over the turns, of the first's time over the second's. */
+static double measure_two(struct participant two[2], bool brief) {
+    static double times[2][TURNS], ratios[TURNS];
+    size_t turns = brief ? 1 : TURNS;
+    for (size_t i = 0; i < 2; i++) set_repetitions(&two[i], TURN_TIME);
+    for (size_t turn = 0; turn < turns; turn++) {
+        for (size_t k = 0; k < 2; k++) {
+            size_t i = (turn + k) % 2;
+            times[i][turn] = sample_of(&two[i]) / two[i].repetitions;
+        }
+        ratios[turn] = times[0][turn] / times[1][turn];
+    }
+    for (size_t i = 0; i < 2; i++) two[i].time = median(times[i], turns);
+    return median(ratios, turns);
 }
 
 static struct participant participants[CALLS + CONTESTANTS * OPERATIONS];
@@ -368,7 +398,7 @@ static void print_zero_c_1(uint32_t m, size_t r, bool brief) {
         if (calls[i].operation == INVERT) continue;
         for (size_t k = 0; k < FAMILIES; k++)
             alone[k] = (struct participant){.convert = calls[i].convert, .families = &jobs[k], .count = 1};
-        measure(alone, FAMILIES, brief, 1);
+        measure(alone, FAMILIES, brief);
         for (size_t k = 1; k < FAMILIES; k++) others += alone[k].time / (FAMILIES - 1);
         printf("| %s | %.2f | %.2f | %.2f | %.2f |\n", calls[i].name, alone[0].time * 1e6, others * 1e6, alone[0].time / others,
                MOST_FOR_ZERO_C_1);
@@ -383,24 +413,23 @@ static void print_records(uint32_t m, size_t r, bool brief) {
         convert *convert;
     } others[] = {{"test 14", test_record}, {"replace a row", replace_row}, {"append all rows, one by one", append_rows}};
     enum { OTHERS = sizeof others / sizeof *others };
-    static struct participant alone[2 * ON_RECORDS + OTHERS];
-    for (size_t i = 0; i < ON_RECORDS; i++) {
-        alone[2 * i] = (struct participant){.convert = on_records[i].by_record, .families = &jobs[1], .count = 1};
-        alone[2 * i + 1] = (struct participant){.convert = on_records[i].by_lists, .families = &jobs[1], .count = 1};
-    }
-    for (size_t i = 0; i < OTHERS; i++)
-        alone[2 * ON_RECORDS + i] = (struct participant){.convert = others[i].convert, .families = &jobs[1], .count = 1};
-    measure(alone, sizeof alone / sizeof *alone, brief, 10);
-    printf("\nm = %" PRIu32 ", r = %zu: microseconds for a curve, of hundreds on one family, by the record and by the lists\n\n", m, r);
+    static struct participant alone[OTHERS];
+    printf("\nm = %" PRIu32 ", r = %zu: microseconds for a curve, of hundreds on one family, by the record and by the lists: medians, and the\n"
+           "median of the ratio over %d short turns\n\n",
+           m, r, brief ? 1 : TURNS);
     printf("| call | record | lists | ratio |%s\n|---|---:|---:|---:|%s\n", r == MOST_ROWS ? " at most |" : "", r == MOST_ROWS ? "---:|" : "");
     for (size_t i = 0; i < ON_RECORDS; i++) {
-        double record = alone[2 * i].time, lists = alone[2 * i + 1].time;
-        printf("| %s | %.2f | %.2f | %.2f |", on_records[i].name, record * 1e6, lists * 1e6, record / lists);
-        if (r == MOST_ROWS) printf(" %.2f |", on_records[i].most);
+        struct participant two[2] = {{.convert = on_records[i].by_record, .families = &jobs[1], .count = 1},
+                                     {.convert = on_records[i].by_lists, .families = &jobs[1], .count = 1}};
+        double ratio = measure_two(two, brief);
+        printf("| %s | %.2f | %.2f | %.3f |", on_records[i].name, two[0].time * 1e6, two[1].time * 1e6, ratio);
+        if (r == MOST_ROWS) printf(" %.3f |", on_records[i].most);
         printf("\n");
     }
+    for (size_t i = 0; i < OTHERS; i++) alone[i] = (struct participant){.convert = others[i].convert, .families = &jobs[1], .count = 1};
+    measure(alone, OTHERS, brief);
     printf("\n");
-    for (size_t i = 0; i < OTHERS; i++) printf("%s: %.2f\n", others[i].name, alone[2 * ON_RECORDS + i].time * 1e6);
+    for (size_t i = 0; i < OTHERS; i++) printf("%s: %.2f\n", others[i].name, alone[i].time * 1e6);
 }
 
 static void time_all(uint32_t m, size_t r, bool brief) {
@@ -408,7 +437,7 @@ static void time_all(uint32_t m, size_t r, bool brief) {
     for (size_t k = 0; k < CONTESTANTS; k++)
         for (enum operation operation = 0; operation < OPERATIONS; operation++)
             *of_contestant(k, operation) = (struct participant){contestants[k]->convert[operation], jobs, FAMILIES, 0, 0};
-    measure(participants, sizeof participants / sizeof *participants, brief, 1);
+    measure(participants, sizeof participants / sizeof *participants, brief);
     print_table(m, r);
     print_records(m, r, brief);
     if (r != MOST_ROWS) return;

@@ -35,7 +35,7 @@ pub struct Change {
 }
 
 // 14: the record is right.
-pub fn test(p: Prepared) -> Answer
+fn test(p: Prepared) -> Answer
     ensures { λ r. ⌜ answered r ≡ verdict (recordTest (held p) ∷ []) [] ⌝ }
 {
     record_check::record(

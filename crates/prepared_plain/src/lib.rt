@@ -8,18 +8,33 @@ ghost use Rattle.definitions.specs.Conversion.{expand, adjoint, decompose};
 ghost use Rattle.definitions.specs.PreparedCalls.{preparedPlainTests, preparedNormsTests, PreparedPlainCall, PreparedNormsCall};
 ghost use Rattle.definitions.specs.Refusals.{verdict};
 ghost use Rattle.prepared.specs.Held.{held};
+ghost use Rattle.prepared_model.specs.Parts.{fields};
+ghost use Rattle.prepared_model.specs.Rightness.{Sized};
 use definitions::Answer;
 use prepared::Prepared;
 
 // 14, 6, 7 and 12.
-fn plain_verdict(p: Prepared, curve: &[u32], output: usize) -> Answer
-    ensures { λ r. ⌜ answered r ≡ verdict (preparedPlainTests (held p) (now (curve .entry)) output) [] ⌝ }
+fn plain_verdict<'a>(
+    modulus: u32,
+    rows: u32,
+    a: &'a [u32],
+    b: &'a [u32],
+    c: &'a [u32],
+    a_inverses: &'a [u32],
+    c_inverses: &'a [u32],
+    norms: &'a [u32],
+    curve: &[u32],
+    output: usize,
+) -> Answer
+    requires { ⌜ Sized (fields modulus rows (now a) (now b) (now c) (now «a_inverses») (now «c_inverses») (now norms)) ⌝ }
+    ensures { λ r. ⌜ answered r ≡ verdict (preparedPlainTests (fields modulus rows (now (a .entry)) (now (b .entry)) (now (c .entry))
+        (now («a_inverses» .entry)) (now («c_inverses» .entry)) (now (norms .entry))) (now (curve .entry)) output) [] ⌝ }
 {
-    let right = prepared::test(p);
+    let right = record_check::record(modulus, rows, a, b, c, a_inverses, c_inverses, norms);
     let Answer::Finished = right else {
         return right;
     };
-    let n = p.rows as usize + 1;
+    let n = rows as usize + 1;
     let entries = checks::curve_length(n, curve.len());
     let Answer::Finished = entries else {
         return entries;
@@ -28,18 +43,30 @@ fn plain_verdict(p: Prepared, curve: &[u32], output: usize) -> Answer
     let Answer::Finished = place else {
         return place;
     };
-    checks::curve_entries(p.modulus, curve)
+    checks::curve_entries(modulus, curve)
 }
 
 // 14 and 7.
-fn norms_verdict(p: Prepared, output: usize) -> Answer
-    ensures { λ r. ⌜ answered r ≡ verdict (preparedNormsTests (held p) output) [] ⌝ }
+fn norms_verdict<'a>(
+    modulus: u32,
+    rows: u32,
+    a: &'a [u32],
+    b: &'a [u32],
+    c: &'a [u32],
+    a_inverses: &'a [u32],
+    c_inverses: &'a [u32],
+    norms: &'a [u32],
+    output: usize,
+) -> Answer
+    requires { ⌜ Sized (fields modulus rows (now a) (now b) (now c) (now «a_inverses») (now «c_inverses») (now norms)) ⌝ }
+    ensures { λ r. ⌜ answered r ≡ verdict (preparedNormsTests (fields modulus rows (now (a .entry)) (now (b .entry)) (now (c .entry))
+        (now («a_inverses» .entry)) (now («c_inverses» .entry)) (now (norms .entry))) output) [] ⌝ }
 {
-    let right = prepared::test(p);
+    let right = record_check::record(modulus, rows, a, b, c, a_inverses, c_inverses, norms);
     let Answer::Finished = right else {
         return right;
     };
-    checks::output_length(p.rows as usize + 1, output)
+    checks::output_length(rows as usize + 1, output)
 }
 
 // Expand, row by row. Refused with 14: the record is not right; with 6 and 7: curve or output is not n long; with 12: a curve entry is not
@@ -48,15 +75,25 @@ pub fn plain_expand(family: Prepared, curve: &[u32], output: &mut [u32]) -> Answ
     ensures { λ r. ⌜ PreparedPlainCall expand (held family) (now (curve .entry)) (answered r)
         (now (output .entry)) (now (output .exit)) ⌝ }
 {
-    let tested = plain_verdict(family, curve, output.len());
+    let tested = plain_verdict(
+        family.modulus,
+        family.rows,
+        &family.a,
+        &family.b,
+        &family.c,
+        &family.a_inverses,
+        &family.c_inverses,
+        &family.norms,
+        curve,
+        output.len(),
+    );
     let Answer::Finished = tested else {
         return tested;
     };
-    let a = family.a;
     let b = family.b;
     let c = family.c;
     let n = family.rows as usize + 1;
-    plain::expand(family.modulus, &a, &b, &c, curve, n, output);
+    plain::expand(family.modulus, &family.a, &b, &c, curve, n, output);
     Answer::Finished
 }
 
@@ -65,15 +102,25 @@ pub fn plain_adjoint(family: Prepared, curve: &[u32], output: &mut [u32]) -> Ans
     ensures { λ r. ⌜ PreparedPlainCall adjoint (held family) (now (curve .entry)) (answered r)
         (now (output .entry)) (now (output .exit)) ⌝ }
 {
-    let tested = plain_verdict(family, curve, output.len());
+    let tested = plain_verdict(
+        family.modulus,
+        family.rows,
+        &family.a,
+        &family.b,
+        &family.c,
+        &family.a_inverses,
+        &family.c_inverses,
+        &family.norms,
+        curve,
+        output.len(),
+    );
     let Answer::Finished = tested else {
         return tested;
     };
-    let a = family.a;
     let b = family.b;
     let c = family.c;
     let n = family.rows as usize + 1;
-    plain::adjoint(family.modulus, &a, &b, &c, curve, n, output);
+    plain::adjoint(family.modulus, &family.a, &b, &c, curve, n, output);
     Answer::Finished
 }
 
@@ -82,15 +129,33 @@ pub fn plain_decompose(family: Prepared, coefficients: &[u32], output: &mut [u32
     ensures { λ r. ⌜ PreparedPlainCall decompose (held family) (now (coefficients .entry)) (answered r)
         (now (output .entry)) (now (output .exit)) ⌝ }
 {
-    let tested = plain_verdict(family, coefficients, output.len());
+    let tested = plain_verdict(
+        family.modulus,
+        family.rows,
+        &family.a,
+        &family.b,
+        &family.c,
+        &family.a_inverses,
+        &family.c_inverses,
+        &family.norms,
+        coefficients,
+        output.len(),
+    );
     let Answer::Finished = tested else {
         return tested;
     };
-    let a_inverses = family.a_inverses;
     let b = family.b;
     let c = family.c;
     let n = family.rows as usize + 1;
-    plain::decompose(family.modulus, &a_inverses, &b, &c, coefficients, n, output);
+    plain::decompose(
+        family.modulus,
+        &family.a_inverses,
+        &b,
+        &c,
+        coefficients,
+        n,
+        output,
+    );
     Answer::Finished
 }
 
@@ -98,11 +163,20 @@ pub fn plain_decompose(family: Prepared, coefficients: &[u32], output: &mut [u32
 pub fn norms(family: Prepared, output: &mut [u32]) -> Answer
     ensures { λ r. ⌜ PreparedNormsCall (held family) (answered r) (now (output .entry)) (now (output .exit)) ⌝ }
 {
-    let tested = norms_verdict(family, output.len());
+    let tested = norms_verdict(
+        family.modulus,
+        family.rows,
+        &family.a,
+        &family.b,
+        &family.c,
+        &family.a_inverses,
+        &family.c_inverses,
+        &family.norms,
+        output.len(),
+    );
     let Answer::Finished = tested else {
         return tested;
     };
-    let norms = family.norms;
-    lists::copy(&norms, family.rows as usize + 1, output);
+    lists::copy(&family.norms, family.rows as usize + 1, output);
     Answer::Finished
 }

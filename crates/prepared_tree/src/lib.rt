@@ -8,18 +8,34 @@ ghost use Rattle.definitions.specs.Conversion.{expand, adjoint, decompose};
 ghost use Rattle.definitions.specs.PreparedCalls.{preparedTreeTests, preparedMomentsTests, PreparedTreeCall, PreparedMomentsCall};
 ghost use Rattle.definitions.specs.Refusals.{verdict};
 ghost use Rattle.prepared.specs.Held.{held};
+ghost use Rattle.prepared_model.specs.Parts.{fields};
+ghost use Rattle.prepared_model.specs.Rightness.{Sized};
 use definitions::Answer;
 use prepared::Prepared;
 
 // 14, 6, 7, 8 and 12.
-fn tree_verdict(p: Prepared, curve: &[u32], output: usize, work: usize) -> Answer
-    ensures { λ r. ⌜ answered r ≡ verdict (preparedTreeTests (held p) (now (curve .entry)) output work) [] ⌝ }
+fn tree_verdict<'a>(
+    modulus: u32,
+    rows: u32,
+    a: &'a [u32],
+    b: &'a [u32],
+    c: &'a [u32],
+    a_inverses: &'a [u32],
+    c_inverses: &'a [u32],
+    norms: &'a [u32],
+    curve: &[u32],
+    output: usize,
+    work: usize,
+) -> Answer
+    requires { ⌜ Sized (fields modulus rows (now a) (now b) (now c) (now «a_inverses») (now «c_inverses») (now norms)) ⌝ }
+    ensures { λ r. ⌜ answered r ≡ verdict (preparedTreeTests (fields modulus rows (now (a .entry)) (now (b .entry)) (now (c .entry))
+        (now («a_inverses» .entry)) (now («c_inverses» .entry)) (now (norms .entry))) (now (curve .entry)) output work) [] ⌝ }
 {
-    let right = prepared::test(p);
+    let right = record_check::record(modulus, rows, a, b, c, a_inverses, c_inverses, norms);
     let Answer::Finished = right else {
         return right;
     };
-    let n = p.rows as usize + 1;
+    let n = rows as usize + 1;
     let entries = checks::curve_length(n, curve.len());
     let Answer::Finished = entries else {
         return entries;
@@ -32,18 +48,31 @@ fn tree_verdict(p: Prepared, curve: &[u32], output: usize, work: usize) -> Answe
     let Answer::Finished = room else {
         return room;
     };
-    checks::curve_entries(p.modulus, curve)
+    checks::curve_entries(modulus, curve)
 }
 
 // 14, 7 and 8.
-fn moments_verdict(p: Prepared, output: usize, work: usize) -> Answer
-    ensures { λ r. ⌜ answered r ≡ verdict (preparedMomentsTests (held p) output work) [] ⌝ }
+fn moments_verdict<'a>(
+    modulus: u32,
+    rows: u32,
+    a: &'a [u32],
+    b: &'a [u32],
+    c: &'a [u32],
+    a_inverses: &'a [u32],
+    c_inverses: &'a [u32],
+    norms: &'a [u32],
+    output: usize,
+    work: usize,
+) -> Answer
+    requires { ⌜ Sized (fields modulus rows (now a) (now b) (now c) (now «a_inverses») (now «c_inverses») (now norms)) ⌝ }
+    ensures { λ r. ⌜ answered r ≡ verdict (preparedMomentsTests (fields modulus rows (now (a .entry)) (now (b .entry)) (now (c .entry))
+        (now («a_inverses» .entry)) (now («c_inverses» .entry)) (now (norms .entry))) output work) [] ⌝ }
 {
-    let right = prepared::test(p);
+    let right = record_check::record(modulus, rows, a, b, c, a_inverses, c_inverses, norms);
     let Answer::Finished = right else {
         return right;
     };
-    let place = checks::output_length(2 * (p.rows as usize) + 1, output);
+    let place = checks::output_length(2 * (rows as usize) + 1, output);
     let Answer::Finished = place else {
         return place;
     };
@@ -56,15 +85,26 @@ pub fn tree_expand(family: Prepared, curve: &[u32], output: &mut [u32], work: &m
     ensures { λ r. ⌜ PreparedTreeCall expand (held family) (now (curve .entry)) (answered r)
         (now (output .entry)) (now (output .exit)) (now (work .entry)) (now (work .exit)) ⌝ }
 {
-    let tested = tree_verdict(family, curve, output.len(), work.len());
+    let tested = tree_verdict(
+        family.modulus,
+        family.rows,
+        &family.a,
+        &family.b,
+        &family.c,
+        &family.a_inverses,
+        &family.c_inverses,
+        &family.norms,
+        curve,
+        output.len(),
+        work.len(),
+    );
     let Answer::Finished = tested else {
         return tested;
     };
-    let a = family.a;
     let b = family.b;
     let c = family.c;
     let n = family.rows as usize + 1;
-    tree::expand(family.modulus, &a, &b, &c, curve, n, output, work);
+    tree::expand(family.modulus, &family.a, &b, &c, curve, n, output, work);
     Answer::Finished
 }
 
@@ -73,15 +113,26 @@ pub fn tree_adjoint(family: Prepared, curve: &[u32], output: &mut [u32], work: &
     ensures { λ r. ⌜ PreparedTreeCall adjoint (held family) (now (curve .entry)) (answered r)
         (now (output .entry)) (now (output .exit)) (now (work .entry)) (now (work .exit)) ⌝ }
 {
-    let tested = tree_verdict(family, curve, output.len(), work.len());
+    let tested = tree_verdict(
+        family.modulus,
+        family.rows,
+        &family.a,
+        &family.b,
+        &family.c,
+        &family.a_inverses,
+        &family.c_inverses,
+        &family.norms,
+        curve,
+        output.len(),
+        work.len(),
+    );
     let Answer::Finished = tested else {
         return tested;
     };
-    let a = family.a;
     let b = family.b;
     let c = family.c;
     let n = family.rows as usize + 1;
-    tree::adjoint(family.modulus, &a, &b, &c, curve, n, output, work);
+    tree::adjoint(family.modulus, &family.a, &b, &c, curve, n, output, work);
     Answer::Finished
 }
 
@@ -96,11 +147,22 @@ pub fn tree_decompose(
     ensures { λ r. ⌜ PreparedTreeCall decompose (held family) (now (coefficients .entry)) (answered r)
         (now (output .entry)) (now (output .exit)) (now (work .entry)) (now (work .exit)) ⌝ }
 {
-    let tested = tree_verdict(family, coefficients, output.len(), work.len());
+    let tested = tree_verdict(
+        family.modulus,
+        family.rows,
+        &family.a,
+        &family.b,
+        &family.c,
+        &family.a_inverses,
+        &family.c_inverses,
+        &family.norms,
+        coefficients,
+        output.len(),
+        work.len(),
+    );
     let Answer::Finished = tested else {
         return tested;
     };
-    let a = family.a;
     let b = family.b;
     let c = family.c;
     let a_inverses = family.a_inverses;
@@ -108,7 +170,7 @@ pub fn tree_decompose(
     let n = family.rows as usize + 1;
     moment_way::decompose(
         family.modulus,
-        &a,
+        &family.a,
         &b,
         &c,
         &a_inverses,
@@ -132,18 +194,28 @@ pub fn moments(family: Prepared, output: &mut [u32], work: &mut [u32]) -> Answer
     ensures { λ r. ⌜ PreparedMomentsCall (held family) (answered r)
         (now (output .entry)) (now (output .exit)) (now (work .entry)) (now (work .exit)) ⌝ }
 {
-    let tested = moments_verdict(family, output.len(), work.len());
+    let tested = moments_verdict(
+        family.modulus,
+        family.rows,
+        &family.a,
+        &family.b,
+        &family.c,
+        &family.a_inverses,
+        &family.c_inverses,
+        &family.norms,
+        output.len(),
+        work.len(),
+    );
     let Answer::Finished = tested else {
         return tested;
     };
-    let a = family.a;
     let b = family.b;
     let c = family.c;
     let a_inverses = family.a_inverses;
     let n = family.rows as usize + 1;
     moment_way::moments(
         family.modulus,
-        &a,
+        &family.a,
         &b,
         &c,
         &a_inverses,

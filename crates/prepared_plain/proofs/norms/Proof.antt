@@ -12,9 +12,6 @@ enum-told c = search needs
 returns : tie.Need-returns
 returns c = tests-refuse _ _ (c .before .before .norms-verdict .ensures) _ (c .enum-told2 .given .1)
 
-slice-aggregate-copy : tie.Need-slice-aggregate-copy
-slice-aggregate-copy c = search needs
-
 copy-requires : tie.Need-copy-requires
 copy-requires c κs =
     let passed = c .before .before .before .before in
@@ -29,5 +26,4 @@ pub norms-spec : {M : Type 1} → statement M
 norms-spec =
     tie.close
     (tie.spec
-    (search needs) enum-told (search needs) returns slice-aggregate-copy (search needs) (search needs) copy-requires (search needs)
-    returns-2)
+    (search needs) enum-told (search needs) returns (search needs) (search needs) copy-requires (search needs) returns-2)

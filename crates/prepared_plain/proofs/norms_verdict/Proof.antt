@@ -12,18 +12,18 @@ enum-told c = search needs
 
 returns : tie.Need-returns
 unfolding preparedNormsTests
-returns c = stage-refuses _ _ all-remain _ (c .before .before .test .ensures) _ (c .enum-told2 .given .1)
+returns c = stage-refuses _ _ all-remain _ (c .before .before .«record» .ensures) _ (c .enum-told2 .given .1)
 
 returns-2 : tie.Need-returns-2
 unfolding preparedNormsTests
 returns-2 c =
-    let right = c .before .before in
-    let size = right-size (record-tested _ _ (right .before .before .test .ensures) (right .enum-told .given .1)) in
-    let afterRight = stage-passes _ _ all-remain _ (right .before .before .test .ensures) (right .enum-told .given .1) in
+    let right = c .before in
+    let size = right-size (record-tested _ _ (right .before .before .«record» .ensures) (right .enum-told .given .1)) in
+    let afterRight = stage-passes _ _ all-remain _ (right .before .before .«record» .ensures) (right .enum-told .given .1) in
     stages-end _ afterRight (c .output-length .result) (rw size at (c .output-length .ensures))
 
 pub norms-verdict-spec : {M : Type 1} → statement M
 norms-verdict-spec =
     tie.close
     (tie.spec
-    (search needs) enum-told (search needs) returns (search needs) (search needs) (search needs) returns-2)
+    (search needs) enum-told (search needs) returns (search needs) (search needs) returns-2)

@@ -18,9 +18,6 @@ slice-aggregate-adjoint c = search needs
 slice-aggregate-adjoint-2 : tie.Need-slice-aggregate-adjoint-2
 slice-aggregate-adjoint-2 c = search needs
 
-slice-aggregate-adjoint-3 : tie.Need-slice-aggregate-adjoint-3
-slice-aggregate-adjoint-3 c = search needs
-
 adjoint-requires : tie.Need-adjoint-requires
 adjoint-requires c κs =
     let passed = c .before .before .before .before .before .before .before .before in
@@ -36,4 +33,4 @@ plain-adjoint-spec =
     tie.close
     (tie.spec
     (search needs) enum-told (search needs) returns (search needs) (search needs) slice-aggregate-adjoint slice-aggregate-adjoint-2
-    slice-aggregate-adjoint-3 adjoint-requires (search needs) returns-2)
+    adjoint-requires (search needs) returns-2)

@@ -18,9 +18,6 @@ slice-aggregate-decompose c = search needs
 slice-aggregate-decompose-2 : tie.Need-slice-aggregate-decompose-2
 slice-aggregate-decompose-2 c = search needs
 
-slice-aggregate-decompose-3 : tie.Need-slice-aggregate-decompose-3
-slice-aggregate-decompose-3 c = search needs
-
 decompose-requires : tie.Need-decompose-requires
 decompose-requires c κs =
     let passed = c .before .before .before .before .before .before .before .before in
@@ -36,4 +33,4 @@ plain-decompose-spec =
     tie.close
     (tie.spec
     (search needs) enum-told (search needs) returns (search needs) (search needs) slice-aggregate-decompose slice-aggregate-decompose-2
-    slice-aggregate-decompose-3 decompose-requires (search needs) returns-2)
+    decompose-requires (search needs) returns-2)

@@ -21,9 +21,6 @@ slice-aggregate-moments-2 c = search needs
 slice-aggregate-moments-3 : tie.Need-slice-aggregate-moments-3
 slice-aggregate-moments-3 c = search needs
 
-slice-aggregate-moments-4 : tie.Need-slice-aggregate-moments-4
-slice-aggregate-moments-4 c = search needs
-
 moments-requires : tie.Need-moments-requires
 moments-requires c κs =
     let passed = c .before .before .before .before .before .before .before .before .before .before .before in
@@ -40,4 +37,4 @@ moments-spec =
     tie.close
     (tie.spec
     (search needs) enum-told (search needs) returns (search needs) (search needs) slice-aggregate-moments slice-aggregate-moments-2
-    slice-aggregate-moments-3 slice-aggregate-moments-4 moments-requires (search needs) (search needs) returns-2)
+    slice-aggregate-moments-3 moments-requires (search needs) (search needs) returns-2)

@@ -24,9 +24,6 @@ slice-aggregate-decompose-3 c = search needs
 slice-aggregate-decompose-4 : tie.Need-slice-aggregate-decompose-4
 slice-aggregate-decompose-4 c = search needs
 
-slice-aggregate-decompose-5 : tie.Need-slice-aggregate-decompose-5
-slice-aggregate-decompose-5 c = search needs
-
 decompose-requires : tie.Need-decompose-requires
 decompose-requires c κs =
     let passed = c .before .before .before .before .before .before .before .before .before .before .before .before .before in
@@ -43,5 +40,4 @@ tree-decompose-spec =
     tie.close
     (tie.spec
     (search needs) enum-told (search needs) returns (search needs) (search needs) slice-aggregate-decompose slice-aggregate-decompose-2
-    slice-aggregate-decompose-3 slice-aggregate-decompose-4 slice-aggregate-decompose-5 decompose-requires (search needs) (search needs)
-    returns-2)
+    slice-aggregate-decompose-3 slice-aggregate-decompose-4 decompose-requires (search needs) (search needs) returns-2)

@@ -18,9 +18,6 @@ slice-aggregate-expand c = search needs
 slice-aggregate-expand-2 : tie.Need-slice-aggregate-expand-2
 slice-aggregate-expand-2 c = search needs
 
-slice-aggregate-expand-3 : tie.Need-slice-aggregate-expand-3
-slice-aggregate-expand-3 c = search needs
-
 expand-requires : tie.Need-expand-requires
 expand-requires c κs =
     let passed = c .before .before .before .before .before .before .before .before .before in
@@ -37,4 +34,4 @@ tree-expand-spec =
     tie.close
     (tie.spec
     (search needs) enum-told (search needs) returns (search needs) (search needs) slice-aggregate-expand slice-aggregate-expand-2
-    slice-aggregate-expand-3 expand-requires (search needs) (search needs) returns-2)
+    expand-requires (search needs) (search needs) returns-2)

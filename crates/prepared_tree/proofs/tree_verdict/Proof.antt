@@ -12,23 +12,23 @@ enum-told c = search needs
 
 returns : tie.Need-returns
 unfolding preparedTreeTests
-returns c = stage-refuses _ _ all-remain _ (c .before .before .test .ensures) _ (c .enum-told2 .given .1)
+returns c = stage-refuses _ _ all-remain _ (c .before .before .«record» .ensures) _ (c .enum-told2 .given .1)
 
 returns-2 : tie.Need-returns-2
 unfolding preparedTreeTests
 returns-2 c =
-    let right = c .before .before .before .before in
-    let size = right-size (record-tested _ _ (right .before .before .test .ensures) (right .enum-told .given .1)) in
-    let afterRight = stage-passes _ _ all-remain _ (right .before .before .test .ensures) (right .enum-told .given .1) in
+    let right = c .before .before .before in
+    let size = right-size (record-tested _ _ (right .before .before .«record» .ensures) (right .enum-told .given .1)) in
+    let afterRight = stage-passes _ _ all-remain _ (right .before .before .«record» .ensures) (right .enum-told .given .1) in
     stage-refuses _ _ afterRight _ (rw size at (c .before .before .curve-length .ensures)) _ (c .enum-told4 .given .1)
 
 returns-3 : tie.Need-returns-3
 unfolding preparedTreeTests
 returns-3 c =
     let entries = c .before .before .before in
-    let right = entries .before .before .before .before in
-    let size = right-size (record-tested _ _ (right .before .before .test .ensures) (right .enum-told .given .1)) in
-    let afterRight = stage-passes _ _ all-remain _ (right .before .before .test .ensures) (right .enum-told .given .1) in
+    let right = entries .before .before .before in
+    let size = right-size (record-tested _ _ (right .before .before .«record» .ensures) (right .enum-told .given .1)) in
+    let afterRight = stage-passes _ _ all-remain _ (right .before .before .«record» .ensures) (right .enum-told .given .1) in
     let afterEntries = stage-passes _ _ afterRight _ (rw size at (entries .before .before .curve-length .ensures))
     (entries .enum-told3 .given .1) in
     stage-refuses _ _ afterEntries _ (rw size at (c .before .before .output-length .ensures)) _ (c .enum-told6 .given .1)
@@ -38,9 +38,9 @@ unfolding preparedTreeTests
 returns-4 c =
     let place = c .before .before .before in
     let entries = place .before .before .before in
-    let right = entries .before .before .before .before in
-    let size = right-size (record-tested _ _ (right .before .before .test .ensures) (right .enum-told .given .1)) in
-    let afterRight = stage-passes _ _ all-remain _ (right .before .before .test .ensures) (right .enum-told .given .1) in
+    let right = entries .before .before .before in
+    let size = right-size (record-tested _ _ (right .before .before .«record» .ensures) (right .enum-told .given .1)) in
+    let afterRight = stage-passes _ _ all-remain _ (right .before .before .«record» .ensures) (right .enum-told .given .1) in
     let afterEntries = stage-passes _ _ afterRight _ (rw size at (entries .before .before .curve-length .ensures))
     (entries .enum-told3 .given .1) in
     let afterPlace = stage-passes _ _ afterEntries _ (rw size at (place .before .before .output-length .ensures))
@@ -53,9 +53,9 @@ returns-5 c =
     let room = c .before in
     let place = room .before .before .before in
     let entries = place .before .before .before in
-    let right = entries .before .before .before .before in
-    let size = right-size (record-tested _ _ (right .before .before .test .ensures) (right .enum-told .given .1)) in
-    let afterRight = stage-passes _ _ all-remain _ (right .before .before .test .ensures) (right .enum-told .given .1) in
+    let right = entries .before .before .before in
+    let size = right-size (record-tested _ _ (right .before .before .«record» .ensures) (right .enum-told .given .1)) in
+    let afterRight = stage-passes _ _ all-remain _ (right .before .before .«record» .ensures) (right .enum-told .given .1) in
     let afterEntries = stage-passes _ _ afterRight _ (rw size at (entries .before .before .curve-length .ensures))
     (entries .enum-told3 .given .1) in
     let afterPlace = stage-passes _ _ afterEntries _ (rw size at (place .before .before .output-length .ensures))
@@ -67,6 +67,5 @@ pub tree-verdict-spec : {M : Type 1} → statement M
 tree-verdict-spec =
     tie.close
     (tie.spec
-    (search needs) enum-told (search needs) returns (search needs) (search needs) (search needs) (search needs) (search needs) returns-2
-    (search needs) (search needs) (search needs) returns-3 (search needs) (search needs) (search needs) returns-4 (search needs)
-    returns-5)
+    (search needs) enum-told (search needs) returns (search needs) (search needs) (search needs) (search needs) returns-2 (search needs)
+    (search needs) (search needs) returns-3 (search needs) (search needs) (search needs) returns-4 (search needs) returns-5)
