@@ -78,9 +78,11 @@ LIBRARY(tree_adjoint, FAMILY, x->v, x->r + 1, result, x->r + 1, work, ZAHUPNIK_L
 LIBRARY(tree_decompose, FAMILY, x->v, x->r + 1, result, x->r + 1, work, ZAHUPNIK_LEAST_WORK)
 LIBRARY(moments, FAMILY, result, 2 * x->r + 1, work, ZAHUPNIK_LEAST_WORK)
 
-/* The families as records. */
-static struct zahupnik_prepared records[FAMILIES];
-#define RECORD records[x - jobs]
+/* The families as records, each at a place like that of a record by itself, which the compiler puts at a multiple of 32 bytes. */
+static struct {
+    _Alignas(32) struct zahupnik_prepared family;
+} records[FAMILIES];
+#define RECORD records[x - jobs].family
 LIBRARY(prepared_plain_expand, RECORD, x->v, x->r + 1, result, x->r + 1)
 LIBRARY(prepared_plain_adjoint, RECORD, x->v, x->r + 1, result, x->r + 1)
 LIBRARY(prepared_plain_decompose, RECORD, x->v, x->r + 1, result, x->r + 1)

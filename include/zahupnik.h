@@ -44,12 +44,12 @@
  *     zahupnik_prepared_append           19456
  *     zahupnik_prepared_drop_last        19456
  *     zahupnik_prepared_replace          19456
- *     zahupnik_prepared_plain_expand     12288
- *     zahupnik_prepared_plain_adjoint    12288
- *     zahupnik_prepared_plain_decompose  11264
- *     zahupnik_prepared_norms            10240
- *     zahupnik_prepared_tree_expand      11264
- *     zahupnik_prepared_tree_adjoint     11264
+ *     zahupnik_prepared_plain_expand      8704
+ *     zahupnik_prepared_plain_adjoint     8704
+ *     zahupnik_prepared_plain_decompose   9728
+ *     zahupnik_prepared_norms             6656
+ *     zahupnik_prepared_tree_expand       9728
+ *     zahupnik_prepared_tree_adjoint      9728
  *     zahupnik_prepared_tree_decompose   18432
  *     zahupnik_prepared_moments          15872
  *

@@ -21,9 +21,9 @@ TABLE = """
 products::add_products            1  0  0
 inverses::of_list                 2  2  2
 checks::lacks_inverse             1  2  2
+record_check::record              1  0  0
 plain::decompose                  2  0  0
 prepared::prepare                 1  0  0
-prepared::test                    2  0  0
 subproduct::descend               1  0  0
 subproduct::build                 1  0  0
 tree::expand                      1  1  0
@@ -48,7 +48,7 @@ ROWS = (
     "zahupnik_prepared_plain_expand",
     "zahupnik_prepared_plain_adjoint",
 )
-PRODUCTS = ("products::add_products", "subproduct::descend", "prepared::test", "prepared::prepare")
+PRODUCTS = ("products::add_products", "subproduct::descend", "record_check::record", "prepared::prepare")
 
 JUMP = re.compile(r"(j[a-z]+|loop[a-z]*)\s+([0-9a-f]+) <")
 END = re.compile(r"(ret[qlw]?|ud2|hlt)\b")

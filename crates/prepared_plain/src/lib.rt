@@ -1,6 +1,7 @@
 // The operations on a prepared family by the plain way, and Norms: the record stands in the place of m, a, b and c. Each makes every test
 // itself, ends on every input, and either converts or refuses with the paper's number and touches nothing: none has a 'requires', and each
-// has one 'ensures' that settles answer and output on every input. No inverse is searched for.
+// has one 'ensures' that settles answer and output on every input. No inverse is searched for. The record's lists are lent to the tests;
+// a core, which takes each list for a time of its own, is lent one of them and copies of the others.
 ghost use mathlib.Core.Path.{_≡_};
 ghost use mathlib.Core.List.{[]};
 ghost use Rattle.definitions.specs.Answers.{answered};

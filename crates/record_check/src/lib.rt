@@ -16,6 +16,7 @@ ghost use Rattle.lists.specs.Lent.{lent};
 ghost use Rattle.prepared_model.specs.NormProducts.{Tried};
 ghost use Rattle.prepared_model.specs.Parts.{fields, Residues, Inverted, RowsKept};
 ghost use Rattle.prepared_model.specs.Rightness.{Sized};
+ghost use Rattle.reduction.specs.Reciprocal.{Reciprocal};
 use checks::Entries;
 use definitions::Answer;
 use definitions::FIRST_C;
@@ -37,11 +38,17 @@ fn residues(m: u32, list: &[u32], count: usize) -> bool
 }
 
 // Whether each entry from place first up to count, times the one beside it, leaves 1.
-fn inverted(m: u32, list: &[u32], inverses: &[u32], first: usize, count: usize) -> bool
-    requires { ⌜ (0 < m) × (count ≤ length (now list)) × (count ≤ length (now inverses)) ⌝ }
+fn inverted(
+    m: u32,
+    reciprocal: u64,
+    list: &[u32],
+    inverses: &[u32],
+    first: usize,
+    count: usize,
+) -> bool
+    requires { ⌜ Reciprocal m reciprocal × (count ≤ length (now list)) × (count ≤ length (now inverses)) ⌝ }
     ensures { λ r. ⌜ (r ≡ true) ↔ Inverted m first count (now (list .entry)) (now (inverses .entry)) ⌝ }
 {
-    let reciprocal = reduction::reciprocal(m);
     let mut all = true;
     let mut i = first;
     while i < count {
@@ -84,11 +91,17 @@ fn rows_kept<'a>(
 
 // Whether norm i times a_{i+1} is 1 for i = 0, and from there on with the one before it times its c adds up to a multiple of m. What is read
 // is what is stored, so that no product waits for the one before it.
-fn norms_tried<'a>(m: u32, count: usize, a: &'a [u32], c: &'a [u32], norms: &'a [u32]) -> bool
-    requires { ⌜ (0 < m) × (count ≤ 127) × (count ≤ length (now a)) × (count ≤ length (now c)) × (length (now norms) ≡ 128) ⌝ }
+fn norms_tried<'a>(
+    m: u32,
+    reciprocal: u64,
+    count: usize,
+    a: &'a [u32],
+    c: &'a [u32],
+    norms: &'a [u32],
+) -> bool
+    requires { ⌜ Reciprocal m reciprocal × (count ≤ 127) × (count ≤ length (now a)) × (count ≤ length (now c)) × (length (now norms) ≡ 128) ⌝ }
     ensures { λ r. ⌜ ((b : List ℕ) → (r ≡ true) ↔ Tried (lent m count (now (a .entry)) b (now (c .entry)) ones) (now (norms .entry))) ⌝ }
 {
-    let reciprocal = reduction::reciprocal(m);
     let mut before = product_by(m, reciprocal, norms[0], row_entry(a, count, 0, 1));
     if before != 1 {
         return false;
@@ -109,14 +122,21 @@ fn norms_tried<'a>(m: u32, count: usize, a: &'a [u32], c: &'a [u32], norms: &'a 
 }
 
 // Whether the norms are true, given that the rows are accepted.
-fn norms_true<'a>(m: u32, count: usize, a: &'a [u32], c: &'a [u32], norms: &'a [u32]) -> bool
-    requires { ⌜ (0 < m) × (count ≤ 127) × (count ≤ length (now a)) × (count ≤ length (now c)) × (length (now norms) ≡ 128) ⌝ }
+fn norms_true<'a>(
+    m: u32,
+    reciprocal: u64,
+    count: usize,
+    a: &'a [u32],
+    c: &'a [u32],
+    norms: &'a [u32],
+) -> bool
+    requires { ⌜ Reciprocal m reciprocal × (count ≤ 127) × (count ≤ length (now a)) × (count ≤ length (now c)) × (length (now norms) ≡ 128) ⌝ }
     ensures { λ r. ⌜ ((b : List ℕ) → Accepted (lent m count (now (a .entry)) b (now (c .entry)) ones)
         → (r ≡ true) ↔ (now (norms .entry)
         ≡ padded mostNorms (Orthogonality.norms (lent m count (now (a .entry)) b (now (c .entry)) ones)))) ⌝ }
 {
     if residues(m, norms, count + 1) {
-        return norms_tried(m, count, a, c, norms);
+        return norms_tried(m, reciprocal, count, a, c, norms);
     }
     false
 }
@@ -143,10 +163,11 @@ pub fn record<'a>(
         return Answer::Refused(14);
     }
     let count = rows as usize;
+    let reciprocal = reduction::reciprocal(modulus);
     if rows_kept(modulus, count, a, b, c, a_inverses, c_inverses) {
-        if inverted(modulus, a, a_inverses, 0, count) {
-            if inverted(modulus, c, c_inverses, FIRST_C, count) {
-                if norms_true(modulus, count, a, c, norms) {
+        if inverted(modulus, reciprocal, a, a_inverses, 0, count) {
+            if inverted(modulus, reciprocal, c, c_inverses, FIRST_C, count) {
+                if norms_true(modulus, reciprocal, count, a, c, norms) {
                     return Answer::Finished;
                 }
             }

@@ -9,14 +9,11 @@ use Rattle.record_check.proofs.inverted.Statement.{statement}
 use Rattle.record_check.proofs.inverted.Tie as tie
 
 abbrev Inv-loop : tie.InvT-loop
-Inv-loop m list inverses first count reciprocal all₀ i₀ all i =
+Inv-loop m reciprocal list inverses first count all₀ i₀ all i =
     Scanned (λ k. getD list k 0 * getD inverses k 0 % m ≡ 1) first count all i
 
 abbrev μ-loop : tie.MeasureT-loop
-μ-loop m list inverses first count reciprocal all₀ i₀ all i = count - i
-
-reciprocal-requires : tie.Need-reciprocal-requires Inv-loop μ-loop
-reciprocal-requires c κs = c .before .before .pre .0
+μ-loop m reciprocal list inverses first count all₀ i₀ all i = count - i
 
 loop-holds : tie.Need-loop-holds Inv-loop μ-loop
 loop-holds c = scan-starts
@@ -34,7 +31,7 @@ shared-slice-read-product-by-2 : tie.Need-shared-slice-read-product-by-2 Inv-loo
 shared-slice-read-product-by-2 c = omega arith
 
 product-by-requires : tie.Need-product-by-requires Inv-loop μ-loop
-product-by-requires c κs = c .before .before .before .before .reciprocal .ensures
+product-by-requires c κs = c .before .before .before .before .before .before .pre .0
 
 add-i : tie.Need-add-i Inv-loop μ-loop
 add-i c = omega arith
@@ -59,5 +56,5 @@ pub inverted-spec : {M : Type 1} → statement M
 inverted-spec =
     tie.close
     (tie.spec
-    Inv-loop μ-loop reciprocal-requires loop-holds mul-product-by shared-slice-read-product-by mul-product-by-2
-    shared-slice-read-product-by-2 product-by-requires add-i loop-less loop-again returns)
+    Inv-loop μ-loop loop-holds mul-product-by shared-slice-read-product-by mul-product-by-2 shared-slice-read-product-by-2
+    product-by-requires add-i loop-less loop-again returns)

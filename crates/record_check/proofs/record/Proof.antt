@@ -33,25 +33,29 @@ returns c = record-refused _
 returns-2 : tie.Need-returns-2
 returns-2 c = record-refused _ (λ right. omega (arith, c .if1 .taken, right-parts right .few))
 
+reciprocal-requires : tie.Need-reciprocal-requires
+reciprocal-requires c κs = omega (arith, modulus (c .before) .least)
+
 rows-kept-requires : tie.Need-rows-kept-requires
-rows-kept-requires c κs = omega (arith, modulus (c .before) .least)
+rows-kept-requires c κs = omega (arith, modulus (c .before .before) .least)
 
 inverted-requires : tie.Need-inverted-requires
-inverted-requires c κs = omega (arith, modulus (c .before .before .before) .least)
+inverted-requires c κs = (c .before .before .reciprocal .ensures, omega arith, omega arith)
 
 inverted-requires-2 : tie.Need-inverted-requires-2
-inverted-requires-2 c κs = omega (arith, modulus (c .before .before .before .before .before) .least)
+inverted-requires-2 c κs = (c .before .before .before .before .reciprocal .ensures, omega arith, omega arith)
 
 norms-true-requires : tie.Need-norms-true-requires
-norms-true-requires c κs = omega (arith, modulus (c .before .before .before .before .before .before .before) .least)
+norms-true-requires c κs =
+    (c .before .before .before .before .before .before .reciprocal .ensures, omega arith, omega arith, omega arith, omega arith)
 
 norms-settle : (c : tie.After-norms-true)
-    → (c .norms-true .result ≡ true) ↔ Right (handed (c .before .before .before .before .before .before .before .before))
+    → (c .norms-true .result ≡ true) ↔ Right (handed (c .before .before .before .before .before .before .before .before .before))
 norms-settle c =
     let of-c = c .before in
     let of-a = of-c .before .before in
     let lists = of-a .before .before in
-    let few = lists .before .before in
+    let few = lists .before .before .before in
     let sized = start (few .before) .pre in
     let inverted = of-a .before .inverted .ensures .0 (of-a .if3 .taken) in
     let kept = lists .before .rows-kept .ensures .0 (lists .if2 .taken) in
@@ -88,5 +92,5 @@ pub record-spec : {M : Type 1} → statement M
 record-spec =
     tie.close
     (tie.spec
-    (search needs) (search needs) (search needs) returns returns-2 rows-kept-requires inverted-requires inverted-requires-2
-    norms-true-requires returns-3 returns-4 returns-5 returns-6 returns-7)
+    (search needs) (search needs) (search needs) returns returns-2 reciprocal-requires rows-kept-requires inverted-requires
+    inverted-requires-2 norms-true-requires returns-3 returns-4 returns-5 returns-6 returns-7)
