@@ -1,6 +1,7 @@
 -- The norms of a record, tried place by place.
 --   weighedAt m count a d i   entry i of d times that of the a, 1 behind the rows
---   Ties m count a c d i      the next of these, with this one times the next c, is a multiple of m
+--   tiedAt m count a c d i    the remainder of the next of these with this one times the next c
+--   Ties m count a c d i      that is 0
 -- Proved: where the first is 1, all places tie if and only if the list is tried (NormProducts of prepared_model), and of an accepted family that
 -- settles whether it is the norms'; a product of two numbers of 32 bits and one more number fit 64 bits.
 -- Assumes nothing.
@@ -25,8 +26,11 @@ use Rattle.record_check.specs.Scans.{Whole}
 abbrev pub weighedAt : ℕ → ℕ → List ℕ → List ℕ → ℕ → ℕ
 weighedAt m count a d i = getD d i 0 * getD (take count a) i 1 % m
 
+abbrev pub tiedAt : ℕ → ℕ → List ℕ → List ℕ → List ℕ → ℕ → ℕ
+tiedAt m count a c d i = (weighedAt m count a d (i + 1) + weighedAt m count a d i * getD (take count c) (i + 1) 1) % m
+
 abbrev pub Ties : ℕ → ℕ → List ℕ → List ℕ → List ℕ → ℕ → Type 0
-Ties m count a c d i = (weighedAt m count a d (i + 1) + weighedAt m count a d i * getD (take count c) (i + 1) 1) % m ≡ 0
+Ties m count a c d i = tiedAt m count a c d i ≡ 0
 
 module _ (m count : ℕ) (a b c d : List ℕ) where
   pub first-fails : (weighedAt m count a d 0 ≡ 1 → ⊥) → Tried (lent m count a b c ones) d → ⊥

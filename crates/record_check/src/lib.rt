@@ -1,6 +1,7 @@
 // Test 14: whether a record is that of its own rows, and these are accepted. It is made by every call on a record, so it is made small:
-// lists are passed over to their end whatever is found, so that the compiler can take several entries at a time; a stored inverse is tried
-// by one product, and none is searched for; a norm is tried by two, and no product waits for another.
+// whether entries are below m is looked at to the end of a list whatever is found, so that the compiler can take several at a time; a stored
+// inverse is tried by one product, and none is searched for; a norm is tried by two, and no product waits for another. A pass over products
+// ends at the first that is wrong: taken several at a time they are slower.
 ghost use mathlib.Core.Path.{_≡_};
 ghost use mathlib.Core.Bool.{true};
 ghost use mathlib.Core.List.{List, [], _∷_};
@@ -49,15 +50,14 @@ fn inverted(
     requires { ⌜ Reciprocal m reciprocal × (count ≤ length (now list)) × (count ≤ length (now inverses)) ⌝ }
     ensures { λ r. ⌜ (r ≡ true) ↔ Inverted m first count (now (list .entry)) (now (inverses .entry)) ⌝ }
 {
-    let mut all = true;
     let mut i = first;
     while i < count {
         if product_by(m, reciprocal, list[i], inverses[i]) != 1 {
-            all = false;
+            return false;
         }
         i += 1;
     }
-    all
+    true
 }
 
 // The five lists of the rows: residues and then zeros, and zero for c_1.
@@ -106,19 +106,18 @@ fn norms_tried<'a>(
     if before != 1 {
         return false;
     }
-    let mut all = true;
     let mut i: usize = 0;
     while i < count {
         let next = product_by(m, reciprocal, norms[i + 1], row_entry(a, count, i + 1, 1));
         let factor = row_entry(c, count, i + 1, 1);
         let sum = next as u64 + (before as u64) * (factor as u64);
         if reduction::remainder(m, reciprocal, sum) != 0 {
-            all = false;
+            return false;
         }
         before = next;
         i += 1;
     }
-    all
+    true
 }
 
 // Whether the norms are true, given that the rows are accepted.

@@ -1,24 +1,24 @@
--- `norms_tried` meets its contract. The loop's invariant: the product at hand is that of this place, and the flag says of the places before it
--- whether each ties with the next. The measure is how many rows are left. Assumes nothing.
+-- `norms_tried` meets its contract. The loop's invariant: the product at hand is that of this place, and each place before it ties with the
+-- next. The measure is how many rows are left. Assumes nothing.
 use mathlib.Core.Path.{_≡_, sym, _∙_, ap, ap₂}
-use mathlib.Core.Logic.{⊎-elim, Iff·trans}
+use mathlib.Core.Logic.{Iff·trans}
 use Prim.Native.Nat.{ℕ, _+_, _*_, _-_, _%_, _<_}
 use native.Mathlib.Nat.{mod-lt}
 use native.Mathlib.Omega.{arith}
 use lib.ListN.{getD}
 use borrow.Author.Needs.{needs}
 use Rattle.record_check.specs.Findings.{says-no}
-use Rattle.record_check.specs.Norms.{weighedAt, Ties, first-fails, all-tie, sum-fits}
-use Rattle.record_check.specs.Scans.{Scanned, scan-starts, scan-holds, scan-fails, scan-ends}
+use Rattle.record_check.specs.Norms.{weighedAt, tiedAt, Ties, first-fails, all-tie, sum-fits}
+use Rattle.record_check.specs.Scans.{Passed, pass-begins, pass-goes-on, pass-stops, pass-ends}
 use Rattle.record_check.proofs.norms_tried.Statement.{statement}
 use Rattle.record_check.proofs.norms_tried.Tie as tie
 
 abbrev Inv-loop : tie.InvT-loop
-Inv-loop m reciprocal count a c norms before₀ all₀ i₀ before all i =
-    (before ≡ weighedAt m count a norms i) × Scanned (Ties m count a c norms) 0 count all i
+Inv-loop m reciprocal count a c norms before₀ i₀ before i =
+    (before ≡ weighedAt m count a norms i) × Passed (Ties m count a c norms) 0 i
 
 abbrev μ-loop : tie.MeasureT-loop
-μ-loop m reciprocal count a c norms before₀ all₀ i₀ before all i = count - i
+μ-loop m reciprocal count a c norms before₀ i₀ before i = count - i
 
 -- where the first product is found: the start; and where the factor of the next is read: the first product, and the loop's head
 abbrev start : tie.After-product-by Inv-loop μ-loop → tie.Start Inv-loop μ-loop
@@ -54,7 +54,7 @@ returns c = λ b.
     (λ e. c .if1 .taken (first-product product ∙ e)))
 
 loop-holds : tie.Need-loop-holds Inv-loop μ-loop
-loop-holds c = (first-product (c .before), scan-starts)
+loop-holds c = (first-product (c .before), pass-begins)
 
 add-product-by : tie.Need-add-product-by Inv-loop μ-loop
 add-product-by c = omega arith
@@ -106,6 +106,38 @@ add-sum c = omega (arith, sum-below c)
 remainder-requires : tie.Need-remainder-requires Inv-loop μ-loop
 remainder-requires c κs = start (first (head c)) .pre .0
 
+-- the next product, and the sum that is tried
+next-product : (c : tie.After-product-by2 Inv-loop μ-loop)
+    → let loop = c .before .before .before .before in
+    let args = start (first loop) .args in
+    c .product-by2 .result ≡ weighedAt (args .m) (args .count) (args .a .now) (args .norms .now) (loop .loop .i + 1)
+next-product c =
+    let loop = c .before .before .before .before in
+    let args = start (first loop) .args in
+    c .product-by2 .ensures ∙ ap (λ x. getD (args .norms .now) (loop .loop .i + 1) 0 * x % args .m) (c .before .row-entry2 .ensures)
+
+tried-sum : (c : tie.After-remainder Inv-loop μ-loop)
+    → let loop = head (c .before) in
+    let args = start (first loop) .args in
+    c .remainder .result ≡ tiedAt (args .m) (args .count) (args .a .now) (args .c .now) (args .norms .now) (loop .loop .i)
+tried-sum c =
+    let loop = head (c .before) in
+    let args = start (first loop) .args in
+    c .remainder .ensures
+    ∙ ap₂ (λ x y. (x + y) % args .m) (next-product (c .before .before))
+    (ap₂ (λ x y. x * y) (loop .loop .inv .0) (c .before .row-entry3 .ensures))
+
+returns-2 : tie.Need-returns-2 Inv-loop μ-loop
+returns-2 c = λ b.
+    let loop = head (c .before .before) in
+    let begun = start (first loop) in
+    let args = begun .args in
+    Iff·trans
+    (pass-stops (loop .loop .inv .1) (c .before .before .before .before .before .before .loop-test .taken)
+    (λ ties. c .if2 .taken (tried-sum (c .before) ∙ ties)))
+    (all-tie _ _ (args .a .now) b (args .c .now) (args .norms .now) (begun .pre .2)
+    (sym (first-product (first loop)) ∙ loop .before .if1 .left))
+
 add-i : tie.Need-add-i Inv-loop μ-loop
 add-i c = omega arith
 
@@ -114,29 +146,15 @@ loop-less c = omega arith
 
 loop-again : tie.Need-loop-again Inv-loop μ-loop
 loop-again c =
-    let remainder = c .before in
-    let factor = remainder .before in
-    let product = factor .before in
-    let inside = product .before .before .before in
-    let so-far = inside .before .loop .inv in
-    let args = start (first (inside .before)) .args in
-    let next = product .product-by2 .ensures ∙ ap (λ x. getD (args .norms .now) (inside .before .loop .i + 1) 0 * x % args .m)
-    (product .before .row-entry2 .ensures) in
-    let sum = remainder .remainder .ensures
-    ∙ ap₂ (λ x y. (x + y) % args .m) next (ap₂ (λ x y. x * y) (so-far .0) (factor .row-entry3 .ensures)) in (
-      next,
-      ⊎-elim
-          (λ w. scan-fails (so-far .1) (inside .loop-test .taken) (w .1) (λ ties. w .0 .taken (sum ∙ ties)))
-          (λ w. scan-holds (so-far .1) (inside .loop-test .taken) (w .1) (sym sum ∙ w .0 .left))
-          (c .if2 .came),
-    )
+    let tried = c .before in
+    (next-product (tried .before .before), pass-goes-on (head (tried .before) .loop .inv .1) (sym (tried-sum tried) ∙ c .if2 .left))
 
-returns-2 : tie.Need-returns-2 Inv-loop μ-loop
-returns-2 c = λ b.
+returns-3 : tie.Need-returns-3 Inv-loop μ-loop
+returns-3 c = λ b.
     let loop = c .before in
     let begun = start (first loop) in
     let args = begun .args in
-    Iff·trans (scan-ends (loop .loop .inv .1) (c .loop-test .left))
+    Iff·trans (pass-ends (loop .loop .inv .1) (c .loop-test .left))
     (all-tie _ _ (args .a .now) b (args .c .now) (args .norms .now) (begun .pre .2)
     (sym (first-product (first loop)) ∙ loop .before .if1 .left))
 
@@ -144,7 +162,6 @@ pub norms-tried-spec : {M : Type 1} → statement M
 norms-tried-spec =
     tie.close
     (tie.spec
-    Inv-loop μ-loop shared-slice-read-product-by row-entry-requires product-by-requires returns loop-holds
-    add-product-by mul-product-by shared-slice-read-product-by-2 add-row-entry row-entry-requires-2 product-by-requires-2
-    add-row-entry-2 row-entry-requires-3 (search needs) cast-sum-2 (search needs) mul-sum add-sum remainder-requires add-i loop-less
-    loop-again returns-2)
+    Inv-loop μ-loop shared-slice-read-product-by row-entry-requires product-by-requires returns loop-holds add-product-by mul-product-by
+    shared-slice-read-product-by-2 add-row-entry row-entry-requires-2 product-by-requires-2 add-row-entry-2 row-entry-requires-3
+    (search needs) cast-sum-2 (search needs) mul-sum add-sum remainder-requires returns-2 add-i loop-less loop-again returns-3)
