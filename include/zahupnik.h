@@ -27,8 +27,8 @@
  * Nothing is allocated and nothing is kept, so calls from several threads do not disturb one another.
  *
  * The stack that a call takes at most, in bytes: measured by tests/stack/run on a painted stack and rounded up, not proved. It counts
- * the arguments, a record of 3,060 bytes among them, and memcpy and memset of the C library; a dynamic linker that binds one of these at
- * its first call takes some kilobytes of its own.
+ * arguments and what is returned, records of 3,060 bytes among them, and memcpy and memset of the C library; a dynamic linker that binds
+ * one of these at its first call takes some kilobytes of its own.
  *     zahupnik_invert                       64
  *     zahupnik_plain_expand               1536
  *     zahupnik_plain_adjoint              1536
@@ -87,7 +87,7 @@ extern "C" {
 #define ZAHUPNIK_TEXT_FORM 2      /* the job text is not of the form; or no job text has this operation */
 #define ZAHUPNIK_MODULUS 3        /* m is below 2 or above ZAHUPNIK_GREATEST_MODULUS */
 #define ZAHUPNIK_LENGTHS 4        /* the lists a, b and c are not equally long */
-#define ZAHUPNIK_ROWS 5           /* there are more than ZAHUPNIK_MOST_ROWS rows */
+#define ZAHUPNIK_ROWS 5           /* there are more than ZAHUPNIK_MOST_ROWS rows, or an append would make them */
 #define ZAHUPNIK_CURVE_LENGTH 6   /* the curve, or the list of coefficients, is not n long; or not empty in a job for moments or norms */
 #define ZAHUPNIK_OUTPUT_LENGTH 7  /* the output is not as long as the result; or shorter than ZAHUPNIK_LEAST_TEXT_OUTPUT bytes for an
                                    * answer text, than ZAHUPNIK_LEAST_JOB_OUTPUT for a job text */
@@ -189,8 +189,8 @@ uint32_t zahupnik_write_job(uint32_t m, const uint32_t *a, size_t a_length, cons
  * and zeros in every place past these. A record that holds anything else, or whose rows zahupnik_norms would refuse, is not right.
  * It is a plain struct of numbers in this machine's byte order, without a pointer and without padding: whoever likes may copy it, compare it
  * byte for byte, store it or send it. Nobody is trusted with it: every function that takes one tests all of it, and refuses with 14 where
- * it is not right. That is no checksum: a record that was changed into the right one of another family is taken, as with another number
- * below m in b or for c_1, or with another m where there are no rows.
+ * it is not right. That is no checksum: a record that was changed into the right one of another family is taken. Another number below m
+ * in b or for c_1 always makes such a one, and another m may.
  * Whether a record is right, and nothing else: zahupnik_prepared_norms(family, NULL, 0) returns 7 if it is, since no list of norms is empty,
  * and 14 if it is not. */
 struct zahupnik_prepared {
@@ -222,9 +222,9 @@ struct zahupnik_change zahupnik_prepared_drop_last(struct zahupnik_prepared fami
 struct zahupnik_change zahupnik_prepared_replace(struct zahupnik_prepared family, uint32_t row, uint32_t a, uint32_t b, uint32_t c);
 
 /* The conversions, Norms and Moments on a record: output and work become what the function of the same name without prepared_ makes them
- * with the record's m and its r numbers of a, of b and of c. The lengths are those of that function. */
+ * with the record's m and its r numbers of a, of b and of c. r is family.rows, and n is r + 1. */
 
-/* Refuse with 14 6 7 12. */
+/* Lengths: curve or coefficients n; output n. Refuse with 14 6 7 12. */
 uint32_t zahupnik_prepared_plain_expand(struct zahupnik_prepared family, const uint32_t *curve, size_t curve_length,
                                         uint32_t *output, size_t output_length);
 uint32_t zahupnik_prepared_plain_adjoint(struct zahupnik_prepared family, const uint32_t *curve, size_t curve_length,
@@ -232,10 +232,10 @@ uint32_t zahupnik_prepared_plain_adjoint(struct zahupnik_prepared family, const 
 uint32_t zahupnik_prepared_plain_decompose(struct zahupnik_prepared family, const uint32_t *coefficients, size_t coefficients_length,
                                            uint32_t *output, size_t output_length);
 
-/* Refuses with 14 7. */
+/* Length: output n. Refuses with 14 7. */
 uint32_t zahupnik_prepared_norms(struct zahupnik_prepared family, uint32_t *output, size_t output_length);
 
-/* Refuse with 14 6 7 8 12. */
+/* Lengths: curve or coefficients n; output n; work ZAHUPNIK_LEAST_WORK or more. Refuse with 14 6 7 8 12. */
 uint32_t zahupnik_prepared_tree_expand(struct zahupnik_prepared family, const uint32_t *curve, size_t curve_length,
                                        uint32_t *output, size_t output_length, uint32_t *work, size_t work_length);
 uint32_t zahupnik_prepared_tree_adjoint(struct zahupnik_prepared family, const uint32_t *curve, size_t curve_length,
@@ -243,7 +243,7 @@ uint32_t zahupnik_prepared_tree_adjoint(struct zahupnik_prepared family, const u
 uint32_t zahupnik_prepared_tree_decompose(struct zahupnik_prepared family, const uint32_t *coefficients, size_t coefficients_length,
                                           uint32_t *output, size_t output_length, uint32_t *work, size_t work_length);
 
-/* Refuses with 14 7 8. */
+/* Lengths: output 2n - 1; work ZAHUPNIK_LEAST_WORK or more. Refuses with 14 7 8. */
 uint32_t zahupnik_prepared_moments(struct zahupnik_prepared family, uint32_t *output, size_t output_length, uint32_t *work,
                                    size_t work_length);
 

@@ -99,11 +99,18 @@ pub broken-one-by-one : map (λ p. told (Record p)) damaged ≡ map (λ p. refus
 unfolding told
 broken-one-by-one = refl
 
--- another b below m, another c_1 below m, another m where there are no rows
+-- the rows 1 0 0 and 3 0 5, with what they give modulo 7 and modulo 14 alike
+abbrev modulo : ℕ → Prepared
+modulo m =
+    holding m 2 (padded 127 (1 ∷ 3 ∷ [])) (padded 127 []) (padded 127 (0 ∷ 5 ∷ [])) (padded 127 (1 ∷ 5 ∷ [])) (padded 127 (0 ∷ 3 ∷ []))
+    (padded 128 (1 ∷ 3 ∷ 5 ∷ []))
+
+-- another b below m, another c_1 below m, another m where there are no rows, and another m with rows
 pub still-right : map told (
     Record (holding 7 2 a (set b 1 4) c x z d) ∷ Record (holding 7 2 a b (set c 0 0) x z d)
-    ∷ Record (holding 9 0 (padded 127 []) (padded 127 []) (padded 127 []) (padded 127 []) (padded 127 []) (padded 128 (1 ∷ []))) ∷ []
-    ) ≡ finished [] ∷ finished [] ∷ finished [] ∷ []
+    ∷ Record (holding 9 0 (padded 127 []) (padded 127 []) (padded 127 []) (padded 127 []) (padded 127 []) (padded 128 (1 ∷ [])))
+    ∷ Record (modulo 7) ∷ Record (modulo 14) ∷ []
+    ) ≡ finished [] ∷ finished [] ∷ finished [] ∷ finished [] ∷ finished [] ∷ []
 unfolding told
 still-right = refl
 

@@ -4,6 +4,7 @@
 --   Dropped     a row is appended and dropped: the answer is that of the append, and the record is the old one
 --   ByAppends   the rows of three lists are appended to the empty family: that finishes if and only if their family is accepted, and then
 --               the record is that of the family
+-- Of what the changes promise, whatever the code is: back-handed and dropped-handed in prepared_model, ChangeLaws.
 -- Item 3 of the change requests. Assumes nothing.
 use mathlib.Core.Path.{_≡_}
 use mathlib.Core.List.{List, []}
