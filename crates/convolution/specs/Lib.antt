@@ -1,6 +1,8 @@
 -- What the contracts of this crate cite, and the laws of its loops.
 --   Totals         sums that wrap, in progress
---   Coefficients   the three sums: of two products, of one transposed product and of two
+--   Coefficients   the sum of a coefficient of two products
+--   Terms          the sum of a term of two transposed products
 -- Assumes nothing.
 pub mod Totals
 pub mod Coefficients
+pub mod Terms

@@ -1,17 +1,16 @@
 -- Sums of products that wrap at 2^64, with a count of the wraps.
 --   Lesser x y r          r is the lesser of x and y
 --   SmallNumbers x y u v  all four have 31 bits, so that two products of them fit 64
---   MakeUp low wraps t    low and the wraps come to t
---   Totalling             a sum in progress: of the terms f those before i are in, and those before first are zero
+--   amount low wraps      what the low 64 bits and the wraps come to
+--   Added                 a sum to which so much was added, in so many steps
+--   Totalling             a sum in progress: it began with start and at most before wraps, and the terms of f from first to i - 1 are in
 -- Proved: how a sum begins, goes on and ends. Assumes nothing.
 use mathlib.Core.Path.{_≡_, sym, _∙_, ap, ap₂}
-use Prim.Native.Nat.{ℕ, _+_, _*_, _%_, _≤_, _<_}
+use Prim.Native.Nat.{ℕ, suc, _+_, _*_, _-_, _%_, _≤_, _<_}
 use native.Mathlib.Decide.{decLt}
-use native.Mathlib.Nat.{add-assoc, mul-le-mul}
-use native.Mathlib.Numerals.{add-one}
+use native.Mathlib.Nat.{add-assoc, add-zero, mul-le-mul}
 use native.Mathlib.Omega.{arith}
 use Rattle.definitions.specs.Number.{sum}
-use Rattle.numbers.specs.Sums.{sum-zero, sum-cut}
 use Rattle.reduction.specs.Reciprocal.{word}
 use Rattle.reduction.specs.Wrapping.{WrapsAfter, wraps-next}
 
@@ -40,44 +39,73 @@ pub pair-fits : (x y u v : ℕ) → SmallNumbers x y u v → x * y + u * v < wor
 pair-fits x y u v h = let products = small-products x y u v h in omega arith
 
 -- shut, since omega's numbers grow too long with it in reach
-unfoldable pub MakeUp : ℕ → ℕ → ℕ → Type 0
-MakeUp low wraps t = low + wraps * word ≡ t
+unfoldable pub amount : ℕ → ℕ → ℕ
+amount low wraps = low + wraps * word
 
-pub record Totalling (start first end : ℕ) (f : ℕ → ℕ) (i low wraps : ℕ) : Type 0 where
+pub record Added (low wraps steps more low′ wraps′ : ℕ) : Type 0 where
+  pub few : wraps′ ≤ wraps + steps
+  pub fits : low′ < word
+  pub whole : amount low′ wraps′ ≡ amount low wraps + more
+
+pub record Totalling (before start first end : ℕ) (f : ℕ → ℕ) (i low wraps : ℕ) : Type 0 where
   pub from : first ≤ i
   pub reached : i ≤ end
-  pub few : wraps ≤ i
+  pub few : wraps ≤ before + (i - first)
   pub fits : low < word
-  pub whole : MakeUp low wraps (start + sum i f)
+  pub whole : amount low wraps ≡ start + sum (i - first) (λ t. f (first + t))
 
-module _ (start first end : ℕ) (f : ℕ → ℕ) where
-  pub totalling-starts : start < word → first ≤ end → ((i : ℕ) → i < first → f i ≡ 0) → Totalling start first end f first start 0
-  unfolding MakeUp
-  totalling-starts h l z =
-      let none : sum first f ≡ 0 = sum-zero first f z in
-      record { from = omega arith; reached = l; few = omega arith; fits = h; whole = omega arith }
+-- a sum that begins with a number
+pub amount-number : (start : ℕ) → amount start 0 ≡ start
+unfolding amount
+amount-number start = omega arith
+
+module _ (before start first end : ℕ) (f : ℕ → ℕ) where
+  pub totalling-starts : (low wraps : ℕ) → low < word → wraps ≤ before → amount low wraps ≡ start → first ≤ end
+      → Totalling before start first end f first low wraps
+  unfolding sum
+  totalling-starts low wraps h few e l =
+      let none : first - first ≡ 0 = omega arith in
+      record {
+        from = omega arith;
+        reached = l;
+        few = omega arith;
+        fits = h;
+        whole = e ∙ sym (ap (λ k. start + sum k (λ t. f (first + t))) none ∙ add-zero start);
+      }
 
   -- x is term i, next the sum that may have wrapped, and r the count of wraps then
-  pub totalling-next : (i low wraps x next r : ℕ) → i < end → Totalling start first end f i low wraps → x ≡ f i → x < word
-      → next ≡ (low + x) % word → WrapsAfter wraps next x r → Totalling start first end f (i + 1) next r
-  unfolding sum MakeUp
-  totalling-next i low wraps x next r l h e small n w = record {
-    from = omega (arith, h .from);
-    reached = omega arith;
-    few = more (decLt next x);
-    fits = omega arith;
-    whole = wraps-next low wraps x next r (h .fits) small n w ∙ ap₂ _+_ (h .whole) e ∙ add-assoc start (sum i f) (f i)
-        ∙ ap (λ k. start + sum k f) (sym (add-one i));
-  }
+  pub totalling-next : (i low wraps x next r : ℕ) → i < end → Totalling before start first end f i low wraps → x ≡ f i → x < word
+      → next ≡ (low + x) % word → WrapsAfter wraps next x r → Totalling before start first end f (i + 1) next r
+  unfolding sum amount
+  totalling-next i low wraps x next r l h e small n w =
+      let one-more : i + 1 - first ≡ suc (i - first) = omega (arith, h .from) in
+      let there : first + (i - first) ≡ i = omega (arith, h .from) in
+      record {
+        from = omega (arith, h .from);
+        reached = omega arith;
+        few = more (decLt next x);
+        fits = omega arith;
+        whole = wraps-next low wraps x next r (h .fits) small n w ∙ ap₂ _+_ (h .whole) (e ∙ sym (ap f there))
+            ∙ add-assoc start (sum (i - first) (λ t. f (first + t))) (f (first + (i - first)))
+            ∙ ap (λ k. start + sum k (λ t. f (first + t))) (sym one-more);
+      }
     where
-      more : Dec (next < x) → r ≤ i + 1
-      more (yes p) = omega (arith, w .wrapped p, h .few)
-      more (no p) = let same : r ≡ wraps = w .fitted (omega arith) in omega (arith, h .few)
+      more : Dec (next < x) → r ≤ before + (i + 1 - first)
+      more (yes p) = omega (arith, w .wrapped p, h .few, h .from)
+      more (no p) = let same : r ≡ wraps = w .fitted (omega arith) in omega (arith, h .few, h .from)
 
-  -- the terms from the end on are zero too
-  pub totalling-ends : (n i low wraps : ℕ) → end ≤ i → Totalling start first end f i low wraps → end ≤ n
-      → ((j : ℕ) → end ≤ j → j < n → f j ≡ 0) → low + wraps * word ≡ start + sum n f
-  unfolding MakeUp
-  totalling-ends n i low wraps l h g z =
+  pub totalling-ends : (i low wraps : ℕ) → end ≤ i → Totalling before start first end f i low wraps
+      → amount low wraps ≡ start + sum (end - first) (λ t. f (first + t))
+  totalling-ends i low wraps l h =
       let last : i ≡ end = omega (arith, h .reached) in
-      rw (sum-cut end n f g z, ← last) (h .whole)
+      rw (← last) (h .whole)
+
+-- a sum that goes on from another
+pub totalling-added : (low₀ wraps₀ first end : ℕ) (f : ℕ → ℕ) (i low wraps : ℕ) → end ≤ i
+    → Totalling wraps₀ (amount low₀ wraps₀) first end f i low wraps
+    → Added low₀ wraps₀ (end - first) (sum (end - first) (λ t. f (first + t))) low wraps
+totalling-added low₀ wraps₀ first end f i low wraps l h = record {
+  few = omega (arith, h .few, h .reached);
+  fits = h .fits;
+  whole = totalling-ends wraps₀ (amount low₀ wraps₀) first end f i low wraps l h;
+}

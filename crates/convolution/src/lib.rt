@@ -1,10 +1,12 @@
-// One coefficient of a sum of two products of polynomials, or one term of a transposed product, on input that is already checked. A
-// sum is kept as its low 64 bits and a count of its wraps: nothing is taken off in the loop, and one remainder ends it.
+// One coefficient of a sum of two products of polynomials, or one term of a sum of two transposed products, on input that is already
+// checked. A sum is kept as its low 64 bits and a count of its wraps: nothing is taken off in the loop, and one remainder ends it.
 ghost use mathlib.Core.Path.{_≡_};
 ghost use Prim.Native.Nat.{_+_, _*_, _-_, _%_};
+ghost use Rattle.definitions.specs.Number.{sum};
 ghost use Rattle.numbers.specs.Products.{productAt, transposedAt};
-ghost use Rattle.convolution.specs.Totals.{Lesser, SmallNumbers};
-ghost use Rattle.convolution.specs.Coefficients.{ProductsInput, TransposedInput, TransposedSumInput};
+ghost use Rattle.convolution.specs.Totals.{Lesser, SmallNumbers, Added};
+ghost use Rattle.convolution.specs.Coefficients.{ProductsInput};
+ghost use Rattle.convolution.specs.Terms.{transposedTerm, SinglesInput, PairsInput, TransposedInput};
 use lists::excess;
 use reduction::remainder_of_sum;
 use reduction::wraps_after;
@@ -54,45 +56,49 @@ pub fn products_at(
     remainder_of_sum(m, reciprocal, low, wraps)
 }
 
-// Term i of the transposed product of w with p: the sum over j of p_j w_{i+j}, zero past the end of w.
-pub fn transposed_at(m: u32, reciprocal: u64, p: &[u32], w: &[u32], i: usize) -> u32
-    requires { ⌜ TransposedInput m reciprocal (now p) (now w) ⌝ }
-    ensures { λ r. ⌜ r ≡ transposedAt (now (p .entry)) (now (w .entry)) i % m ⌝ }
+// A sum in progress: its low 64 bits, and how often it has wrapped.
+struct Total {
+    low: u64,
+    wraps: u64,
+}
+
+// The sum, and p_j v_{i+j} for j from first to end - 1 besides.
+fn with_singles(total: Total, p: &[u32], v: &[u32], i: usize, first: usize, end: usize) -> Total
+    requires { ⌜ SinglesInput (total .low) (total .wraps) (now p) (now v) i first end ⌝ }
+    ensures { λ r. ⌜ Added (total .low) (total .wraps) (end - first)
+        (sum (end - first) (λ t. transposedTerm (now (p .entry)) (now (v .entry)) i (first + t))) (r .low) (r .wraps) ⌝ }
 {
-    let room = excess(w.len(), i);
-    let end = lesser(room, p.len());
-    let mut low: u64 = 0;
-    let mut wraps: u64 = 0;
-    let mut j: usize = 0;
+    let mut low = total.low;
+    let mut wraps = total.wraps;
+    let mut j = first;
     while j < end {
         let k = i + j;
-        let x = pair(p[j], w[k], 0, 0);
+        let x = pair(p[j], v[k], 0, 0);
         let sum = std::num::wrapping_add_u64(low, x);
         wraps = wraps_after(wraps, sum, x);
         low = sum;
         j += 1;
     }
-    remainder_of_sum(m, reciprocal, low, wraps)
+    Total { low, wraps }
 }
 
-// Term i of the transposed products of v with p and of u with q, added up.
-pub fn transposed_sum_at(
-    m: u32,
-    reciprocal: u64,
+// The sum, and p_j v_{i+j} + q_j u_{i+j} for j below end besides.
+fn with_pairs(
+    total: Total,
     p: &[u32],
     v: &[u32],
     q: &[u32],
     u: &[u32],
     i: usize,
-) -> u32
-    requires { ⌜ TransposedSumInput m reciprocal (now p) (now v) (now q) (now u) ⌝ }
-    ensures { λ r. ⌜ r ≡ (transposedAt (now (p .entry)) (now (v .entry)) i
-        + transposedAt (now (q .entry)) (now (u .entry)) i) % m ⌝ }
+    end: usize,
+) -> Total
+    requires { ⌜ PairsInput (total .low) (total .wraps) (now p) (now v) (now q) (now u) i end ⌝ }
+    ensures { λ r. ⌜ Added (total .low) (total .wraps) end
+        (sum end (λ j. transposedTerm (now (p .entry)) (now (v .entry)) i j + transposedTerm (now (q .entry)) (now (u .entry)) i j))
+        (r .low) (r .wraps) ⌝ }
 {
-    let room = excess(v.len(), i);
-    let end = lesser(room, p.len());
-    let mut low: u64 = 0;
-    let mut wraps: u64 = 0;
+    let mut low = total.low;
+    let mut wraps = total.wraps;
     let mut j: usize = 0;
     while j < end {
         let k = i + j;
@@ -102,5 +108,30 @@ pub fn transposed_sum_at(
         low = sum;
         j += 1;
     }
-    remainder_of_sum(m, reciprocal, low, wraps)
+    Total { low, wraps }
+}
+
+// Term i of the transposed products of v with p and of u with q, added up: the sum over j of p_j v_{i+j} and of q_j u_{i+j}, zero past
+// the end of v and of u. What one of the two has beyond the other comes first, and then both side by side.
+pub fn transposed_at(
+    m: u32,
+    reciprocal: u64,
+    p: &[u32],
+    v: &[u32],
+    q: &[u32],
+    u: &[u32],
+    i: usize,
+) -> u32
+    requires { ⌜ TransposedInput m reciprocal (now p) (now v) (now q) (now u) ⌝ }
+    ensures { λ r. ⌜ r ≡ (transposedAt (now (p .entry)) (now (v .entry)) i
+        + transposedAt (now (q .entry)) (now (u .entry)) i) % m ⌝ }
+{
+    let first = lesser(excess(v.len(), i), p.len());
+    let second = lesser(excess(u.len(), i), q.len());
+    let both = lesser(first, second);
+    let none = Total { low: 0, wraps: 0 };
+    let more = with_singles(none, p, v, i, both, first);
+    let rest = with_singles(more, q, u, i, both, second);
+    let total = with_pairs(rest, p, v, q, u, i, both);
+    remainder_of_sum(m, reciprocal, total.low, total.wraps)
 }

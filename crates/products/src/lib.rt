@@ -3,12 +3,11 @@ ghost use mathlib.Core.Path.{_≡_};
 ghost use Prim.Native.Nat.{_+_, _%_, _≤_};
 ghost use lib.ListN.{length, getD};
 ghost use Rattle.numbers.specs.Regions.{part, written};
-ghost use Rattle.numbers.specs.Products.{productAt, plusProducts, transposed, transposedSum};
+ghost use Rattle.numbers.specs.Products.{productAt, plusProducts, transposedSum};
 ghost use Rattle.products.specs.Places.{CoefficientInput, SourceInput, Used, ProductPlaces};
-ghost use Rattle.products.specs.Places.{TermInput, TransposedPlaces, transposedEntry, ListInput};
+ghost use Rattle.products.specs.Places.{TermInput, TransposedPlaces, transposedEntry};
 use convolution::products_at;
 use convolution::transposed_at;
-use convolution::transposed_sum_at;
 use lists::excess;
 
 // Entry i of the n numbers of w from place at on, and 0 past them.
@@ -81,7 +80,7 @@ fn coefficient_or_start(
     start
 }
 
-// How many of the pn numbers from p on and from r on are left without the zeros at the end of both.
+// How many of the pn numbers from p on and from r on are left without the zeros at the end of both. Of one list, p is r.
 fn used_length(w: &[u32], p: usize, r: usize, pn: usize) -> usize
     requires { ⌜ (p + pn ≤ length (now w)) × (r + pn ≤ length (now w)) ⌝ }
     ensures { λ n. ⌜ Used (now (w .entry)) p r pn n ⌝ }
@@ -133,73 +132,69 @@ pub fn add_products(
     }
 }
 
-// Term i of the sum of two transposed products, of v with p and of u with q, where p and q are parts of pn numbers, v and u of vn.
+// Term i of the transposed products of v with p and of u with q, added up, where each is a part.
 fn term(
     m: u32,
     reciprocal: u64,
     w: &[u32],
     p: usize,
-    q: usize,
     pn: usize,
+    q: usize,
+    qn: usize,
     v: usize,
-    u: usize,
     vn: usize,
+    u: usize,
+    un: usize,
     i: usize,
 ) -> u32
-    requires { ⌜ TermInput m reciprocal (now w) p q pn v u vn ⌝ }
-    ensures { λ x. ⌜ x ≡ transposedEntry m (now (w .entry)) p q pn v u vn i ⌝ }
+    requires { ⌜ TermInput m reciprocal (now w) p pn q qn v vn u un ⌝ }
+    ensures { λ x. ⌜ x ≡ transposedEntry m (now (w .entry)) p pn q qn v vn u un i ⌝ }
 {
-    transposed_sum_at(
+    transposed_at(
         m,
         reciprocal,
         &w[p..p + pn],
         &w[v..v + vn],
-        &w[q..q + pn],
-        &w[u..u + vn],
+        &w[q..q + qn],
+        &w[u..u + un],
         i,
     )
 }
 
-// Writes the n first terms of the transposed product of v with p and of u with q, added up, from place target on. All of them are
-// parts of w: p and q have pn numbers, v and u have vn and read as zero past them.
-pub fn transposed_sum(
+// Transposed multiplication, in one pass: writes the n first terms of the transposed products of v with p and of u with q, added up, from
+// place target on. Term i is the sum over j of p_j v_{i+j} and of q_j u_{i+j}, where p and q are the multipliers, v and u the lists, zero
+// past their ends. All of them are parts of w: p has pn numbers, q has qn, v has vn and u has un, and they lie apart from the n wanted
+// terms. Nothing else is formed or written, and the zeros at the end of a list are not multiplied. One product alone is that of a
+// multiplier's two pieces (convolution, Terms).
+pub fn transposed(
     m: u32,
+    reciprocal: u64,
     w: &mut [u32],
     target: usize,
     n: usize,
     p: usize,
-    q: usize,
     pn: usize,
+    q: usize,
+    qn: usize,
     v: usize,
-    u: usize,
     vn: usize,
+    u: usize,
+    un: usize,
 )
-    requires { ⌜ TransposedPlaces m (now w) target n p q pn v u vn ⌝ }
+    requires { ⌜ TransposedPlaces m reciprocal (now w) target n p pn q qn v vn u un ⌝ }
     ensures { λ _. ⌜ now (w .exit) ≡ written (now (w .entry)) target
         (transposedSum m n (part (now (w .entry)) p pn) (part (now (w .entry)) v vn)
-        (part (now (w .entry)) q pn) (part (now (w .entry)) u vn)) ⌝ }
+        (part (now (w .entry)) q qn) (part (now (w .entry)) u un)) ⌝ }
 {
-    let reciprocal = reduction::reciprocal(m);
+    let p_used = used_length(w, p, p, pn);
+    let q_used = used_length(w, q, q, qn);
+    let v_used = used_length(w, v, v, vn);
+    let u_used = used_length(w, u, u, un);
     let mut i: usize = 0;
     while i < n {
-        let x = term(m, reciprocal, w, p, q, pn, v, u, vn, i);
+        let x = term(m, reciprocal, w, p, p_used, q, q_used, v, v_used, u, u_used, i);
         let place = target + i;
         w[place] = x;
-        i += 1;
-    }
-}
-
-// Writes the n first terms of the transposed product of u with p from place target of w on: the sums over j of p_j u_{i+j}, where u
-// ends in zeros.
-pub fn transposed(m: u32, p: &[u32], u: &[u32], w: &mut [u32], target: usize, n: usize)
-    requires { ⌜ ListInput m (now p) (now u) (now w) target n ⌝ }
-    ensures { λ _. ⌜ now (w .exit) ≡ written (now (w .entry)) target (transposed m n (now (p .entry)) (now (u .entry))) ⌝ }
-{
-    let reciprocal = reduction::reciprocal(m);
-    let mut i: usize = 0;
-    while i < n {
-        let place = target + i;
-        w[place] = transposed_at(m, reciprocal, p, u, i);
         i += 1;
     }
 }

@@ -4,12 +4,12 @@ use borrow.Author.Needs.{needs}
 use Rattle.products.proofs.term.Statement.{statement}
 use Rattle.products.proofs.term.Tie as tie
 
-transposed-sum-at-requires : tie.Need-transposed-sum-at-requires
-transposed-sum-at-requires c κs =
-    term-input _ _ _ _ _ _ _ _ _ (c .before .before .before .before .before .args .i) (c .before .before .before .before .before .pre)
+transposed-at-requires : tie.Need-transposed-at-requires
+transposed-at-requires c κs =
+    term-input _ _ _ _ _ _ _ _ _ _ _ (c .before .before .before .before .before .args .i) (c .before .before .before .before .before .pre)
 
 returns : tie.Need-returns
-returns c = term-is _ _ _ _ _ _ _ _ _ _ (c .before .before .before .before .before .before .pre) _ (c .transposed-sum-at .ensures)
+returns c = term-is _ _ _ _ _ _ _ _ _ _ _ _ (c .before .before .before .before .before .before .pre) _ (c .transposed-at .ensures)
 
 pub term-spec : {M : Type 1} → statement M
 term-spec =
@@ -17,4 +17,4 @@ term-spec =
     (tie.spec
     (search needs) (search needs) (search needs) (search needs) (search needs) (search needs) (search needs) (search needs) (search needs)
     (search needs) (search needs) (search needs) (search needs) (search needs) (search needs) (search needs) (search needs) (search needs)
-    (search needs) (search needs) transposed-sum-at-requires returns)
+    (search needs) (search needs) transposed-at-requires returns)

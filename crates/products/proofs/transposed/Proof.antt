@@ -1,31 +1,51 @@
--- `products::transposed` meets its contract: the loop's invariant is that i terms stand from place target on (`Writing`) and the
--- rest is as it was; the measure is what is left of them. Assumes nothing.
+-- `products::transposed` meets its contract: the loop's invariant is that i terms stand from place target on (`Writing`) and the rest is
+-- as it was; zeros at the end of a part change none of them. The measure is what is left of them. Assumes nothing.
 use Prim.Native.Nat.{_-_}
 use native.Mathlib.Omega.{arith}
 use Rattle.numbers.specs.Regions.{Writing, writing-starts}
-use Rattle.products.specs.Places.{listEntry, list-input, list-next, list-ends}
+use Rattle.products.specs.Places.{transposedEntry, transposed-term, transposed-next, transposed-ends}
 use Rattle.products.proofs.transposed.Statement.{statement}
 use Rattle.products.proofs.transposed.Tie as tie
 
 abbrev Inv-loop : tie.InvT-loop
-Inv-loop m p u w₀ target n reciprocal i₀ w i = Writing w₀ target n (listEntry m p u) w i
+Inv-loop m reciprocal w₀ target n p pn q qn v vn u un p-used q-used v-used u-used i₀ w i =
+    Writing w₀ target n (transposedEntry m w₀ p pn q qn v vn u un) w i
 
 abbrev μ-loop : tie.MeasureT-loop
-μ-loop m p u w₀ target n reciprocal i₀ w i = n - i
+μ-loop m reciprocal w₀ target n p pn q qn v vn u un p-used q-used v-used u-used i₀ w i = n - i
 
-reciprocal-requires : tie.Need-reciprocal-requires Inv-loop μ-loop
-reciprocal-requires c κs = c .before .before .before .pre .least
+used-length-requires : tie.Need-used-length-requires Inv-loop μ-loop
+used-length-requires c κs = let start = c .before .before in (start .pre .pAside .source .inside, start .pre .pAside .source .inside)
+
+used-length-requires-2 : tie.Need-used-length-requires-2 Inv-loop μ-loop
+used-length-requires-2 c κs =
+    let start = c .before .before .before .before in
+    (start .pre .qAside .source .inside, start .pre .qAside .source .inside)
+
+used-length-requires-3 : tie.Need-used-length-requires-3 Inv-loop μ-loop
+used-length-requires-3 c κs =
+    let start = c .before .before .before .before .before .before in
+    (start .pre .vAside .source .inside, start .pre .vAside .source .inside)
+
+used-length-requires-4 : tie.Need-used-length-requires-4 Inv-loop μ-loop
+used-length-requires-4 c κs =
+    let start = c .before .before .before .before .before .before .before .before in
+    (start .pre .uAside .source .inside, start .pre .uAside .source .inside)
 
 loop-holds : tie.Need-loop-holds Inv-loop μ-loop
-loop-holds c = writing-starts _ _ _ _ (c .before .before .before .before .pre .room)
+loop-holds c = writing-starts _ _ _ _ (c .before .before .before .before .before .before .before .before .before .pre .room)
+
+term-requires : tie.Need-term-requires Inv-loop μ-loop
+term-requires c κs =
+    let loop = c .before .before in
+    let used = loop .before in
+    let start = used .before .before .before .before .before .before .before .before .before in
+    transposed-term _ _ _ _ _ _ _ _ _ _ _ _ _ (start .pre) _ _ (c .before .loop-test .taken) (loop .loop .inv)
+    (used .before .before .before .before .before .before .used-length .ensures) (used .before .before .before .before .used-length2 .ensures)
+    (used .before .before .used-length3 .ensures) (used .used-length4 .ensures)
 
 add-place : tie.Need-add-place Inv-loop μ-loop
 add-place c = omega arith
-
-transposed-at-requires : tie.Need-transposed-at-requires Inv-loop μ-loop
-transposed-at-requires c κs =
-    let loop = c .before in
-    list-input _ _ _ _ _ _ (loop .before .before .before .before .before .pre) _ (loop .before .reciprocal .ensures)
 
 mul-w : tie.Need-mul-w Inv-loop μ-loop
 mul-w c = omega arith
@@ -41,19 +61,22 @@ loop-less c = omega arith
 
 loop-again : tie.Need-loop-again Inv-loop μ-loop
 loop-again c =
-    let loop = c .before .before in
-    list-next _ _ _ _ _ _ (loop .before .before .before .before .before .pre) _ _ _ (c .before .loop-test .taken) (loop .loop .inv)
-    (c .transposed-at .ensures)
+    let loop = c .before .before .before in
+    let used = loop .before in
+    let start = used .before .before .before .before .before .before .before .before .before in
+    transposed-next _ _ _ _ _ _ _ _ _ _ _ _ _ (start .pre) _ _ (c .before .before .loop-test .taken) (loop .loop .inv)
+    (used .before .before .before .before .before .before .used-length .ensures) (used .before .before .before .before .used-length2 .ensures)
+    (used .before .before .used-length3 .ensures) (used .used-length4 .ensures) _ (c .term .ensures)
 
 same-length : tie.Need-same-length Inv-loop μ-loop
 same-length c = omega arith
 
 returns : tie.Need-returns Inv-loop μ-loop
-returns c = list-ends _ _ _ _ _ _ (c .before .before .before .before .before .before .pre) _ _ (c .loop-test .left) (c .before .loop .inv)
+returns c = transposed-ends _ _ _ _ _ _ _ _ _ _ _ _ _ _ (c .loop-test .left) (c .before .loop .inv)
 
 pub transposed-spec : {M : Type 1} → statement M
 transposed-spec =
     tie.close
     (tie.spec
-    Inv-loop μ-loop reciprocal-requires loop-holds add-place transposed-at-requires mul-w slice-write-w add-i loop-less loop-again
-    same-length returns)
+    Inv-loop μ-loop used-length-requires used-length-requires-2 used-length-requires-3 used-length-requires-4 loop-holds term-requires
+    add-place mul-w slice-write-w add-i loop-less loop-again same-length returns)

@@ -1,0 +1,218 @@
+-- The sum of term i of two transposed products, of v with p and of u with q: the sums over j of p_j v_{i+j} and of q_j u_{i+j}.
+--   transposedTerm p w i j     p_j w_{i+j}, zero past the end of either
+--   Reach p v i end            all p_j v_{i+j} with j below end lie within both lists, and fit
+--   SinglesInput, PairsInput   what a part of the sum is taken of: of one of the two products, of both side by side
+--   TransposedInput            what the whole is taken of: residues
+-- Proved: how each part begins, goes on and ends; the two tails and the part of both make up the sum; the entries settle a term, so that
+-- zeros at the end of either list change none; a multiplier may be taken as two pieces, each with its piece of the list.
+-- Assumes nothing.
+use mathlib.Core.Path.{_≡_, refl, sym, _∙_, ap, ap₂}
+use mathlib.Core.List.{List}
+use Prim.Native.Nat.{ℕ, _+_, _*_, _-_, _%_, _≤_, _<_}
+use native.Mathlib.Decide.{decLt}
+use native.Mathlib.Nat.{add-zero, zero-add}
+use native.Mathlib.Omega.{arith}
+use lib.ListN.{length, getD}
+use Rattle.definitions.specs.Number.{sum}
+use Rattle.numbers.specs.Products.{Below, transposedAt}
+use Rattle.numbers.specs.Sums.{sum-equal, sum-split, sum-cut, sum-both}
+use Rattle.reduction.specs.Reciprocal.{word}
+use Rattle.reduction.specs.Wrapping.{Reducible, WrapsAfter}
+use Rattle.convolution.specs.Coefficients.{past-first, past-second}
+use Rattle.convolution.specs.Totals.{Lesser, SmallNumbers, Added, Totalling, amount, amount-number, pair-fits}
+use Rattle.convolution.specs.Totals.{totalling-starts, totalling-next, totalling-added}
+
+abbrev pub transposedTerm : List ℕ → List ℕ → ℕ → ℕ → ℕ
+transposedTerm p w i j = getD p j 0 * getD w (i + j) 0
+
+abbrev pub Small : List ℕ → Type 0
+Small xs = (j : ℕ) → getD xs j 0 ≤ 2147483647
+
+pub record Reach (p v : List ℕ) (i end : ℕ) : Type 0 where
+  pub multiplier : end ≤ length p
+  pub list : end ≤ length v - i
+  pub pSmall : Small p
+  pub vSmall : Small v
+
+pub record SinglesInput (low wraps : ℕ) (p v : List ℕ) (i first end : ℕ) : Type 0 where
+  pub fits : low < word
+  pub few : wraps ≤ 2305843009213693952
+  pub within : first ≤ end
+  pub reach : Reach p v i end
+
+pub record PairsInput (low wraps : ℕ) (p v q u : List ℕ) (i end : ℕ) : Type 0 where
+  pub fits : low < word
+  pub few : wraps ≤ 4611686018427387904
+  pub first : Reach p v i end
+  pub second : Reach q u i end
+
+pub record TransposedInput (m reciprocal : ℕ) (p v q u : List ℕ) : Type 0 where
+  pub reducible : Reducible m reciprocal
+  pub pBelow : Below m p
+  pub vBelow : Below m v
+  pub qBelow : Below m q
+  pub uBelow : Below m u
+
+-- ---- one product a step
+module _ (low₀ wraps₀ : ℕ) (p v : List ℕ) (i first end : ℕ) (input : SinglesInput low₀ wraps₀ p v i first end) where
+  abbrev single : ℕ → ℕ
+  single = transposedTerm p v i
+
+  abbrev Singles : ℕ → ℕ → ℕ → Type 0
+  Singles = Totalling wraps₀ (amount low₀ wraps₀) first end single
+
+  pub singles-start : Singles first low₀ wraps₀
+  singles-start =
+      totalling-starts wraps₀ (amount low₀ wraps₀) first end single low₀ wraps₀ (input .fits) (omega arith) refl (input .within)
+
+  pub single-small : (j : ℕ) → SmallNumbers (getD p j 0) (getD v (i + j) 0) 0 0
+  single-small j = record {
+    xSmall = input .reach .pSmall j;
+    ySmall = input .reach .vSmall (i + j);
+    uSmall = omega arith;
+    vSmall = omega arith;
+  }
+
+  module _ (j low wraps : ℕ) (h : Singles j low wraps) where
+    pub singles-next : j < end → (x next k : ℕ) → x ≡ single j + 0 * 0 → next ≡ (low + x) % word → WrapsAfter wraps next x k
+        → Singles (j + 1) next k
+    singles-next l x next k e n a =
+        totalling-next wraps₀ (amount low₀ wraps₀) first end single j low wraps x next k l h (e ∙ add-zero (single j))
+        (rw e (pair-fits _ _ _ _ (single-small j))) n a
+
+    pub singles-end : end ≤ j → Added low₀ wraps₀ (end - first) (sum (end - first) (λ t. single (first + t))) low wraps
+    singles-end l = totalling-added low₀ wraps₀ first end single j low wraps l h
+
+-- ---- both products a step
+module _ (low₀ wraps₀ : ℕ) (p v q u : List ℕ) (i end : ℕ) (input : PairsInput low₀ wraps₀ p v q u i end) where
+  abbrev pairTerm : ℕ → ℕ
+  pairTerm j = transposedTerm p v i j + transposedTerm q u i j
+
+  abbrev Pairs : ℕ → ℕ → ℕ → Type 0
+  Pairs = Totalling wraps₀ (amount low₀ wraps₀) 0 end pairTerm
+
+  pub pairs-start : Pairs 0 low₀ wraps₀
+  pairs-start =
+      totalling-starts wraps₀ (amount low₀ wraps₀) 0 end pairTerm low₀ wraps₀ (input .fits) (omega arith) refl (omega arith)
+
+  pub pair-small : (j : ℕ) → SmallNumbers (getD p j 0) (getD v (i + j) 0) (getD q j 0) (getD u (i + j) 0)
+  pair-small j = record {
+    xSmall = input .first .pSmall j;
+    ySmall = input .first .vSmall (i + j);
+    uSmall = input .second .pSmall j;
+    vSmall = input .second .vSmall (i + j);
+  }
+
+  module _ (j low wraps : ℕ) (h : Pairs j low wraps) where
+    pub pairs-next : j < end → (x next k : ℕ) → x ≡ pairTerm j → next ≡ (low + x) % word → WrapsAfter wraps next x k
+        → Pairs (j + 1) next k
+    pairs-next l x next k e n a =
+        totalling-next wraps₀ (amount low₀ wraps₀) 0 end pairTerm j low wraps x next k l h e
+        (rw e (pair-fits _ _ _ _ (pair-small j))) n a
+
+    pub pairs-end : end ≤ j → Added low₀ wraps₀ end (sum end pairTerm) low wraps
+    pairs-end l =
+        let added = totalling-added low₀ wraps₀ 0 end pairTerm j low wraps l h in
+        let all : end - 0 ≡ end = omega arith in
+        let same : sum (end - 0) (λ t. pairTerm (0 + t)) ≡ sum end pairTerm
+        = ap (λ n. sum n (λ t. pairTerm (0 + t))) all ∙ sum-equal end _ _ (λ t _. ap pairTerm (zero-add t)) in
+        record { few = omega (arith, added .few); fits = added .fits; whole = added .whole ∙ ap (λ s. amount low₀ wraps₀ + s) same }
+
+-- ---- the whole
+pub reaches : {room x y end : ℕ} → room ≡ x → Lesser room y end → Lesser x y end
+reaches e h = rw e at h
+
+-- a term is a sum as far as both lists reach
+term-reach : (p v : List ℕ) (i end : ℕ) → Lesser (length v - i) (length p) end → transposedAt p v i ≡ sum end (transposedTerm p v i)
+unfolding transposedAt
+term-reach p v i end h = sum-cut end (length p) (transposedTerm p v i) (h .second) (λ j a b. past-second p v (i + j) j (past j a b (decLt end (length v - i))))
+  where
+    past : (j : ℕ) → end ≤ j → j < length p → Dec (end < length v - i) → length v ≤ i + j
+    past j a b (yes g) = let all : end ≡ length p = h .one g in omega arith
+    past j a b (no g) = omega arith
+
+module _ (m reciprocal : ℕ) (p v q u : List ℕ) (input : TransposedInput m reciprocal p v q u) (i first second both : ℕ)
+    (a : Lesser (length v - i) (length p) first) (b : Lesser (length u - i) (length q) second) (c : Lesser first second both) where
+  small : (xs : List ℕ) → Below m xs → Small xs
+  small xs below j = omega (arith, below j, input .reducible .most)
+
+  reach : (xs ys : List ℕ) (end : ℕ) → Below m xs → Below m ys → end ≤ length xs → end ≤ length ys - i → Reach xs ys i end
+  reach xs ys end x y k l = record { multiplier = k; list = l; pSmall = small xs x; vSmall = small ys y }
+
+  pub tail-first : SinglesInput 0 0 p v i both first
+  tail-first = record {
+    fits = omega arith;
+    few = omega arith;
+    within = c .first;
+    reach = reach p v first (input .pBelow) (input .vBelow) (a .second) (a .first);
+  }
+
+  abbrev tailSum : List ℕ → List ℕ → ℕ → ℕ
+  tailSum xs ys end = sum (end - both) (λ t. transposedTerm xs ys i (both + t))
+
+  module _ (long : length p ≤ 2305843009213693952) {low₁ wraps₁ : ℕ} (d : Added 0 0 (first - both) (tailSum p v first) low₁ wraps₁) where
+    pub tail-second : SinglesInput low₁ wraps₁ q u i both second
+    tail-second = record {
+      fits = d .fits;
+      few = omega (arith, d .few, a .second);
+      within = c .second;
+      reach = reach q u second (input .qBelow) (input .uBelow) (b .second) (b .first);
+    }
+
+    module _ (long′ : length q ≤ 2305843009213693952) {low₂ wraps₂ : ℕ}
+        (e : Added low₁ wraps₁ (second - both) (tailSum q u second) low₂ wraps₂) where
+      pub both-input : PairsInput low₂ wraps₂ p v q u i both
+      both-input = record {
+        fits = e .fits;
+        few = omega (arith, d .few, e .few, a .second, b .second);
+        first = reach p v both (input .pBelow) (input .vBelow) (omega (arith, a .second, c .first)) (omega (arith, a .first, c .first));
+        second = reach q u both (input .qBelow) (input .uBelow) (omega (arith, b .second, c .second)) (omega (arith, b .first, c .second));
+      }
+
+      abbrev frontSum : List ℕ → List ℕ → ℕ
+      frontSum xs ys = sum both (transposedTerm xs ys i)
+
+      -- the front and the tail of each
+      front-tail : (xs ys : List ℕ) (end : ℕ) → Lesser (length ys - i) (length xs) end → both ≤ end
+          → transposedAt xs ys i ≡ frontSum xs ys + tailSum xs ys end
+      front-tail xs ys end h l =
+          let parts : end ≡ both + (end - both) = omega arith in
+          term-reach xs ys i end h ∙ ap (λ k. sum k (transposedTerm xs ys i)) parts ∙ sum-split both (end - both) (transposedTerm xs ys i)
+
+      pub transposed-ends : {low wraps : ℕ}
+          → Added low₂ wraps₂ both (sum both (λ j. transposedTerm p v i j + transposedTerm q u i j)) low wraps
+          → (r : ℕ) → r ≡ (low + wraps * word) % m → r ≡ (transposedAt p v i + transposedAt q u i) % m
+      unfolding amount
+      transposed-ends {low} {wraps} f r g =
+          let x = front-tail p v first a (c .first) in
+          let y = front-tail q u second b (c .second) in
+          let z : sum both (λ j. transposedTerm p v i j + transposedTerm q u i j) ≡ frontSum p v + frontSum q u = sum-both both _ _ in
+          let none = amount-number 0 in
+          let whole : amount low wraps ≡ transposedAt p v i + transposedAt q u i
+          = f .whole ∙ ap₂ _+_ (e .whole ∙ ap (λ k. k + tailSum q u second) (d .whole)) z ∙ gathered none x y in
+          g ∙ ap (λ k. k % m) whole
+        where
+          gathered : {s t : ℕ} → amount 0 0 ≡ 0 → s ≡ frontSum p v + tailSum p v first → t ≡ frontSum q u + tailSum q u second
+              → amount 0 0 + tailSum p v first + tailSum q u second + (frontSum p v + frontSum q u) ≡ s + t
+          gathered n x y = omega arith
+
+-- ---- what settles a term
+-- the sum may go on past the multiplier's end
+term-sum : (p w : List ℕ) (i n : ℕ) → length p ≤ n → transposedAt p w i ≡ sum n (transposedTerm p w i)
+unfolding transposedAt
+term-sum p w i n h = sym (sum-cut (length p) n (transposedTerm p w i) h (λ j a b. past-first p w (i + j) j a))
+
+pub transposed-entries : (p p′ w w′ : List ℕ) (i : ℕ) → ((j : ℕ) → getD p j 0 ≡ getD p′ j 0) → ((k : ℕ) → getD w k 0 ≡ getD w′ k 0)
+    → transposedAt p w i ≡ transposedAt p′ w′ i
+transposed-entries p p′ w w′ i e d =
+    let n = length p + length p′ in
+    term-sum p w i n (omega arith) ∙ sum-equal n _ _ (λ j _. ap₂ _*_ (e j) (d (i + j))) ∙ sym (term-sum p′ w′ i n (omega arith))
+
+-- p and w as two pieces: those of p have h entries and the rest, and the second piece of w begins h places on
+pub transposed-pieces : (p w p₁ w₁ p₂ w₂ : List ℕ) (i h n : ℕ) → length p ≤ h + n → length p₁ ≤ h → length p₂ ≤ n
+    → ((j : ℕ) → j < h → transposedTerm p w i j ≡ transposedTerm p₁ w₁ i j)
+    → ((j : ℕ) → j < n → transposedTerm p w i (h + j) ≡ transposedTerm p₂ w₂ i j)
+    → transposedAt p₁ w₁ i + transposedAt p₂ w₂ i ≡ transposedAt p w i
+transposed-pieces p w p₁ w₁ p₂ w₂ i h n l l₁ l₂ e₁ e₂ =
+    ap₂ _+_ (term-sum p₁ w₁ i h l₁ ∙ sum-equal h _ _ (λ j a. sym (e₁ j a))) (term-sum p₂ w₂ i n l₂ ∙ sum-equal n _ _ (λ j a. sym (e₂ j a)))
+    ∙ sym (sum-split h n (transposedTerm p w i)) ∙ sym (term-sum p w i (h + n) l)
