@@ -17,7 +17,7 @@ ghost use Rattle.subproduct.specs.Descend.{LeafPlaces, DescendInput, Des
 ghost use Rattle.subproduct.specs.AdjointPair.{AdjointPlaces};
 use lists::row_entry;
 use products::add_products;
-use products::transposed_sum;
+use products::transposed;
 use residue::combine;
 
 // The numbers that each half of the stored tree over pairs pairs of rows takes, where there are two pairs at least.
@@ -249,9 +249,38 @@ fn adjoint_pair(
     ensures { λ _. ⌜ now (w .exit) ≡ written (now (w .entry)) target (pairList (adjointPair m n
         (matrixAt (now (w .entry)) matrix qn) (listsAt (now (w .entry)) first second vn))) ⌝ }
 {
+    let reciprocal = reduction::reciprocal(m);
     let row = matrix + (qn + qn);
-    transposed_sum(m, w, target, n, matrix, matrix + qn, qn, first, second, vn);
-    transposed_sum(m, w, target + n, n, row, row + qn, qn, first, second, vn);
+    transposed(
+        m,
+        reciprocal,
+        w,
+        target,
+        n,
+        matrix,
+        qn,
+        matrix + qn,
+        qn,
+        first,
+        vn,
+        second,
+        vn,
+    );
+    transposed(
+        m,
+        reciprocal,
+        w,
+        target + n,
+        n,
+        row,
+        qn,
+        row + qn,
+        qn,
+        first,
+        vn,
+        second,
+        vn,
+    );
 }
 
 fn descend_leaf(w: &mut [u32], first: usize, second: usize, at: usize)
