@@ -35,7 +35,7 @@ use Rattle.subproduct.specs.Build.{BuildInput, padded-below}
 use Rattle.subproduct.specs.Climb.{ClimbInput, ClimbOutput, climbed, climbed-up, climbed-length, climbed-below}
 use Rattle.subproduct.specs.Descend.{DescendInput, DescendOutput, descended-down}
 use Rattle.tree.specs.Input.{Input}
-use Rattle.tree.specs.Root.{LevelOf, RootInput, PairInput, rootLists}
+use Rattle.tree.specs.Root.{LevelOf, RootInput, PairInput, PairOutput, rootLists}
 
 unfoldable pub storedTree : Family → List ℕ
 storedTree f = treeList (padded f) (levelFor (size f)) 0
@@ -242,11 +242,14 @@ module _ {m : ℕ} {a b c curve : List ℕ} {n : ℕ} {output work : List ℕ} (
         }
 
       -- ---- Adjoint
-      pub core-pair : PairInput m first curve n w₁ 9212 width
+      pub core-pair : PairInput m (getD b 0 0) (getD a 0 0) curve n w₁ 9212 width
       core-pair = record {
         modulus = h .rows .modulus;
-        firstBelow = first-below;
+        bBelow = first-below 0;
+        aBelow = first-below 1;
         curveHolds = h .curveHolds;
+        least = omega (arith, two, deep .reaches);
+        covers = omega (arith, deep .reaches);
         room = omega (arith, deep .few, h .workLong, tree-kept .long);
       }
 
@@ -254,25 +257,18 @@ module _ {m : ℕ} {a b c curve : List ℕ} {n : ℕ} {output work : List ℕ} (
       unfolding rootLists rootPair
       root-is = rw (covers, ← first-is)
 
-      module _ {w₂ : List ℕ} (e₂ : w₂ ≡ written w₁ 9212 (pairList (rootLists m width first u))) where
+      module _ {w₂ : List ℕ} (pairs-hold : PairOutput m (getD b 0 0) (getD a 0 0) u w₁ 9212 width w₂) where
         root-length : PairLength width root
         root-length = rw covers (rootPair-length (padded f) level u)
 
         root-long : length (pairList root) ≡ width + width
         root-long = pairList-length width _ root-length
 
-        root-written : w₂ ≡ written w₁ 9212 (pairList root)
-        root-written = e₂ ∙ ap (λ v. written w₁ 9212 (pairList v)) root-is
-
-        root-room : 9212 + length (pairList root) ≤ length w₁
-        root-room = omega (arith, root-long, deep .few, h .workLong, tree-kept .long)
-
         root-kept : KeptOutside 9212 workLength w₁ w₂
-        root-kept = rw root-written
-            (wider (written-kept w₁ 9212 (pairList root) root-room) (omega arith) (omega (arith, root-long, deep .few)))
+        root-kept = wider (pairs-hold .kept) (omega arith) (omega (arith, deep .few))
 
         root-holds : part w₂ 9212 (width + width) ≡ pairList root
-        root-holds = ap₂ (λ v k. part v 9212 k) root-written (sym root-long) ∙ part-written w₁ 9212 _ root-room
+        root-holds = pairs-hold .holds ∙ ap pairList root-is
 
         root-below : ResiduesIn m w₂ 9212 (9212 + (width + width))
         root-below = part-residues m w₂ 9212 (width + width) _ root-holds (pairList-below m _ (rootPair-below (padded f) positive level u))

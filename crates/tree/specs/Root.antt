@@ -1,27 +1,35 @@
 -- The root of the tree: its level, and the first and the last step.
 --   LevelOf n level                level is that of the least tree that covers n rows
 --   CoefficientInput, RootInput    of the last step of Expand, v_0 F_0 + v_1 F_1;  rootEntry  its coefficient of x^k
---   PairInput, rootLists           of the first step of Adjoint: the pair of the transposed products with F_0 and F_1
+--   PairInput, PairOutput          of the first step of Adjoint;  rootLists  the pair of the transposed products with F_0 and F_1
+--   stretched n u                  the entries of u, and zeros behind them, n in all
 -- Proved: what the leading zeros of n - 1 say of the level; each product is handed what it requires, and what is written is Expand's last
 -- sum, Adjoint's first pair. Assumes nothing.
 use mathlib.Core.Path.{_≡_, refl, sym, _∙_, ap, ap₂}
 use mathlib.Core.List.{List, [], _∷_, _++_}
+use mathlib.Core.Logic.{inl, inr}
 use Prim.Native.Nat.{ℕ, zero, suc, _+_, _*_, _-_, _%_, _^_, _≤_, _<_}
-use native.Mathlib.Nat.{one-mul, zero-add, mod-eq-of-lt, two-pow-succ}
+use native.Mathlib.Decide.{decLt}
+use native.Mathlib.Nat.{add-zero, one-mul, zero-add, mod-eq-of-lt, two-pow-succ}
 use native.Mathlib.Omega.{arith}
 use lib.Count.{leadingZeros, leading-top}
-use lib.ListN.{length, getD, take, drop}
+use lib.ListN.{length, getD, take, drop, length-append, List·getD-eq-default}
+use lib.Seq.{length-take-le}
 use Rattle.definitions.specs.Family.{Modulus}
+use Rattle.definitions.specs.Number.{sum, table}
 use Rattle.lists.specs.Held.{Holds, held-below}
 use Rattle.tree_model.specs.Level.{span, span-power, span-two, span-mono, levelFor, level-covers, level-least, level-most, level-unique}
-use Rattle.numbers.specs.Lists.{Filling, filled, filling-stop}
-use Rattle.numbers.specs.Regions.{part, written, ResiduesIn, written-length, written-then}
-use Rattle.numbers.specs.Products.{Below, productAt, plusProduct, transposed, transposed-length}
+use Rattle.numbers.specs.Lists.{Filling, filled, filling-stop, table-length, table-entry, table-equal}
+use Rattle.numbers.specs.Regions.{part, written, ResiduesIn, KeptOutside, part-length, part-entry, part-past, part-residues, part-both}
+use Rattle.numbers.specs.Regions.{part-written, written-kept, kept-wider, kept-then, kept-part, Writing, writing-ends}
+use Rattle.numbers.specs.Products.{Below, productAt, plusProduct, transposedAt, transposed, transposedSum, table-all-below}
+use Rattle.numbers.specs.Products.{transposed-length, transposedSum-length}
 use Rattle.tree_model.specs.Tree.{Pair, F₀}
 use Rattle.reduction.specs.Reciprocal.{Reciprocal}
 use Rattle.reduction.specs.Wrapping.{Reducible}
 use Rattle.convolution.specs.Coefficients.{ProductsInput, product-one}
-use Rattle.products.specs.Places.{Source, ListInput, slice, slice-part, slice-below, slice-length}
+use Rattle.convolution.specs.Terms.{transposed-pieces}
+use Rattle.products.specs.Places.{Source, Aside, TransposedPlaces, slice, slice-part, slice-below, slice-length}
 use Rattle.subproduct.specs.Layout.{Level, pairList}
 
 -- ---- the level
@@ -140,46 +148,193 @@ module _ {m : ℕ} {w : List ℕ} {at span : ℕ} {first : List ℕ} {n : ℕ} {
 unfoldable pub rootLists : ℕ → ℕ → List ℕ → List ℕ → Pair
 rootLists m n first u = record { v0 = transposed m n F₀ u; v1 = transposed m n first u }
 
-pub record PairInput (m : ℕ) (first curve : List ℕ) (n : ℕ) (w : List ℕ) (at span : ℕ) : Type 0 where
-  pub modulus : Modulus m
-  pub firstBelow : Below m first
-  pub curveHolds : Holds m n curve
-  pub room : at + (span + span) ≤ length w
+unfoldable pub stretched : ℕ → List ℕ → List ℕ
+stretched n u = table n (λ i. getD u i 0)
 
-module _ {m : ℕ} {first curve : List ℕ} {n : ℕ} {w : List ℕ} {at span : ℕ} (h : PairInput m first curve n w at span) where
+pub stretch-ends : (u : List ℕ) {w₀ w : List ℕ} {at n i : ℕ} → Writing w₀ at n (λ i. getD u i 0) w i → n ≤ i → w ≡ written w₀ at (stretched n u)
+unfolding stretched
+stretch-ends u h l = writing-ends _ _ _ _ _ _ h l
+
+pub record PairInput (m b a : ℕ) (curve : List ℕ) (n : ℕ) (w : List ℕ) (at span : ℕ) : Type 0 where
+  pub modulus : Modulus m
+  pub bBelow : b < m
+  pub aBelow : a < m
+  pub curveHolds : Holds m n curve
+  pub least : 1 ≤ span
+  pub covers : n ≤ span
+  pub room : at + span + span + 2 ≤ length w
+
+pub record PairOutput (m b a : ℕ) (u w : List ℕ) (at span : ℕ) (w′ : List ℕ) : Type 0 where
+  pub holds : part w′ at (span + span) ≡ pairList (rootLists m span (b ∷ a ∷ []) u)
+  pub kept : KeptOutside at (at + span + span + 2) w w′
+
+module _ {m b a : ℕ} {curve : List ℕ} {n : ℕ} {w : List ℕ} {at span : ℕ} (h : PairInput m b a curve n w at span) where
   abbrev u : List ℕ
   u = take n curve
 
-  list-input : (p w′ : List ℕ) (at′ : ℕ) → Below m p → at′ + span ≤ length w′ → ListInput m p u w′ at′ span
-  list-input p w′ at′ below room =
-      let positive : 0 < m = omega (arith, h .modulus .least) in
-      record {
-        least = positive;
-        most = h .modulus .greatest;
-        pBelow = below;
-        uBelow = held-below m n curve positive (h .curveHolds);
-        room = room;
+  abbrev first : List ℕ
+  first = b ∷ a ∷ []
+
+  abbrev behind : ℕ
+  behind = at + span + span
+
+  pair-positive : 0 < m
+  pair-positive = omega (arith, h .modulus .least)
+
+  curve-below : Below m u
+  curve-below = held-below m n curve pair-positive (h .curveHolds)
+
+  stretched-length : length (stretched span u) ≡ span
+  unfolding stretched
+  stretched-length = table-length span _
+
+  stretched-below : Below m (stretched span u)
+  unfolding stretched
+  stretched-below = table-all-below m span _ pair-positive (λ i _. curve-below i)
+
+  first-below : Below m first
+  first-below zero = h .bBelow
+  first-below (suc zero) = h .aBelow
+  first-below (suc (suc i)) = pair-positive
+
+  -- F_0 is 1, and its transposed product is the curve
+  zeroth-is : stretched span u ≡ transposed m span F₀ u
+  unfolding stretched transposed transposedAt sum
+  zeroth-is = table-equal span _ _ (λ i l. sym (ap (λ x. x % m) (zero-add _ ∙ one-mul _ ∙ ap (λ k. getD u k 0) (add-zero i))
+      ∙ mod-eq-of-lt (curve-below i)))
+
+  pub pair-stretch : (n ≤ length curve) × (at + span ≤ length w)
+  pair-stretch = (h .curveHolds .long, omega (arith, h .room))
+
+  module _ {w₁ : List ℕ} (e₁ : w₁ ≡ written w at (stretched span u)) where
+    stretch-kept : KeptOutside at (at + span) w w₁
+    stretch-kept = rw e₁ (kept-wider _ _ _ _ _ _ (omega arith) (omega (arith, stretched-length))
+        (written-kept w at (stretched span u) (omega (arith, stretched-length, h .room))))
+
+    pub pair-store : behind + 2 ≤ length w₁
+    pair-store = omega (arith, stretch-kept .long, h .room)
+
+    module _ {w₂ : List ℕ} (e₂ : w₂ ≡ written w₁ behind first) where
+      store-kept : KeptOutside behind (behind + 2) w₁ w₂
+      store-kept = rw e₂ (written-kept w₁ behind first pair-store)
+
+      list-holds : part w₂ at span ≡ stretched span u
+      list-holds = kept-part behind (behind + 2) w₁ w₂ store-kept at span (inl (omega arith))
+          ∙ ap₂ (λ v k. part v at k) e₁ (sym stretched-length) ∙ part-written w at (stretched span u) (omega (arith, stretched-length, h .room))
+
+      first-holds : part w₂ behind 2 ≡ first
+      first-holds = ap (λ v. part v behind 2) e₂ ∙ part-written w₁ behind first pair-store
+
+      list-residues : ResiduesIn m w₂ at (at + span)
+      list-residues = part-residues m w₂ at span (stretched span u) list-holds stretched-below
+
+      first-residues : ResiduesIn m w₂ behind (behind + 2)
+      first-residues = part-residues m w₂ behind 2 first first-holds first-below
+
+      before : (p k : ℕ) → at ≤ p → p + k ≤ at + span → Aside m w₂ (at + span) (at + span + span) p k
+      before p k lo hi = record {
+        source = record { inside = omega (arith, store-kept .long, pair-store); below = λ i x y. list-residues i (omega arith) (omega arith) };
+        apart = inl hi;
       }
 
-  one-below : Below m F₀
-  one-below zero = omega (arith, h .modulus .least)
-  one-below (suc i) = omega (arith, h .modulus .least)
+      after : (p k : ℕ) → behind ≤ p → p + k ≤ behind + 2 → Aside m w₂ (at + span) (at + span + span) p k
+      after p k lo hi = record {
+        source = record { inside = omega (arith, store-kept .long, pair-store); below = λ i x y. first-residues i (omega arith) (omega arith) };
+        apart = inr lo;
+      }
 
-  pub pair-first : ListInput m F₀ u w at span
-  pair-first = list-input F₀ w at one-below (omega (arith, h .room))
+      pub pair-places : {reciprocal : ℕ} → Reciprocal m reciprocal
+          → TransposedPlaces m reciprocal w₂ (at + span) span behind 1 (behind + 1) 1 at span (at + 1) (span - 1)
+      pair-places held = record {
+        reducible = record { most = h .modulus .greatest; reciprocal = held };
+        room = omega (arith, store-kept .long, pair-store);
+        pAside = after behind 1 (omega arith) (omega arith);
+        qAside = after (behind + 1) 1 (omega arith) (omega arith);
+        vAside = before at span (omega arith) (omega arith);
+        uAside = before (at + 1) (span - 1) (omega arith) (omega (arith, h .least));
+      }
 
-  module _ {w₁ : List ℕ} (e₁ : w₁ ≡ written w at (transposed m span F₀ u)) where
-    first-length : length (transposed m span F₀ u) ≡ span
-    first-length = transposed-length m span F₀ u
+      abbrev summed : List ℕ
+      summed = transposedSum m span (part w₂ behind 1) (part w₂ at span) (part w₂ (behind + 1) 1) (part w₂ (at + 1) (span - 1))
 
-    pub pair-second : ListInput m first u w₁ (at + span) span
-    pair-second =
-        let long : length w₁ ≡ length w
-        = ap length e₁ ∙ written-length w at (transposed m span F₀ u) (omega (arith, first-length, h .room)) in
-        list-input first w₁ (at + span) (h .firstBelow) (omega (arith, h .room))
+      -- entry i of the list that stands, and zero past the curve
+      list-entry : (i : ℕ) → i < span → getD w₂ (at + i) 0 ≡ getD u i 0
+      unfolding stretched
+      list-entry i l = sym (part-entry w₂ at span i l) ∙ ap (λ t. getD t i 0) list-holds ∙ table-entry span _ i 0 l
 
-    pub pair-written : {w₂ : List ℕ} → w₂ ≡ written w₁ (at + span) (transposed m span first u)
-        → w₂ ≡ written w at (pairList (rootLists m span first u))
-    unfolding pairList rootLists
-    pair-written {w₂} e₂ = written-then w at (transposed m span F₀ u) (at + span) (transposed m span first u) w₁ w₂
-        (omega (arith, first-length, transposed-length m span first u, h .room)) (ap (λ x. at + x) (sym first-length)) e₁ e₂
+      curve-past : getD u span 0 ≡ 0
+      curve-past = List·getD-eq-default u 0 {n = span} (omega (arith, length-take-le n curve (h .curveHolds .long), h .covers))
+
+      first-entry : (k : ℕ) → k < 2 → getD w₂ (behind + k) 0 ≡ getD first k 0
+      first-entry k l = sym (part-entry w₂ behind 2 k l) ∙ ap (λ t. getD t k 0) first-holds
+
+      list-next : (i : ℕ) → i < span → getD (part w₂ (at + 1) (span - 1)) i 0 ≡ getD u (i + 1) 0
+      list-next i l = by (decLt i (span - 1))
+        where
+          by : Dec (i < span - 1) → getD (part w₂ (at + 1) (span - 1)) i 0 ≡ getD u (i + 1) 0
+          by (yes g) =
+              let e : at + 1 + i ≡ at + (i + 1) = omega arith in
+              part-entry w₂ (at + 1) (span - 1) i g ∙ ap (λ k. getD w₂ k 0) e ∙ list-entry (i + 1) (omega arith)
+          by (no g) =
+              let e : i + 1 ≡ span = omega arith in
+              part-past w₂ (at + 1) (span - 1) i (omega arith) ∙ sym (ap (λ k. getD u k 0) e ∙ curve-past)
+
+      first-is : summed ≡ transposed m span first u
+      unfolding transposedSum transposed
+      first-is = table-equal span _ _ (λ i l. ap (λ x. x % m)
+          (transposed-pieces first u (part w₂ behind 1) (part w₂ at span) (part w₂ (behind + 1) 1) (part w₂ (at + 1) (span - 1)) i 1 1
+          (omega arith) (omega (arith, part-length w₂ behind 1)) (omega (arith, part-length w₂ (behind + 1) 1))
+          (λ j g. lower i j l g) (λ j g. upper i j l g)))
+        where
+          lower : (i j : ℕ) → i < span → j < 1
+              → getD first j 0 * getD u (i + j) 0 ≡ getD (part w₂ behind 1) j 0 * getD (part w₂ at span) (i + j) 0
+          lower i zero l g =
+              let e : i + 0 ≡ i = omega arith in
+              ap₂ _*_ (sym (part-entry w₂ behind 1 0 (omega arith) ∙ first-entry 0 (omega arith)))
+              (ap (λ k. getD u k 0) e ∙ sym (list-entry i l) ∙ sym (part-entry w₂ at span i l) ∙ ap (λ k. getD (part w₂ at span) k 0) (sym e))
+          lower i (suc j) l g = absurd (omega arith)
+
+          upper : (i j : ℕ) → i < span → j < 1 → getD first (1 + j) 0 * getD u (i + (1 + j)) 0
+              ≡ getD (part w₂ (behind + 1) 1) j 0 * getD (part w₂ (at + 1) (span - 1)) (i + j) 0
+          upper i zero l g =
+              let e : i + 0 ≡ i = omega arith in
+              let d : behind + 1 + 0 ≡ behind + 1 = omega arith in
+              ap₂ _*_ (sym (part-entry w₂ (behind + 1) 1 0 (omega arith) ∙ ap (λ k. getD w₂ k 0) d ∙ first-entry 1 (omega arith)))
+              (sym (list-next i l) ∙ ap (λ k. getD (part w₂ (at + 1) (span - 1)) k 0) (sym e))
+          upper i (suc j) l g = absurd (omega arith)
+
+      pub pair-output : {w₃ : List ℕ} → w₃ ≡ written w₂ (at + span) summed → PairOutput m b a u w at span w₃
+      unfolding pairList rootLists
+      pair-output {w₃} e₃ = record {
+        holds = ap (part w₃ at) both-long ∙ part-both w₃ at (transposed m span F₀ u) (transposed m span first u) zeroth-holds first-there;
+        kept = kept-then at (behind + 2) w w₁ w₃
+            (kept-wider _ _ _ _ _ _ (omega arith) (omega arith) stretch-kept)
+            (kept-then at (behind + 2) w₁ w₂ w₃ (kept-wider _ _ _ _ _ _ (omega arith) (omega arith) store-kept)
+            (kept-wider _ _ _ _ _ _ (omega arith) (omega (arith, summed-length)) last-kept));
+      }
+        where
+          summed-length : length summed ≡ span
+          summed-length = transposedSum-length m span _ _ _ _
+
+          last-room : at + span + length summed ≤ length w₂
+          last-room = omega (arith, summed-length, store-kept .long, pair-store)
+
+          last-kept : KeptOutside (at + span) (at + span + length summed) w₂ w₃
+          last-kept = rw e₃ (written-kept w₂ (at + span) summed last-room)
+
+          zeroth-length : length (transposed m span F₀ u) ≡ span
+          zeroth-length = transposed-length m span F₀ u
+
+          first-length : length (transposed m span first u) ≡ span
+          first-length = transposed-length m span first u
+
+          both-long : span + span ≡ length (transposed m span F₀ u ++ transposed m span first u)
+          both-long = sym (length-append (transposed m span F₀ u) (transposed m span first u) ∙ ap₂ _+_ zeroth-length first-length)
+
+          zeroth-holds : part w₃ at (length (transposed m span F₀ u)) ≡ transposed m span F₀ u
+          zeroth-holds = ap (part w₃ at) zeroth-length
+              ∙ kept-part (at + span) (at + span + length summed) w₂ w₃ last-kept at span (inl (omega arith)) ∙ list-holds ∙ zeroth-is
+
+          first-there : part w₃ (at + length (transposed m span F₀ u)) (length (transposed m span first u)) ≡ transposed m span first u
+          first-there = ap₂ (λ x y. part w₃ (at + x) y) zeroth-length (first-length ∙ sym summed-length)
+              ∙ ap (λ v. part v (at + span) (length summed)) e₃ ∙ part-written w₂ (at + span) summed last-room ∙ first-is

@@ -1,22 +1,23 @@
 // Expand and Adjoint by the subproduct tree, on input that is already checked. Both work in the first 16,384 numbers of the working list and
 // leave zeros there: the tree from place 0 on, the vectors and their scratch from place 9,212 on.
 ghost use mathlib.Core.Path.{_≡_};
-ghost use mathlib.Core.List.{_++_};
+ghost use mathlib.Core.List.{[], _∷_, _++_};
 ghost use Prim.Native.Nat.{_+_, _-_, _≤_};
-ghost use lib.ListN.{take, drop};
+ghost use lib.ListN.{length, take, drop};
 ghost use Rattle.definitions.specs.Family.{ones};
 ghost use Rattle.lists.specs.Held.{Output};
 ghost use Rattle.lists.specs.Lent.{lent};
 ghost use Rattle.numbers.specs.Regions.{part, written};
 ghost use Rattle.numbers.specs.Products.{plusProduct};
 ghost use Rattle.tree_model.specs.Tree.{treeExpand, treeAdjoint};
-ghost use Rattle.subproduct.specs.Layout.{Level, pairList};
-ghost use Rattle.tree.specs.Root.{LevelOf, RootInput, CoefficientInput, PairInput, rootEntry, rootLists};
+ghost use Rattle.subproduct.specs.Layout.{Level};
+ghost use Rattle.tree.specs.Root.{LevelOf, RootInput, CoefficientInput, rootEntry, PairInput, PairOutput, stretched};
 ghost use Rattle.tree.specs.Input.{Input};
 ghost use Rattle.tree.specs.Core.{TreeOutput, expandVectors, adjointVectors};
 use convolution::products_at;
 use lists::clear;
 use lists::copy;
+use lists::row_entry;
 use products::transposed;
 use subproduct::build;
 use subproduct::climb;
@@ -88,15 +89,63 @@ fn expand_root(
     }
 }
 
-// Writes the pair of the root: the transposed products of the curve with F_0 and F_1.
-fn root_pair(m: u32, first: &[u32], curve: &[u32], n: usize, w: &mut [u32], at: usize, span: usize)
-    requires { ⌜ PairInput m (now first) (now curve) n (now w) at span ⌝ }
-    ensures { λ _. ⌜ now (w .exit) ≡ written (now (w .entry)) at
-        (pairList (rootLists m span (now (first .entry)) (take n (now (curve .entry))))) ⌝ }
+// Writes the first n entries of the curve from place at on, and zeros behind them, span numbers in all.
+fn stretch(curve: &[u32], n: usize, w: &mut [u32], at: usize, span: usize)
+    requires { ⌜ (n ≤ length (now curve)) × (at + span ≤ length (now w)) ⌝ }
+    ensures { λ _. ⌜ now (w .exit) ≡ written (now (w .entry)) at (stretched span (take n (now (curve .entry)))) ⌝ }
 {
-    let one = [1u32];
-    transposed(m, &one, &curve[..n], w, at, span);
-    transposed(m, first, &curve[..n], w, at + span, span);
+    let mut i: usize = 0;
+    while i < span {
+        let place = at + i;
+        w[place] = row_entry(curve, n, i, 0);
+        i += 1;
+    }
+}
+
+fn store_two(w: &mut [u32], at: usize, x: u32, y: u32)
+    requires { ⌜ at + 2 ≤ length (now w) ⌝ }
+    ensures { λ _. ⌜ now (w .exit) ≡ written (now (w .entry)) at (x ∷ y ∷ []) ⌝ }
+{
+    let next = at + 1;
+    w[at] = x;
+    w[next] = y;
+}
+
+// Writes the pair of the root from place at on: the transposed products of the curve with F_0 = 1, which is the curve, and with
+// F_1 = b + a x. Behind the pair F_1 is left.
+fn root_pair(
+    m: u32,
+    b: u32,
+    a: u32,
+    curve: &[u32],
+    n: usize,
+    w: &mut [u32],
+    at: usize,
+    span: usize,
+)
+    requires { ⌜ PairInput m b a (now curve) n (now w) at span ⌝ }
+    ensures { λ _. ⌜ PairOutput m b a (take n (now (curve .entry))) (now (w .entry)) at span (now (w .exit)) ⌝ }
+{
+    let reciprocal = reduction::reciprocal(m);
+    let second = at + span;
+    let behind = second + span;
+    stretch(curve, n, w, at, span);
+    store_two(w, behind, b, a);
+    transposed(
+        m,
+        reciprocal,
+        w,
+        second,
+        span,
+        behind,
+        1,
+        behind + 1,
+        1,
+        at,
+        span,
+        at + 1,
+        span - 1,
+    );
 }
 
 // Expand with two entries at least: the tree is stored, the pairs climb it to the root, and the root's pair gives the coefficients. The
@@ -143,11 +192,10 @@ fn adjoint_tree(
 {
     let level = level_for(n);
     let pairs = pairs_for(level);
-    let first = [b[0], a[0]];
     let second = 9212 + (pairs + pairs);
     let at = second + (pairs + pairs);
     build(m, a, b, c, n - 1, work, 0, level, pairs, 0);
-    root_pair(m, &first, curve, n, work, 9212, pairs + pairs);
+    root_pair(m, b[0], a[0], curve, n, work, 9212, pairs + pairs);
     descend(m, work, 0, 9212, second, at, level, pairs);
     copy(&work[at..], n, output);
 }
