@@ -4,7 +4,7 @@
 --   SinglesInput, PairsInput   what a part of the sum is taken of: of one of the two products, of both side by side
 --   TransposedInput            what the whole is taken of: residues
 -- Proved: how each part begins, goes on and ends; the two tails and the part of both make up the sum; the entries settle a term, so that
--- zeros at the end of either list change none; a multiplier may be taken as two pieces, each with its piece of the list.
+-- zeros at the end of either list change none; a multiplier may be taken as two parts side by side.
 -- Assumes nothing.
 use mathlib.Core.Path.{_≡_, refl, sym, _∙_, ap, ap₂}
 use mathlib.Core.List.{List}
@@ -15,6 +15,7 @@ use native.Mathlib.Omega.{arith}
 use lib.ListN.{length, getD}
 use Rattle.definitions.specs.Number.{sum}
 use Rattle.numbers.specs.Products.{Below, transposedAt}
+use Rattle.numbers.specs.Regions.{part, part-length, part-entry, part-past}
 use Rattle.numbers.specs.Sums.{sum-equal, sum-split, sum-cut, sum-both}
 use Rattle.reduction.specs.Reciprocal.{word}
 use Rattle.reduction.specs.Wrapping.{Reducible, WrapsAfter}
@@ -208,11 +209,33 @@ transposed-entries p p′ w w′ i e d =
     let n = length p + length p′ in
     term-sum p w i n (omega arith) ∙ sum-equal n _ _ (λ j _. ap₂ _*_ (e j) (d (i + j))) ∙ sym (term-sum p′ w′ i n (omega arith))
 
--- p and w as two pieces: those of p have h entries and the rest, and the second piece of w begins h places on
-pub transposed-pieces : (p w p₁ w₁ p₂ w₂ : List ℕ) (i h n : ℕ) → length p ≤ h + n → length p₁ ≤ h → length p₂ ≤ n
-    → ((j : ℕ) → j < h → transposedTerm p w i j ≡ transposedTerm p₁ w₁ i j)
-    → ((j : ℕ) → j < n → transposedTerm p w i (h + j) ≡ transposedTerm p₂ w₂ i j)
-    → transposedAt p₁ w₁ i + transposedAt p₂ w₂ i ≡ transposedAt p w i
-transposed-pieces p w p₁ w₁ p₂ w₂ i h n l l₁ l₂ e₁ e₂ =
-    ap₂ _+_ (term-sum p₁ w₁ i h l₁ ∙ sum-equal h _ _ (λ j a. sym (e₁ j a))) (term-sum p₂ w₂ i n l₂ ∙ sum-equal n _ _ (λ j a. sym (e₂ j a)))
-    ∙ sym (sum-split h n (transposedTerm p w i)) ∙ sym (term-sum p w i (h + n) l)
+-- the multiplier, a part, as two parts side by side: the second meets the list h places on
+module _ (w : List ℕ) (at n h : ℕ) (within : h ≤ n) where
+  -- entry h + k of a part is entry k of the part h places on
+  pub part-on : (k : ℕ) → getD (part w at n) (h + k) 0 ≡ getD (part w (at + h) (n - h)) k 0
+  part-on k = by (decLt k (n - h))
+    where
+      by : Dec (k < n - h) → getD (part w at n) (h + k) 0 ≡ getD (part w (at + h) (n - h)) k 0
+      by (yes l) =
+          let there : at + (h + k) ≡ at + h + k = omega arith in
+          part-entry w at n (h + k) (omega arith) ∙ ap (λ i. getD w i 0) there ∙ sym (part-entry w (at + h) (n - h) k l)
+      by (no l) = part-past w at n (h + k) (omega arith) ∙ sym (part-past w (at + h) (n - h) k (omega arith))
+
+  pub transposed-parts : (v v′ : List ℕ) (i : ℕ) → ((k : ℕ) → getD v (h + k) 0 ≡ getD v′ k 0)
+      → transposedAt (part w at h) v i + transposedAt (part w (at + h) (n - h)) v′ i ≡ transposedAt (part w at n) v i
+  transposed-parts v v′ i on =
+      let first = part w at h in
+      let second = part w (at + h) (n - h) in
+      let all : h + (n - h) ≡ n = omega arith in
+      ap₂ _+_ (term-sum first v i h (omega (arith, part-length w at h)) ∙ sum-equal h _ _ front)
+      (term-sum second v′ i (n - h) (omega (arith, part-length w (at + h) (n - h))) ∙ sum-equal (n - h) _ _ rest)
+      ∙ sym (sum-split h (n - h) (transposedTerm (part w at n) v i))
+      ∙ sym (term-sum (part w at n) v i (h + (n - h)) (omega (arith, part-length w at n)))
+    where
+      front : (j : ℕ) → j < h → transposedTerm (part w at h) v i j ≡ transposedTerm (part w at n) v i j
+      front j l = ap (λ x. x * getD v (i + j) 0) (part-entry w at h j l ∙ sym (part-entry w at n j (omega arith)))
+
+      rest : (j : ℕ) → j < n - h → transposedTerm (part w (at + h) (n - h)) v′ i j ≡ transposedTerm (part w at n) v i (h + j)
+      rest j l =
+          let there : h + (i + j) ≡ i + (h + j) = omega arith in
+          ap₂ _*_ (sym (part-on j)) (sym (on (i + j)) ∙ ap (λ k. getD v k 0) there)

@@ -37,7 +37,17 @@ fn coefficient(
 {
     let first = excess(k, n);
     let at = excess(n, k);
-    let sum = transposed_at(m, reciprocal, &q[first..k], divisor, at);
+    let half = (k - first) / 2;
+    let middle = first + half;
+    let sum = transposed_at(
+        m,
+        reciprocal,
+        &q[first..middle],
+        divisor,
+        &q[middle..k],
+        &divisor[half..],
+        at,
+    );
     let top = reversed_entry(numerator, n, k);
     let less = negative(m, reciprocal, sum);
     product_by(m, reciprocal, top + less, inverse)

@@ -19,8 +19,8 @@ use Rattle.definitions.specs.Family.{Modulus}
 use Rattle.definitions.specs.Number.{sum, table}
 use Rattle.lists.specs.Held.{Holds, held-below}
 use Rattle.tree_model.specs.Level.{span, span-power, span-two, span-mono, levelFor, level-covers, level-least, level-most, level-unique}
-use Rattle.numbers.specs.Lists.{Filling, filled, filling-stop, table-length, table-entry, table-equal}
-use Rattle.numbers.specs.Regions.{part, written, ResiduesIn, KeptOutside, part-length, part-entry, part-past, part-residues, part-both}
+use Rattle.numbers.specs.Lists.{Filling, filled, filling-stop, table-length, table-entry, table-past, table-equal}
+use Rattle.numbers.specs.Regions.{part, written, ResiduesIn, KeptOutside, part-residues, part-both}
 use Rattle.numbers.specs.Regions.{part-written, written-kept, kept-wider, kept-then, kept-part, Writing, writing-ends}
 use Rattle.numbers.specs.Products.{Below, productAt, plusProduct, transposedAt, transposed, transposedSum, table-all-below}
 use Rattle.numbers.specs.Products.{transposed-length, transposedSum-length}
@@ -28,7 +28,7 @@ use Rattle.tree_model.specs.Tree.{Pair, F₀}
 use Rattle.reduction.specs.Reciprocal.{Reciprocal}
 use Rattle.reduction.specs.Wrapping.{Reducible}
 use Rattle.convolution.specs.Coefficients.{ProductsInput, product-one}
-use Rattle.convolution.specs.Terms.{transposed-pieces}
+use Rattle.convolution.specs.Terms.{part-on, transposed-parts, transposed-entries}
 use Rattle.products.specs.Places.{Source, Aside, TransposedPlaces, slice, slice-part, slice-below, slice-length}
 use Rattle.subproduct.specs.Layout.{Level, pairList}
 
@@ -257,51 +257,22 @@ module _ {m b a : ℕ} {curve : List ℕ} {n : ℕ} {w : List ℕ} {at span : �
       abbrev summed : List ℕ
       summed = transposedSum m span (part w₂ behind 1) (part w₂ at span) (part w₂ (behind + 1) 1) (part w₂ (at + 1) (span - 1))
 
-      -- entry i of the list that stands, and zero past the curve
-      list-entry : (i : ℕ) → i < span → getD w₂ (at + i) 0 ≡ getD u i 0
+      -- the list that stands has the curve's entries
+      list-entry : (k : ℕ) → getD (part w₂ at span) k 0 ≡ getD u k 0
       unfolding stretched
-      list-entry i l = sym (part-entry w₂ at span i l) ∙ ap (λ t. getD t i 0) list-holds ∙ table-entry span _ i 0 l
-
-      curve-past : getD u span 0 ≡ 0
-      curve-past = List·getD-eq-default u 0 {n = span} (omega (arith, length-take-le n curve (h .curveHolds .long), h .covers))
-
-      first-entry : (k : ℕ) → k < 2 → getD w₂ (behind + k) 0 ≡ getD first k 0
-      first-entry k l = sym (part-entry w₂ behind 2 k l) ∙ ap (λ t. getD t k 0) first-holds
-
-      list-next : (i : ℕ) → i < span → getD (part w₂ (at + 1) (span - 1)) i 0 ≡ getD u (i + 1) 0
-      list-next i l = by (decLt i (span - 1))
+      list-entry k = ap (λ t. getD t k 0) list-holds ∙ by (decLt k span)
         where
-          by : Dec (i < span - 1) → getD (part w₂ (at + 1) (span - 1)) i 0 ≡ getD u (i + 1) 0
-          by (yes g) =
-              let e : at + 1 + i ≡ at + (i + 1) = omega arith in
-              part-entry w₂ (at + 1) (span - 1) i g ∙ ap (λ k. getD w₂ k 0) e ∙ list-entry (i + 1) (omega arith)
-          by (no g) =
-              let e : i + 1 ≡ span = omega arith in
-              part-past w₂ (at + 1) (span - 1) i (omega arith) ∙ sym (ap (λ k. getD u k 0) e ∙ curve-past)
+          by : Dec (k < span) → getD (table span (λ i. getD u i 0)) k 0 ≡ getD u k 0
+          by (yes l) = table-entry span _ k 0 l
+          by (no l) =
+              let short = length-take-le n curve (h .curveHolds .long) in
+              table-past span _ k 0 (omega arith) ∙ sym (List·getD-eq-default u 0 {n = k} (omega (arith, h .covers)))
 
       first-is : summed ≡ transposed m span first u
       unfolding transposedSum transposed
       first-is = table-equal span _ _ (λ i l. ap (λ x. x % m)
-          (transposed-pieces first u (part w₂ behind 1) (part w₂ at span) (part w₂ (behind + 1) 1) (part w₂ (at + 1) (span - 1)) i 1 1
-          (omega arith) (omega (arith, part-length w₂ behind 1)) (omega (arith, part-length w₂ (behind + 1) 1))
-          (λ j g. lower i j l g) (λ j g. upper i j l g)))
-        where
-          lower : (i j : ℕ) → i < span → j < 1
-              → getD first j 0 * getD u (i + j) 0 ≡ getD (part w₂ behind 1) j 0 * getD (part w₂ at span) (i + j) 0
-          lower i zero l g =
-              let e : i + 0 ≡ i = omega arith in
-              ap₂ _*_ (sym (part-entry w₂ behind 1 0 (omega arith) ∙ first-entry 0 (omega arith)))
-              (ap (λ k. getD u k 0) e ∙ sym (list-entry i l) ∙ sym (part-entry w₂ at span i l) ∙ ap (λ k. getD (part w₂ at span) k 0) (sym e))
-          lower i (suc j) l g = absurd (omega arith)
-
-          upper : (i j : ℕ) → i < span → j < 1 → getD first (1 + j) 0 * getD u (i + (1 + j)) 0
-              ≡ getD (part w₂ (behind + 1) 1) j 0 * getD (part w₂ (at + 1) (span - 1)) (i + j) 0
-          upper i zero l g =
-              let e : i + 0 ≡ i = omega arith in
-              let d : behind + 1 + 0 ≡ behind + 1 = omega arith in
-              ap₂ _*_ (sym (part-entry w₂ (behind + 1) 1 0 (omega arith) ∙ ap (λ k. getD w₂ k 0) d ∙ first-entry 1 (omega arith)))
-              (sym (list-next i l) ∙ ap (λ k. getD (part w₂ (at + 1) (span - 1)) k 0) (sym e))
-          upper i (suc j) l g = absurd (omega arith)
+          (transposed-parts w₂ behind 2 1 (omega arith) (part w₂ at span) (part w₂ (at + 1) (span - 1)) i (part-on w₂ at span 1 (h .least))
+          ∙ transposed-entries (part w₂ behind 2) first (part w₂ at span) u i (λ j. ap (λ t. getD t j 0) first-holds) list-entry))
 
       pub pair-output : {w₃ : List ℕ} → w₃ ≡ written w₂ (at + span) summed → PairOutput m b a u w at span w₃
       unfolding pairList rootLists
