@@ -37,6 +37,14 @@ fn blank() -> [u32; 255]
     [0u32; 255]
 }
 
+// A local list for the product of the coefficients with the Hankel matrix of the moments, all zeros: room for 128 terms, from place 128
+// on for 255 moments, and from place 383 on for 128 coefficients.
+fn hankel_room() -> [u32; 511]
+    ensures { λ r. ⌜ r ≡ replicate 511 0 ⌝ }
+{
+    [0u32; 511]
+}
+
 // The first count entries of a list, and then one more.
 fn extend(list: &[u32], count: usize, last: u32) -> [u32; 128]
     requires { ⌜ (count ≤ length (now list)) × (count < 128) ⌝ }
@@ -207,8 +215,10 @@ fn decompose_tree(
         (take n (now (coefficients .entry)))) n
         (now (output .entry)) (now (output .exit)) (now (work .entry)) (now (work .exit)) ⌝ }
 {
-    let mut moment = blank();
-    let mut weighed = blank();
+    let reciprocal = reduction::reciprocal(m);
+    let count = 2 * n - 1;
+    let half = n / 2;
+    let mut lists = hankel_room();
     moments(
         m,
         a,
@@ -220,11 +230,26 @@ fn decompose_tree(
         close_c,
         close_a_inverse,
         n,
-        &mut moment,
+        &mut lists[128..383],
         work,
     );
-    transposed(m, &coefficients[..n], &moment, &mut weighed, 0, n);
-    adjoint(m, a, b, c, &weighed, n, output, work);
+    copy(coefficients, n, &mut lists[383..]);
+    transposed(
+        m,
+        reciprocal,
+        &mut lists,
+        0,
+        n,
+        383,
+        half,
+        383 + half,
+        n - half,
+        128,
+        count,
+        128 + half,
+        count - half,
+    );
+    adjoint(m, a, b, c, &lists, n, output, work);
     divide_by_norms(m, a, c_inverses, close_a, close_c_inverse, n, output);
 }
 

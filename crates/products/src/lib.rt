@@ -192,7 +192,20 @@ pub fn transposed(
     let u_used = used_length(w, u, u, un);
     let mut i: usize = 0;
     while i < n {
-        let x = term(m, reciprocal, w, p, p_used, q, q_used, v, v_used, u, u_used, i);
+        let x = term(
+            m,
+            reciprocal,
+            w,
+            p,
+            p_used,
+            q,
+            q_used,
+            v,
+            v_used,
+            u,
+            u_used,
+            i,
+        );
         let place = target + i;
         w[place] = x;
         i += 1;

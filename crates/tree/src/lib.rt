@@ -113,16 +113,7 @@ fn store_two(w: &mut [u32], at: usize, x: u32, y: u32)
 
 // Writes the pair of the root from place at on: the transposed products of the curve with F_0 = 1, which is the curve, and with
 // F_1 = b + a x. Behind the pair F_1 is left.
-fn root_pair(
-    m: u32,
-    b: u32,
-    a: u32,
-    curve: &[u32],
-    n: usize,
-    w: &mut [u32],
-    at: usize,
-    span: usize,
-)
+fn root_pair(m: u32, b: u32, a: u32, curve: &[u32], n: usize, w: &mut [u32], at: usize, span: usize)
     requires { ⌜ PairInput m b a (now curve) n (now w) at span ⌝ }
     ensures { λ _. ⌜ PairOutput m b a (take n (now (curve .entry))) (now (w .entry)) at span (now (w .exit)) ⌝ }
 {

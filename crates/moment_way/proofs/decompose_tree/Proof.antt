@@ -1,60 +1,91 @@
--- `decompose_tree` meets its contract: the moments, the product with them, Adjoint, and the norms.
+-- `decompose_tree` meets its contract: the moments and the coefficients in one list, the product of both, Adjoint, and the norms.
 -- Assumes nothing.
-use mathlib.Core.Path.{sym}
-use Rattle.moment_way.specs.Decompose.{decompose-length, decompose-hankel, decompose-adjoint, decompose-divide, decompose-is}
+use mathlib.Core.Path.{refl, sym}
+use native.Mathlib.Omega.{arith}
+use Rattle.moment_way.specs.Decompose.{decompose-moments, first-long, decompose-copy, second-long, decompose-hankel}
+use Rattle.moment_way.specs.Decompose.{decompose-adjoint, decompose-divide, decompose-is}
 use borrow.Author.Needs.{needs}
 use Rattle.moment_way.proofs.decompose_tree.Statement.{statement}
 use Rattle.moment_way.proofs.decompose_tree.Tie as tie
 
+reciprocal-requires : tie.Need-reciprocal-requires
+reciprocal-requires c κs =
+    omega (arith, c .before .before .before .before .before .before .before .before .pre .0 .closed .rows .modulus .least)
+
+moments-requires : tie.Need-moments-requires
+moments-requires c κs =
+    let room = c .before .before in
+    let start = room .before .before .before .before .before .before .before .before .before .before in
+    decompose-moments (start .pre .0) (start .pre .1) (room .hankel-room .ensures)
+
+part-lists-end-2 : tie.Need-part-lists-end-2
+part-lists-end-2 c =
+    let moment = c .before .before .before in
+    let room = moment .before .before .before in
+    let start = room .before .before .before .before .before .before .before .before .before .before in
+    omega (arith, first-long (start .pre .0) (start .pre .1) (room .hankel-room .ensures) (moment .moments .ensures) refl)
+
+copy-requires : tie.Need-copy-requires
+copy-requires c κs =
+    let moment = c .before .before .before .before in
+    let room = moment .before .before .before in
+    let start = room .before .before .before .before .before .before .before .before .before .before in
+    decompose-copy (start .pre .0) (start .pre .1) (room .hankel-room .ensures) (moment .moments .ensures) refl
+
 slice-aggregate-transposed : tie.Need-slice-aggregate-transposed
 slice-aggregate-transposed c =
-    let moment = c .before .before .before .before .before .before .before in
-    sym (decompose-length (moment .before .before .before .before .before .before .before .before .before .before .pre .0))
+    let copied = c .before .before in
+    let moment = copied .before .before .before .before .before in
+    let room = moment .before .before .before in
+    let start = room .before .before .before .before .before .before .before .before .before .before in
+    sym (second-long (start .pre .0) (start .pre .1) (room .hankel-room .ensures) (moment .moments .ensures) refl (copied .copy .ensures) refl)
 
 transposed-requires : tie.Need-transposed-requires
 transposed-requires c κs =
-    let moment = c .before .before .before .before .before .before in
-    let blanks = moment .before .before .before in
-    let start = blanks .before .before .before .before .before .before .before .before .before .before in
-    decompose-hankel (start .pre .0) (start .pre .1) (blanks .before .blank .ensures) (blanks .blank2 .ensures)
-    (moment .moments .ensures)
+    let copied = c .before .before in
+    let moment = copied .before .before .before .before .before in
+    let room = moment .before .before .before in
+    let start = room .before .before .before .before .before .before .before .before .before .before in
+    decompose-hankel (start .pre .0) (start .pre .1) (room .hankel-room .ensures) (moment .moments .ensures) refl (copied .copy .ensures) refl _ (omega arith) (room .before .reciprocal .ensures)
 
 adjoint-requires : tie.Need-adjoint-requires
 adjoint-requires c κs =
     let hankel = c .before .before .before .before in
-    let moment = hankel .before .before .before .before .before .before .before in
-    let blanks = moment .before .before .before in
-    let start = blanks .before .before .before .before .before .before .before .before .before .before in
-    decompose-adjoint (start .pre .0) (start .pre .1) (blanks .before .blank .ensures) (blanks .blank2 .ensures)
-    (moment .moments .ensures) (hankel .transposed .ensures)
+    let copied = hankel .before .before .before in
+    let moment = copied .before .before .before .before .before in
+    let room = moment .before .before .before in
+    let start = room .before .before .before .before .before .before .before .before .before .before in
+    decompose-adjoint (start .pre .0) (start .pre .1) (room .hankel-room .ensures) (moment .moments .ensures)
+    refl (copied .copy .ensures) refl _ (omega arith) (hankel .transposed .ensures)
 
 divide-by-norms-requires : tie.Need-divide-by-norms-requires
 divide-by-norms-requires c κs =
     let entries = c .before .before .before .before .before in
     let hankel = entries .before .before .before .before .before in
-    let moment = hankel .before .before .before .before .before .before .before in
-    let blanks = moment .before .before .before in
-    let start = blanks .before .before .before .before .before .before .before .before .before .before in
-    decompose-divide (start .pre .0) (start .pre .1) (blanks .before .blank .ensures) (blanks .blank2 .ensures)
-    (moment .moments .ensures) (hankel .transposed .ensures) (entries .adjoint .ensures)
+    let copied = hankel .before .before .before in
+    let moment = copied .before .before .before .before .before in
+    let room = moment .before .before .before in
+    let start = room .before .before .before .before .before .before .before .before .before .before in
+    decompose-divide (start .pre .0) (start .pre .1) (room .hankel-room .ensures) (moment .moments .ensures)
+    refl (copied .copy .ensures) refl _ (omega arith) (hankel .transposed .ensures) (entries .adjoint .ensures)
 
 returns : tie.Need-returns
 returns c =
     let done = c .before .before in
     let entries = done .before .before .before .before .before .before in
     let hankel = entries .before .before .before .before .before in
-    let moment = hankel .before .before .before .before .before .before .before in
-    let blanks = moment .before .before .before in
-    let start = blanks .before .before .before .before .before .before .before .before .before .before in
-    decompose-is (start .pre .0) (start .pre .1) (blanks .before .blank .ensures) (blanks .blank2 .ensures)
-    (moment .moments .ensures) (hankel .transposed .ensures) (entries .adjoint .ensures) (done .divide-by-norms .ensures)
-
-moments-requires : tie.Need-moments-requires
-moments-requires c κs = search needs
+    let copied = hankel .before .before .before in
+    let moment = copied .before .before .before .before .before in
+    let room = moment .before .before .before in
+    let start = room .before .before .before .before .before .before .before .before .before .before in
+    decompose-is (start .pre .0) (start .pre .1) (room .hankel-room .ensures) (moment .moments .ensures)
+    refl (copied .copy .ensures) refl _ (omega arith) (hankel .transposed .ensures) (entries .adjoint .ensures)
+    (done .divide-by-norms .ensures)
 
 pub decompose-tree-spec : {M : Type 1} → statement M
 decompose-tree-spec =
     tie.close
     (tie.spec
-    (search needs) (search needs) (search needs) moments-requires slice-aggregate-transposed (search needs) (search needs)
-    transposed-requires (search needs) adjoint-requires divide-by-norms-requires (search needs) (search needs) returns)
+    reciprocal-requires (search needs) (search needs) (search needs) (search needs) (search needs) (search needs) moments-requires
+    (search needs) (search needs) part-lists-end-2 copy-requires slice-aggregate-transposed (search needs) (search needs) (search needs)
+    (search needs) transposed-requires (search needs) adjoint-requires divide-by-norms-requires (search needs) (search needs) returns)
