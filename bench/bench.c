@@ -4,14 +4,16 @@
  *
  * full   r = 15, 31, 63 and 127, modulo a prime and a composite number: the least of SAMPLES samples of SAMPLE_TIME or more each,
  *        where the participants take turns, so that what else the machine does hits all alike. Times are processor time. An operation
- *        on a record and the same on lists, which differ by little, take TURNS short turns, and medians are told.
- * short  r = 15 and 127, and single samples of a fraction of that: for the gate, where no time matters.
+ *        on a record and the same on lists, which differ by little, take TURNS short turns, and medians are told. Transposed multiplication
+ *        by itself, at lengths from 16 to 256.
+ * short  r = 15 and 127, lengths 16 and 256 modulo the prime, and single samples of a fraction of that: for the gate, where no time matters.
  * count  r = 127, each call once: for a run under callgrind, which writes the instructions of each call to a file of its own.
  *
- * Before it times anything it compares the answers of all participants on all FAMILIES families, and ends with 1 where two differ. The
- * first family has c_1 = 0: it is Legendre's where m takes it. Every call has another family than the call before it, but where the
- * first family is held against the others: there each is timed by itself. Buffers are not cleared between calls: an output holds the last
- * result, the working list the zeros that each tree call leaves, and clearing it is part of such a call.
+ * Before it times anything it compares the answers of all participants on all FAMILIES families, or on all operands where it times
+ * transposed multiplication, and ends with 1 where two differ. The first family has c_1 = 0: it is Legendre's
+ * where m takes it. Every call has another family than the call before it, but where the first family is held against the others: there
+ * each is timed by itself. Buffers are not cleared between calls: an output holds the last result, the working list the zeros that each tree
+ * call leaves, and clearing it is part of such a call.
  */
 #include <inttypes.h>
 #include <stdbool.h>
@@ -28,6 +30,7 @@
 
 #include "../tests/differential/random.h"
 #include "contest.h"
+#include "transposed.h"
 #include "zahupnik.h"
 
 enum { FAMILIES = 16 };
@@ -35,9 +38,11 @@ enum { FAMILIES = 16 };
 #define SAMPLES 15
 #define TURNS 1001
 #define MOST_FOR_ZERO_C_1 1.05
+#define MOST_FOR_TRANSPOSED 0.60
 #define TEXT_OF(number) QUOTED(number)
 #define QUOTED(number) #number
 
+static const uint32_t moduli[] = {2147483647, 2147483646};
 static const double SAMPLE_TIME = 0.020, SHORT_SAMPLE_TIME = 0.001, TURN_TIME = 0.0002;
 
 /* The packages stand last. */
@@ -144,9 +149,9 @@ static const struct call {
     [TREE_EXPAND] = {"tree Expand", tree_expand, EXPAND, PACKAGE, 0.65},
     {"text, expand", text_expand, EXPAND, TREE, 1.2},
     {"plain Adjoint", plain_adjoint, ADJOINT, BEST, 1.15},
-    {"tree Adjoint", tree_adjoint, ADJOINT, PACKAGE, 0.5},
+    {"tree Adjoint", tree_adjoint, ADJOINT, PACKAGE, 0.45},
     {"plain Decompose", plain_decompose, DECOMPOSE, BEST, 1.15},
-    {"tree Decompose", tree_decompose, DECOMPOSE, PACKAGE, 0.65},
+    {"tree Decompose", tree_decompose, DECOMPOSE, PACKAGE, 0.6},
     {"Moments", moments, MOMENTS, PACKAGE, 0.75},
     {"Norms", norms, NORMS, STRAIGHTFORWARD, 0.35},
     {"Inverse", invert, INVERT, STRAIGHTFORWARD, 1.0},
@@ -275,10 +280,13 @@ static void compare(void) {
     }
 }
 
-/* On these families in turn. The time is of one call: the least over the samples, but in measure_two. */
+/* Converts on these families in turn, or transposes on these operands. The time is of one call: the least over the samples, but in
+ * measure_two. */
 struct participant {
     convert *convert;
     const struct job *families;
+    transpose *transpose;
+    struct operands *operands;
     unsigned count, repetitions;
     double time;
 };
@@ -293,7 +301,10 @@ static double seconds(void) {
 static double sample_of(const struct participant *p) {
     static uint32_t result[MOST_RESULTS];
     double start = seconds();
-    for (unsigned i = 0; i < p->repetitions; i++) p->convert(&p->families[i % p->count], result);
+    if (p->convert)
+        for (unsigned i = 0; i < p->repetitions; i++) p->convert(&p->families[i % p->count], result);
+    else
+        for (unsigned i = 0; i < p->repetitions; i++) p->transpose(&p->operands[i % p->count]);
     return seconds() - start;
 }
 
@@ -373,8 +384,8 @@ static double quicker_package(enum operation operation) {
     return least;
 }
 
-/* The ratios that are held to a bound at the most rows (docs/PERFORMANCE.md). */
-static void print_bounds(uint32_t m) {
+/* The ratios that are held to a bound (docs/PERFORMANCE.md), the calls' at the most rows. */
+static void print_bounds(uint32_t m, double transposed) {
     printf("\nm = %" PRIu32 ", r = %d: the ratios that have a bound\n\n", m, MOST_ROWS);
     printf("| call | against | ratio | at most |\n|---|---|---:|---:|\n");
     for (size_t i = 0; i < CALLS; i++) {
@@ -387,6 +398,7 @@ static void print_bounds(uint32_t m) {
         }
         if (other > 0) printf("| %s | %s | %.2f | %.2f |\n", calls[i].name, against[calls[i].rival], own / other, calls[i].most);
     }
+    printf("| transposed multiplication, at its greatest | whole product in C, cut | %.2f | %.2f |\n", transposed, MOST_FOR_TRANSPOSED);
 }
 
 /* The first family, whose c_1 is 0, held against the mean of the others, each timed by itself. Inverse looks at no family. */
@@ -434,17 +446,52 @@ static void print_records(uint32_t m, size_t r, bool brief) {
     for (size_t i = 0; i < OTHERS; i++) printf("%s: %.2f\n", others[i].name, alone[i].time * 1e6);
 }
 
+/* Transposed multiplication by itself, one product and two added up. Answers the greatest of the ratios to C. */
+static double print_transposed(uint32_t m, bool brief) {
+    static const size_t lengths[] = {16, 64, 128, 256};
+    enum { LENGTHS = sizeof lengths / sizeof *lengths };
+    double greatest = 0;
+    printf("\nm = %" PRIu32 ": microseconds for transposed multiplication by itself: as many terms as the multiplier has numbers, of a list\n"
+           "of twice as many. Beside it whole products that are cut, and the library's time over theirs\n\n",
+           m);
+    printf("| products | length | library |");
+    for (size_t k = C_WAY; k < WAYS; k++) printf(" %s | ratio |", ways[k].name);
+    printf(" to C at most |\n|---|---:|---:|");
+    for (size_t k = C_WAY; k < WAYS; k++) printf("---:|---:|");
+    printf("---:|\n");
+    for (size_t i = 0; i < 2 * LENGTHS; i++) {
+        struct participant by[WAYS];
+        size_t length = lengths[i % LENGTHS];
+        bool two = i / LENGTHS;
+        if (brief && length != 16 && length != 256) continue;
+        make_operands(m, length, two);
+        for (size_t k = 0; k < WAYS; k++) by[k] = (struct participant){.transpose = ways[k].transpose, .operands = operands, .count = OPERANDS};
+        measure(by, WAYS, brief);
+        double own = by[OWN_WAY].time, ratio = own / by[C_WAY].time;
+        if (ratio > greatest) greatest = ratio;
+        printf("| %s | %zu | %.2f |", two ? "two added up" : "one", length, own * 1e6);
+        for (size_t k = C_WAY; k < WAYS; k++) printf(" %.2f | %.2f |", by[k].time * 1e6, own / by[k].time);
+        printf(" %.2f |\n", MOST_FOR_TRANSPOSED);
+    }
+    return greatest;
+}
+
 static void time_all(uint32_t m, size_t r, bool brief) {
-    for (size_t i = 0; i < CALLS; i++) participants[i] = (struct participant){calls[i].convert, jobs, FAMILIES, 0, 0};
+    for (size_t i = 0; i < CALLS; i++)
+        participants[i] = (struct participant){.convert = calls[i].convert, .families = jobs, .count = FAMILIES};
     for (size_t k = 0; k < CONTESTANTS; k++)
         for (enum operation operation = 0; operation < OPERATIONS; operation++)
-            *of_contestant(k, operation) = (struct participant){contestants[k]->convert[operation], jobs, FAMILIES, 0, 0};
+            *of_contestant(k, operation) =
+                (struct participant){.convert = contestants[k]->convert[operation], .families = jobs, .count = FAMILIES};
     measure(participants, sizeof participants / sizeof *participants, brief);
     print_table(m, r);
     print_records(m, r, brief);
     if (r != MOST_ROWS) return;
     print_zero_c_1(m, r, brief);
-    if (!brief) print_bounds(m);
+    if (!brief)
+        print_bounds(m, print_transposed(m, brief));
+    else if (m == moduli[0])
+        print_transposed(m, brief);
 }
 
 /* The second call is counted. A dump sets all counts to zero; this one is named by the modulus, the contestant and the operation, or
@@ -470,7 +517,6 @@ static void count_all(uint32_t m) {
 }
 
 int main(int words, char **word) {
-    static const uint32_t moduli[] = {2147483647, 2147483646};
     static const size_t rows[] = {15, 31, 63, 127};
     bool full = words == 2 && !strcmp(word[1], "full"), brief = words == 2 && !strcmp(word[1], "short");
     bool counts = words == 2 && !strcmp(word[1], "count");
@@ -479,10 +525,11 @@ int main(int words, char **word) {
         return 2;
     }
     if (!counts)
-        printf("Each table stands after all in it gave equal answers on %d families, which then take turns. The library's calls make all\n"
-               "of their tests and the others none. Those that go by a tree build it in each call. Buffers are not cleared between calls:\n"
-               "a tree call clears its working list itself, and that is in its time. Times are processor time, %s.\n",
-               FAMILIES, brief ? "from single short samples, which measure little" : "the least of " TEXT_OF(SAMPLES) " samples");
+        printf("Each table stands after all in it gave equal answers on %d families, or %d sets of operands, which then take turns. The\n"
+               "library's calls make all of their tests and the others none; transposed multiplication by itself has none. Those that go\n"
+               "by a tree build it in each call. Buffers are not cleared between calls: a tree call clears its working list itself, and\n"
+               "that is in its time. Times are processor time, %s.\n",
+               FAMILIES, OPERANDS, brief ? "from single short samples, which measure little" : "the least of " TEXT_OF(SAMPLES) " samples");
     for (size_t i = 0; i < sizeof moduli / sizeof *moduli; i++)
         for (size_t k = 0; k < sizeof rows / sizeof *rows; k++) {
             size_t r = rows[k];

@@ -5,6 +5,7 @@
 #include <flint/nmod_poly.h>
 
 #include "contest.h"
+#include "transposed.h"
 
 enum { LEVELS = 8, LEAVES = 1 << (LEVELS - 1) };
 
@@ -15,7 +16,7 @@ struct node {
 };
 
 static struct node tree[LEVELS][LEAVES];
-static nmod_poly_t one, two, first, list, divisor, numerator;
+static nmod_poly_t one, two, first, list, divisor, numerator, factors[2][2];
 static ulong modulus;
 
 /* A family of r rows, and the modulus. */
@@ -33,6 +34,7 @@ static void each_polynomial(void (*act)(nmod_poly_t, ulong), ulong m) {
                 act(tree[level][i].pair[k], m);
             }
     act(one, m), act(two, m), act(first, m), act(list, m), act(divisor, m), act(numerator, m);
+    for (size_t k = 0; k < 2; k++) act(factors[k][0], m), act(factors[k][1], m);
 }
 
 static void clear(nmod_poly_t p, ulong m) {
@@ -255,3 +257,17 @@ static void moments(const struct job *x, uint32_t *result) {
 }
 
 const struct contestant flint = {"FLINT", {invert, expand, adjoint, decompose, norms, moments}};
+
+void transpose_by_flint(struct operands *x) {
+    prepare(x->m);
+    set_list(factors[0][0], x->turned[0], x->length);
+    set_list(factors[0][1], x->numbers + LIST, 2 * x->length);
+    if (x->two) {
+        set_list(factors[1][0], x->turned[1], x->length);
+        set_list(factors[1][1], x->numbers + SECOND_LIST, 2 * x->length);
+        sum_of_products(list, factors[0][0], factors[0][1], factors[1][0], factors[1][1]);
+    } else
+        nmod_poly_mul(list, factors[0][0], factors[0][1]);
+    for (size_t i = 0; i < x->length; i++)
+        x->numbers[TERMS + i] = (uint32_t)nmod_poly_get_coeff_ui(list, (slong)(x->length - 1 + i));
+}
