@@ -48,7 +48,7 @@ ROWS = (
     "zahupnik_prepared_plain_expand",
     "zahupnik_prepared_plain_adjoint",
 )
-PRODUCTS = ("products::add_products", "subproduct::descend", "record_check::record", "prepared::prepare")
+PRODUCTS = ("products::add_products", "products::transposed", "subproduct::descend", "record_check::record", "prepared::prepare")
 
 JUMP = re.compile(r"(j[a-z]+|loop[a-z]*)\s+([0-9a-f]+) <")
 END = re.compile(r"(ret[qlw]?|ud2|hlt)\b")
@@ -56,12 +56,19 @@ INDIRECT = re.compile(r"(notrack\s+)?jmp[qlw]?\s+\*")
 DIVISION = re.compile(r"i?div[bwlq]?\s")
 
 
+def disassembled(archive, *words):
+    """What objdump writes of the archive's instructions."""
+    if shutil.which("objdump") is None:
+        sys.exit("objdump, of binutils, is not on the PATH")
+    run = subprocess.run(["objdump", "--disassemble", "--no-show-raw-insn", *words, archive], capture_output=True, text=True)
+    if run.returncode:
+        sys.exit(run.stderr.strip() or f"objdump does not take {archive}")
+    return run.stdout
+
+
 def functions(archive):
     """Each function of the archive by its name: its instructions by their address, in order."""
-    if shutil.which("objdump") is None:
-        sys.exit("divisions: objdump, of binutils, is not on the PATH")
-    words = ["objdump", "--disassemble", "--no-show-raw-insn", archive]
-    text = subprocess.run(words, capture_output=True, text=True, check=True).stdout
+    text = disassembled(archive)
     found, body = {}, None
     for line in text.splitlines():
         if match := re.fullmatch(r"[0-9a-f]+ <(.*)>:", line):
@@ -144,13 +151,30 @@ def cycles(nodes, successors):
     return sets
 
 
-def depths(nodes, successors, depth=0):
-    """How many loops stand around each node: a loop's jumps to where it is entered are cut, and what still goes round is within it."""
-    found = dict.fromkeys(nodes, depth)
+def entries(loop, nodes, successors):
+    """Where a loop is entered."""
+    return {t for node in nodes - loop for t in successors[node] if t in loop} or {min(loop)}
+
+
+def one_round(loop, nodes, successors):
+    """The ways within a loop, without those to where it is entered."""
+    entered = entries(loop, nodes, successors)
+    return {node: [t for t in successors[node] if t in loop and t not in entered] for node in loop}
+
+
+def loops(nodes, successors, depth=1):
+    """Each loop, how many stand around its nodes with it, and whether none is within it: that would still go round in one round of it."""
     for loop in cycles(nodes, successors):
-        entered = {t for node in nodes - loop for t in successors[node] if t in loop} or {min(loop)}
-        inside = {node: [t for t in successors[node] if t in loop and t not in entered] for node in loop}
-        found.update(depths(loop, inside, depth + 1))
+        within = list(loops(loop, one_round(loop, nodes, successors), depth + 1))
+        yield loop, depth, not within
+        yield from within
+
+
+def depths(nodes, successors):
+    """How many loops stand around each node."""
+    found = dict.fromkeys(nodes, 0)
+    for loop, depth, _ in loops(nodes, successors):
+        found.update(dict.fromkeys(loop, depth))
     return found
 
 
@@ -187,4 +211,5 @@ def main():
         sys.exit("divisions: the compiler made divisions where the table has none, or the table is of another source")
 
 
-main()
+if __name__ == "__main__":
+    main()

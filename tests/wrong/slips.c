@@ -10,6 +10,9 @@ enum slip {
     HALVES_SWAPPED,
     LOWEST_LEVEL_ONLY,
     PADDING_SHOWS,
+    TRANSPOSED_TERM_MORE,
+    TRANSPOSED_WRAPPED,
+    TRANSPOSED_WHOLE,
     POWERING,
     NON_ZERO,
     C_1_INVERTED,
@@ -85,12 +88,19 @@ static void add_product(uint32_t m, size_t n, uint32_t *sum, const uint32_t *p, 
             sum[i + j] = (uint32_t)((sum[i + j] + (uint64_t)p[i] * q[j]) % m);
 }
 
-/* sum[k] += the sum over i of p[i] list[k + i], for k below n. */
-static void add_transposed(uint32_t m, size_t n, uint32_t *sum, const uint32_t *p, size_t p_length, const uint32_t *list,
-                           size_t list_length) {
+/* sum[k] += the sum over i of p[i] list[k + i], for k below n. Behind is the number that stands after p. */
+static void add_transposed(const struct family *f, size_t n, uint32_t *sum, const uint32_t *p, size_t p_length, uint32_t behind,
+                           const uint32_t *list, size_t list_length) {
+    if (f->slip == TRANSPOSED_WHOLE) {
+        add_product(f->m, n, sum, p, p_length, list, list_length);
+        return;
+    }
+    size_t end = f->slip == TRANSPOSED_TERM_MORE ? p_length + 1 : p_length;
     for (size_t k = 0; k < n; k++)
-        for (size_t i = 0; i < p_length && k + i < list_length; i++)
-            sum[k] = (uint32_t)((sum[k] + (uint64_t)p[i] * list[k + i]) % m);
+        for (size_t i = 0; i < end; i++) {
+            size_t place = f->slip == TRANSPOSED_WRAPPED ? (k + i) % n : k + i;
+            if (place < list_length) sum[k] = (uint32_t)((sum[k] + (uint64_t)(i < p_length ? p[i] : behind) * list[place]) % f->m);
+        }
 }
 
 /* ---- the tree */
@@ -185,18 +195,22 @@ static void down(const struct family *f, size_t span, size_t t, const struct pai
     }
     size_t half = span / 2;
     struct pair right;
-    struct matrix matrix;
+    struct matrix matrix, leaf;
     memset(&right, 0, sizeof right);
     node(f, half, t, &matrix);
+    node(f, 2, t + half, &leaf);
+    /* In the working list a node's lists stand side by side, and behind them the tree over the rows that follow, first its first leaf. */
+    const uint32_t behind[2][2] = {{matrix.at[0][1][0], matrix.at[1][0][0]}, {matrix.at[1][1][0], leaf.at[0][0][0]}};
     for (int i = 0; i < 2; i++)
-        for (int j = 0; j < 2; j++) add_transposed(f->m, half, right.at[i], matrix.at[i][j], half + 1, pair->at[j], span);
+        for (int j = 0; j < 2; j++)
+            add_transposed(f, half, right.at[i], matrix.at[i][j], half + 1, behind[i][j], pair->at[j], span);
     down(f, half, t, pair, result);
     down(f, half, t + half, &right, result);
 }
 
 static void adjoint(const struct family *f, const uint32_t *curve, uint32_t *result) {
     size_t n = f->count + 1, span = covering(n);
-    const uint32_t F_0[] = {1}, F_1[] = {f->b[0], f->a[0]};
+    const uint32_t F_1[] = {f->b[0], f->a[0]};
     uint32_t list[SPAN], all[SPAN];
     struct pair root;
     if (n == 1) {
@@ -205,8 +219,8 @@ static void adjoint(const struct family *f, const uint32_t *curve, uint32_t *res
     }
     for (size_t i = 0; i < span; i++) list[i] = entry(f, curve, i, n);
     memset(&root, 0, sizeof root);
-    add_transposed(f->m, span, root.at[0], F_0, 1, list, span);
-    add_transposed(f->m, span, root.at[1], F_1, 2, list, span);
+    memcpy(root.at[0], list, span * sizeof *list);
+    add_transposed(f, span, root.at[1], F_1, 2, list[0], list, span);
     down(f, span, 0, &root, all);
     memcpy(result, all, n * sizeof *result);
 }
@@ -277,9 +291,7 @@ static void decompose(const struct family *f, const struct family *closed, const
     uint32_t moment[MOST_RESULTS], norm[N], product[N] = {0};
     moments(closed, moment);
     norms(closed, norm);
-    for (size_t i = 0; i < n; i++)
-        for (size_t j = 0; j < n; j++)
-            product[i] = (uint32_t)((product[i] + (uint64_t)moment[i + j] * coefficients[j]) % f->m);
+    add_transposed(f, n, product, coefficients, n, moment[0], moment, 2 * n - 1);
     adjoint(f, product, result);
     for (size_t i = 0; i < n; i++) result[i] = times(result[i], inverse_of_norm(closed, norm, i), f->m);
 }
@@ -357,6 +369,9 @@ uint32_t without_a_slip(const struct call *call) { return answer_with(NONE, call
 uint32_t halves_swapped(const struct call *call) { return answer_with(HALVES_SWAPPED, call); }
 uint32_t lowest_level_only(const struct call *call) { return answer_with(LOWEST_LEVEL_ONLY, call); }
 uint32_t padding_shows(const struct call *call) { return answer_with(PADDING_SHOWS, call); }
+uint32_t transposed_term_more(const struct call *call) { return answer_with(TRANSPOSED_TERM_MORE, call); }
+uint32_t transposed_wrapped(const struct call *call) { return answer_with(TRANSPOSED_WRAPPED, call); }
+uint32_t transposed_whole(const struct call *call) { return answer_with(TRANSPOSED_WHOLE, call); }
 uint32_t powering_untested(const struct call *call) { return answer_with(POWERING, call); }
 uint32_t non_zero_taken(const struct call *call) { return answer_with(NON_ZERO, call); }
 uint32_t c_1_inverted(const struct call *call) { return answer_with(C_1_INVERTED, call); }

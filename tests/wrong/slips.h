@@ -12,6 +12,12 @@ uint32_t halves_swapped(const struct call *call);      /* the left half's matrix
 uint32_t lowest_level_only(const struct call *call);   /* nodes over two pairs of rows are joined; above, the left half stands for both */
 uint32_t padding_shows(const struct call *call);       /* the tree is filled up with rows 1 1 1, and the curve with ones */
 
+/* Transposed products: of the curve with F_1, of a pair with a node's lists, and of the moments with the coefficients. Their lists are long
+ * enough for every entry of the answer: one that was read round at its very end would change none. */
+uint32_t transposed_term_more(const struct call *call); /* a term past the end of the multiplier: the number that stands behind it */
+uint32_t transposed_wrapped(const struct call *call);   /* the list read round after as many numbers as there are wanted terms */
+uint32_t transposed_whole(const struct call *call);     /* the first terms of the whole product */
+
 /* Inverses. */
 uint32_t powering_untested(const struct call *call);   /* x^(m-2), and no test whether there is an inverse */
 uint32_t non_zero_taken(const struct call *call);      /* whatever is not zero taken to have an inverse */

@@ -101,6 +101,10 @@ const struct version VERSIONS[] = {
     ON_LISTS("lowest_level", "a tree joined at its lowest level only", BY_THE_TREE, lowest_level_only),
     ON_LISTS("padding", "padding that shows", BY_THE_TREE & ~TREE_ADJOINT, padding_shows),
 
+    ON_LISTS("transposed_term_more", "transposed: a term past the multiplier", BY_TRANSPOSED_PRODUCTS, transposed_term_more),
+    ON_LISTS("transposed_wrapped", "transposed: the list read round too early", BY_TRANSPOSED_PRODUCTS, transposed_wrapped),
+    ON_LISTS("transposed_whole", "transposed: the first terms of the whole product", BY_TRANSPOSED_PRODUCTS, transposed_whole),
+
     ON_LISTS("norm_over_a_i", "norm i divided by a_i", BY_THE_NORMS, norm_over_a_i),
     ON_LISTS("norm_from_c_1", "the norms' product c_1 .. c_{i+1}", BY_THE_NORMS, norm_from_c_1),
     ON_LISTS("norm_to_c_i", "the norms' product c_1 .. c_i", BY_THE_NORMS, norm_to_c_i),

@@ -1,0 +1,122 @@
+/* What transposed_versions.h declares. */
+#include "transposed_versions.h"
+
+#include <string.h>
+
+enum { MOST_TERMS = 512 };
+
+#define UNUSED(name) (void)(name)
+#define LENT m, reciprocal, w, target, n, p, pn, q, qn, v, vn, u, un
+
+/* ---- one sum */
+
+/* A sum as its low 64 bits and how often it went past them. */
+struct total {
+    uint64_t low, wraps;
+};
+
+static void add(struct total *total, uint32_t x, uint32_t y) {
+    uint64_t product = (uint64_t)x * y;
+    total->low += product;
+    total->wraps += total->low < product;
+}
+
+static uint32_t rest(struct total total, uint32_t m) {
+    uint64_t wrap = (UINT64_MAX % m + 1) % m;
+    return (uint32_t)((total.low % m + total.wraps % m * wrap) % m);
+}
+
+static size_t lesser(size_t x, size_t y) { return x < y ? x : y; }
+
+/* How many products term i has of a multiplier and a list of these lengths. */
+static size_t end(size_t i, size_t multiplier, size_t list) { return lesser(multiplier, i < list ? list - i : 0); }
+
+/* Adds the products of term i of one multiplier and one list. */
+typedef void part(struct total *total, const uint32_t *w, size_t i, size_t p, size_t pn, size_t v, size_t vn);
+
+static void add_right(struct total *total, const uint32_t *w, size_t i, size_t p, size_t pn, size_t v, size_t vn) {
+    for (size_t j = 0; j < end(i, pn, vn); j++) add(total, w[p + j], w[v + i + j]);
+}
+
+static void write_terms(part *add_part, PRODUCT) {
+    UNUSED(reciprocal);
+    for (size_t i = 0; i < n; i++) {
+        struct total total = {0, 0};
+        add_part(&total, w, i, p, pn, v, vn);
+        add_part(&total, w, i, q, qn, u, un);
+        w[target + i] = rest(total, m);
+    }
+}
+
+/* ---- right versions */
+
+static void right(PRODUCT) { write_terms(add_right, LENT); }
+
+static void own_array(PRODUCT) {
+    uint32_t terms[MOST_TERMS];
+    for (size_t i = 0; i < n; i++) {
+        right(m, reciprocal, w, target + i, 1, p, pn, q, qn, v + i, i < vn ? vn - i : 0, u + i, i < un ? un - i : 0);
+        terms[i] = w[target + i];
+    }
+    memcpy(w + target, terms, n * sizeof *terms);
+}
+
+/* ---- wrong versions */
+
+void untouched(PRODUCT) {
+    UNUSED(m), UNUSED(reciprocal), UNUSED(w), UNUSED(target), UNUSED(n), UNUSED(p), UNUSED(pn), UNUSED(q), UNUSED(qn), UNUSED(v);
+    UNUSED(vn), UNUSED(u), UNUSED(un);
+}
+
+static void term_more(PRODUCT) { right(m, reciprocal, w, target, n, p, pn + 1, q, qn + 1, v, vn, u, un); }
+
+static void second_left_out(PRODUCT) {
+    UNUSED(qn);
+    right(m, reciprocal, w, target, n, p, pn, q, 0, v, vn, u, un);
+}
+
+static void past(PRODUCT) { right(m, reciprocal, w, target, n + 1, p, pn, q, qn, v, vn, u, un); }
+
+static void before(PRODUCT) {
+    right(LENT);
+    w[target - 1] = 0;
+}
+
+static void add_wrapped(struct total *total, const uint32_t *w, size_t i, size_t p, size_t pn, size_t v, size_t vn) {
+    for (size_t j = 0; vn && j < pn; j++) add(total, w[p + j], w[v + (i + j) % vn]);
+}
+static void wrapped(PRODUCT) { write_terms(add_wrapped, LENT); }
+
+static void add_coefficient(struct total *total, const uint32_t *w, size_t i, size_t p, size_t pn, size_t v, size_t vn) {
+    for (size_t j = 0; j < pn && j <= i; j++)
+        if (i - j < vn) add(total, w[p + j], w[v + i - j]);
+}
+static void whole(PRODUCT) { write_terms(add_coefficient, LENT); }
+
+static void add_low(struct total *total, const uint32_t *w, size_t i, size_t p, size_t pn, size_t v, size_t vn) {
+    add_right(total, w, i, p, pn, v, vn);
+    total->wraps = 0;
+}
+static void wraps_lost(PRODUCT) { write_terms(add_low, LENT); }
+
+static void ends_with_the_first(PRODUCT) {
+    for (size_t i = 0; i < n; i++) {
+        size_t second = lesser(qn, end(i, pn, vn));
+        right(m, reciprocal, w, target + i, 1, p, pn, q, second, v + i, i < vn ? vn - i : 0, u + i, i < un ? un - i : 0);
+    }
+}
+
+const struct version VERSIONS[] = {
+    {"right", "the sums once more in C", RIGHT, right},
+    {"own_array", "right terms by way of an array of its own", TOO_MUCH_STACK, own_array},
+    {"untouched", "nothing written", WRONG, untouched},
+    {"term_more", "one term past the end of each multiplier", WRONG, term_more},
+    {"wrapped", "the lists read round their ends", WRONG, wrapped},
+    {"whole", "the first terms of the whole product", WRONG, whole},
+    {"past", "the term past the wanted ones written too", WRONG, past},
+    {"before", "a zero written before the wanted terms", WRONG, before},
+    {"second_left_out", "the first product alone", WRONG, second_left_out},
+    {"ends_with_the_first", "the second sum cut where the first ends", WRONG, ends_with_the_first},
+    {"wraps_lost", "the sum's low 64 bits for the sum", WRONG, wraps_lost},
+    {.name = NULL},
+};
