@@ -2,8 +2,9 @@
 --   transposedTerm p w i j     p_j w_{i+j}, zero past the end of either
 --   Reach p v i end            all p_j v_{i+j} with j below end lie within both lists, and fit
 --   SinglesInput, PairsInput   what a part of the sum is taken of: of one of the two products, of both side by side
---   TransposedInput            what the whole is taken of: residues
--- Proved: how each part begins, goes on and ends; the two tails and the part of both make up the sum; the entries settle a term, so that
+--   SumInput                   what one term is taken of where the list reaches: residues
+--   TransposedInput            what a term of two products is taken of: residues
+-- Proved: how each part begins, goes on and ends; what is beside the pairs and the pairs make up the sum; the entries settle a term, so that
 -- zeros at the end of either list change none; a multiplier may be taken as two parts side by side.
 -- Assumes nothing.
 use mathlib.Core.Path.{_≡_, refl, sym, _∙_, ap, ap₂}
@@ -12,7 +13,8 @@ use Prim.Native.Nat.{ℕ, _+_, _*_, _-_, _%_, _≤_, _<_}
 use native.Mathlib.Decide.{decLt}
 use native.Mathlib.Nat.{add-zero, zero-add}
 use native.Mathlib.Omega.{arith}
-use lib.ListN.{length, getD}
+use lib.ListN.{length, getD, take, drop, length-drop, List·getD-eq-default}
+use lib.Seq.{length-take-le, getD-take, getD-drop}
 use Rattle.definitions.specs.Number.{sum}
 use Rattle.numbers.specs.Products.{Below, transposedAt}
 use Rattle.numbers.specs.Regions.{part, part-length, part-entry, part-past}
@@ -46,6 +48,12 @@ pub record PairsInput (low wraps : ℕ) (p v q u : List ℕ) (i end : ℕ) : Typ
   pub few : wraps ≤ 4611686018427387904
   pub first : Reach p v i end
   pub second : Reach q u i end
+
+pub record SumInput (m reciprocal : ℕ) (p v : List ℕ) (i : ℕ) : Type 0 where
+  pub reducible : Reducible m reciprocal
+  pub pBelow : Below m p
+  pub vBelow : Below m v
+  pub reached : i + length p ≤ length v
 
 pub record TransposedInput (m reciprocal : ℕ) (p v q u : List ℕ) : Type 0 where
   pub reducible : Reducible m reciprocal
@@ -119,7 +127,95 @@ module _ (low₀ wraps₀ : ℕ) (p v q u : List ℕ) (i end : ℕ) (input : Pai
         = ap (λ n. sum n (λ t. pairTerm (0 + t))) all ∙ sum-equal end _ _ (λ t _. ap pairTerm (zero-add t)) in
         record { few = omega (arith, added .few); fits = added .fits; whole = added .whole ∙ ap (λ s. amount low₀ wraps₀ + s) same }
 
--- ---- the whole
+-- residues are small
+small : {m reciprocal : ℕ} → Reducible m reciprocal → (xs : List ℕ) → Below m xs → Small xs
+small h xs below j = omega (arith, below j, h .most)
+
+-- ---- one product by halves
+-- what a slice lends that begins h places on
+abbrev onward : List ℕ → ℕ → List ℕ
+onward xs h = take (length xs - h) (drop h xs)
+
+module _ (xs : List ℕ) (h : ℕ) (within : h ≤ length xs) where
+  onward-length : length (onward xs h) ≡ length xs - h
+  onward-length = length-take-le (length xs - h) (drop h xs) (simp length-drop (omega arith))
+
+  onward-entry : (j : ℕ) → getD (onward xs h) j 0 ≡ getD xs (h + j) 0
+  onward-entry j = by (decLt j (length xs - h))
+    where
+      by : Dec (j < length xs - h) → getD (onward xs h) j 0 ≡ getD xs (h + j) 0
+      by (yes l) = getD-take (length xs - h) (drop h xs) j 0 l ∙ getD-drop h xs j 0
+      by (no l) = List·getD-eq-default (onward xs h) 0 {n = j} (omega (arith, onward-length))
+          ∙ sym (List·getD-eq-default xs 0 {n = h + j} (omega arith))
+
+module _ (m reciprocal : ℕ) (p v : List ℕ) (i : ℕ) (input : SumInput m reciprocal p v i) (half : ℕ) (twice : half + half ≤ length p) where
+  abbrev each : ℕ → ℕ
+  each = transposedTerm p v i
+
+  pub odd-input : SinglesInput 0 0 p v i (half + half) (length p)
+  odd-input = record {
+    fits = omega arith;
+    few = omega arith;
+    within = twice;
+    reach = record {
+      multiplier = omega arith;
+      list = omega (arith, input .reached);
+      pSmall = small (input .reducible) p (input .pBelow);
+      vSmall = small (input .reducible) v (input .vBelow);
+    };
+  }
+
+  halves-within : (half ≤ length p) × (half ≤ length v)
+  halves-within = (omega arith, omega (arith, input .reached))
+
+  abbrev second : ℕ → ℕ
+  second = transposedTerm (onward p half) (onward v half) i
+
+  module _ (long : length p ≤ 2305843009213693952) {low₁ wraps₁ : ℕ}
+      (d : Added 0 0 (length p - (half + half)) (sum (length p - (half + half)) (λ t. each (half + half + t))) low₁ wraps₁) where
+    pub halves-input : PairsInput low₁ wraps₁ p v (onward p half) (onward v half) i half
+    halves-input = record {
+      fits = d .fits;
+      few = omega (arith, d .few);
+      first = record {
+        multiplier = omega arith;
+        list = omega (arith, input .reached);
+        pSmall = small (input .reducible) p (input .pBelow);
+        vSmall = small (input .reducible) v (input .vBelow);
+      };
+      second = record {
+        multiplier = omega (arith, onward-length p half (halves-within .0));
+        list = omega (arith, onward-length v half (halves-within .1), input .reached);
+        pSmall = λ j. rw (onward-entry p half (halves-within .0) j) (small (input .reducible) p (input .pBelow) (half + j));
+        vSmall = λ j. rw (onward-entry v half (halves-within .1) j) (small (input .reducible) v (input .vBelow) (half + j));
+      };
+    }
+
+    -- the second half's products are those from half on
+    second-is : (j : ℕ) → second j ≡ each (half + j)
+    second-is j =
+        let there : half + (i + j) ≡ i + (half + j) = omega arith in
+        ap₂ _*_ (onward-entry p half (halves-within .0) j)
+        (onward-entry v half (halves-within .1) (i + j) ∙ ap (λ k. getD v k 0) there)
+
+    pub sum-ends : {low wraps : ℕ} → Added low₁ wraps₁ half (sum half (λ j. each j + second j)) low wraps
+        → (r : ℕ) → r ≡ (low + wraps * word) % m → r ≡ transposedAt p v i % m
+    unfolding transposedAt amount
+    sum-ends {low} {wraps} f r g =
+        let none = amount-number 0 in
+        let pairs : sum half (λ j. each j + second j) ≡ sum (half + half) each
+        = sum-both half each second ∙ ap (λ s. sum half each + s) (sum-equal half _ _ (λ j _. second-is j)) ∙ sym (sum-split half half each) in
+        let parts : half + half + (length p - (half + half)) ≡ length p = omega arith in
+        let whole : sum (length p) each ≡ sum (half + half) each + sum (length p - (half + half)) (λ t. each (half + half + t))
+        = ap (λ k. sum k each) (sym parts) ∙ sum-split (half + half) (length p - (half + half)) each in
+        g ∙ ap (λ k. k % m) (f .whole ∙ ap₂ _+_ (d .whole) pairs ∙ gathered none whole)
+      where
+        gathered : {s : ℕ} → amount 0 0 ≡ 0
+            → s ≡ sum (half + half) each + sum (length p - (half + half)) (λ t. each (half + half + t))
+            → amount 0 0 + sum (length p - (half + half)) (λ t. each (half + half + t)) + sum (half + half) each ≡ s
+        gathered n w = omega arith
+
+-- ---- two products
 pub reaches : {room x y end : ℕ} → room ≡ x → Lesser room y end → Lesser x y end
 reaches e h = rw e at h
 
@@ -134,11 +230,8 @@ term-reach p v i end h = sum-cut end (length p) (transposedTerm p v i) (h .secon
 
 module _ (m reciprocal : ℕ) (p v q u : List ℕ) (input : TransposedInput m reciprocal p v q u) (i first second both : ℕ)
     (a : Lesser (length v - i) (length p) first) (b : Lesser (length u - i) (length q) second) (c : Lesser first second both) where
-  small : (xs : List ℕ) → Below m xs → Small xs
-  small xs below j = omega (arith, below j, input .reducible .most)
-
   reach : (xs ys : List ℕ) (end : ℕ) → Below m xs → Below m ys → end ≤ length xs → end ≤ length ys - i → Reach xs ys i end
-  reach xs ys end x y k l = record { multiplier = k; list = l; pSmall = small xs x; vSmall = small ys y }
+  reach xs ys end x y k l = record { multiplier = k; list = l; pSmall = small (input .reducible) xs x; vSmall = small (input .reducible) ys y }
 
   pub tail-first : SinglesInput 0 0 p v i both first
   tail-first = record {

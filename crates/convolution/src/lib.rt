@@ -6,7 +6,7 @@ ghost use Rattle.definitions.specs.Number.{sum};
 ghost use Rattle.numbers.specs.Products.{productAt, transposedAt};
 ghost use Rattle.convolution.specs.Totals.{Lesser, SmallNumbers, Added};
 ghost use Rattle.convolution.specs.Coefficients.{ProductsInput};
-ghost use Rattle.convolution.specs.Terms.{transposedTerm, SinglesInput, PairsInput, TransposedInput};
+ghost use Rattle.convolution.specs.Terms.{transposedTerm, SinglesInput, PairsInput, SumInput, TransposedInput};
 use lists::excess;
 use reduction::remainder_of_sum;
 use reduction::wraps_after;
@@ -109,6 +109,18 @@ fn with_pairs(
         j += 1;
     }
     Total { low, wraps }
+}
+
+// The sum over j of p_j v_{i+j}, where v reaches as far as p asks: by halves of p, so that two products make a step.
+pub fn sum_at(m: u32, reciprocal: u64, p: &[u32], v: &[u32], i: usize) -> u32
+    requires { ⌜ SumInput m reciprocal (now p) (now v) i ⌝ }
+    ensures { λ r. ⌜ r ≡ transposedAt (now (p .entry)) (now (v .entry)) i % m ⌝ }
+{
+    let half = p.len() / 2;
+    let none = Total { low: 0, wraps: 0 };
+    let odd = with_singles(none, p, v, i, half + half, p.len());
+    let total = with_pairs(odd, p, v, &p[half..], &v[half..], i, half);
+    remainder_of_sum(m, reciprocal, total.low, total.wraps)
 }
 
 // Term i of the transposed products of v with p and of u with q, added up: the sum over j of p_j v_{i+j} and of q_j u_{i+j}, zero past

@@ -4,8 +4,8 @@
 --   CoefficientInput   of coefficient k: the k coefficients before it
 --   QuotientInput      of all of them, with room for the answer
 --   Dividing           a quotient in progress: k coefficients stand
--- Proved: entries of a reversal; the products with the coefficients that stand are a term of a transposed product with the polynomial as
--- it lies, by halves; how the loop begins, goes on and ends.
+-- Proved: entries of a reversal; the products with the coefficients that stand are a transposed product with the polynomial as it
+-- lies; how the loop begins, goes on and ends.
 -- Assumes nothing.
 use mathlib.Core.Path.{_≡_, refl, sym, _∙_, ap, ap₂}
 use mathlib.Core.List.{List, _++_}
@@ -21,12 +21,12 @@ use Rattle.definitions.specs.Orthogonality.{reversal, nextQuotient, quotient}
 use Rattle.numbers.specs.Inverse.{inverse-unique}
 use Rattle.numbers.specs.Lists.{Filling, filled, table-entries, filling-start, filling-next, filling-stop, filling-below}
 use Rattle.numbers.specs.Products.{Below, transposedAt}
-use Rattle.numbers.specs.Regions.{part, part-length, part-entry, part-past, part-slice, part-below}
+use Rattle.numbers.specs.Regions.{part, part-length, part-entry, part-slice, part-below}
 use Rattle.numbers.specs.Residue.{negative-mod}
 use Rattle.numbers.specs.Sums.{sum-equal, sum-between}
 use Rattle.theory.specs.Quotient.{quotient-length, quotient-entry, quotient-next, quotient-below}
 use Rattle.reduction.specs.Reciprocal.{Reciprocal}
-use Rattle.convolution.specs.Terms.{TransposedInput, transposed-parts}
+use Rattle.convolution.specs.Terms.{SumInput}
 
 unfoldable pub reversed : ℕ → List ℕ → List ℕ
 reversed k p = reversal k (λ i. getD p i 0)
@@ -87,68 +87,26 @@ module _ (m reciprocal : ℕ) (g d : List ℕ) (n y : ℕ) (q : List ℕ) (k : �
 
   -- the coefficients that stand, from place k - n on; those before it meet no coefficient of d
   abbrev standing : List ℕ
-  standing = part q (k - n) (k - (k - n))
+  standing = take (k - (k - n)) (drop (k - n) q)
+
+  standing-part : standing ≡ part q (k - n) (k - (k - n))
+  standing-part = part-slice q (k - n) (k - (k - n)) (omega (arith, input .long))
 
   -- d reaches past n, where its entry has an inverse
   divisor-long : n < length d
-  divisor-long = by (decLt n (length d))
-    where
-      by : Dec (n < length d) → n < length d
-      by (yes l) = l
-      by (no l) =
-          let none : getD d n 0 ≡ 0 = List·getD-eq-default d 0 {n = n} (omega arith) in
-          let zero-one : _≡_ {A = ℕ} 0 1
-          = sym (ap (λ x. x * y % m) none ∙ ap (λ x. x % m) (zero-mul y) ∙ mod-eq-of-lt positive) ∙ input .divides .inverts in
-          absurd (omega arith)
+  divisor-long = by-cases (decLt n (length d)) (λ l. l) (λ l.
+      let none : getD d n 0 ≡ 0 = List·getD-eq-default d 0 {n = n} (omega arith) in
+      let zero-one : _≡_ {A = ℕ} 0 1
+      = sym (ap (λ x. x * y % m) none ∙ ap (λ x. x % m) (zero-mul y) ∙ mod-eq-of-lt positive) ∙ input .divides .inverts in
+      absurd (omega arith))
 
-  -- the standing coefficients in two halves, and the divisor, for the second half from there on
-  module _ (first half : ℕ) (e : first ≡ k - n) (small : half ≤ k - first) where
-    abbrev front : List ℕ
-    front = take (first + half - first) (drop first q)
-
-    abbrev rest : List ℕ
-    rest = take (k - (first + half)) (drop (first + half) q)
-
-    abbrev onward : List ℕ
-    onward = take (length d - half) (drop half d)
-
-    front-part : front ≡ part q first half
-    front-part =
-        let c : first + half - first ≡ half = omega arith in
-        ap (λ x. take x (drop first q)) c ∙ part-slice q first half (omega (arith, input .long))
-
-    rest-part : rest ≡ part q (first + half) (k - first - half)
-    rest-part =
-        let c : k - (first + half) ≡ k - first - half = omega arith in
-        ap (λ x. take x (drop (first + half) q)) c ∙ part-slice q (first + half) (k - first - half) (omega (arith, input .long))
-
-    pub halves-within : half ≤ length d
-    halves-within = omega (arith, divisor-long)
-
-    onward-entry : (j : ℕ) → getD d (half + j) 0 ≡ getD onward j 0
-    onward-entry j = sym (ap (λ t. getD t j 0) (part-slice d half (length d - half) (omega (arith, halves-within))) ∙ by (decLt j (length d - half)))
-      where
-        by : Dec (j < length d - half) → getD (part d half (length d - half)) j 0 ≡ getD d (half + j) 0
-        by (yes l) = part-entry d half (length d - half) j l
-        by (no l) = part-past d half (length d - half) j (omega arith)
-            ∙ sym (List·getD-eq-default d 0 {n = half + j} (omega (arith, halves-within)))
-
-    standing-below : (at c : ℕ) → at + c ≤ k → Below m (part q at c)
-    standing-below at c l = part-below m q at c positive (λ i a b. input .below i (omega arith))
-
-    pub coefficient-input : TransposedInput m reciprocal front d rest onward
-    coefficient-input = record {
-      reducible = record { most = input .divides .modulus .greatest; reciprocal = input .reciprocalIs };
-      pBelow = rw front-part (standing-below first half (omega arith));
-      vBelow = input .divides .dBelow;
-      qBelow = rw rest-part (standing-below (first + half) (k - first - half) (omega arith));
-      uBelow = λ j. rw (← onward-entry j) (input .divides .dBelow (half + j));
-    }
-
-    halves-are : (at : ℕ) → transposedAt front d at + transposedAt rest onward at ≡ transposedAt (part q first (k - first)) d at
-    halves-are at =
-        ap₂ _+_ (ap (λ p. transposedAt p d at) front-part) (ap (λ p. transposedAt p onward at) rest-part)
-        ∙ transposed-parts q first (k - first) half small d onward at onward-entry
+  pub coefficient-input : (first at : ℕ) → first ≡ k - n → at ≡ n - k → SumInput m reciprocal (take (k - first) (drop first q)) d at
+  coefficient-input first at e g = rw (e, g) record {
+    reducible = record { most = input .divides .modulus .greatest; reciprocal = input .reciprocalIs };
+    pBelow = rw standing-part (part-below m q (k - n) (k - (k - n)) positive (λ i p h. input .below i (omega arith)));
+    vBelow = input .divides .dBelow;
+    reached = omega (arith, divisor-long, ap length standing-part, part-length q (k - n) (k - (k - n)));
+  }
 
   -- the sum that the definition takes
   abbrev term : ℕ → ℕ
@@ -168,7 +126,8 @@ module _ (m reciprocal : ℕ) (g d : List ℕ) (n y : ℕ) (q : List ℕ) (k : �
   sum-transposed =
       sum-between (k - n) (k - (k - n)) k term (omega arith) term-before (λ j a b. absurd (omega arith))
       ∙ sum-equal (k - (k - n)) _ _ term-standing
-      ∙ ap (λ c. sum c (λ j. getD standing j 0 * getD d (n - k + j) 0)) (sym (part-length q (k - n) (k - (k - n))))
+      ∙ ap (λ c. sum c (λ j. getD (part q (k - n) (k - (k - n))) j 0 * getD d (n - k + j) 0)) (sym (part-length q (k - n) (k - (k - n))))
+      ∙ ap (λ p. sum (length p) (λ j. getD p j 0 * getD d (n - k + j) 0)) (sym standing-part)
 
   pub coefficient-fits : (x top less : ℕ) → top ≡ getD (reversed n g) k 0 → less ≡ negative m x → top + less < 4294967296
   unfolding reversed negative
@@ -179,16 +138,15 @@ module _ (m reciprocal : ℕ) (g d : List ℕ) (n y : ℕ) (q : List ℕ) (k : �
       (λ h. rw (← reversed-past n g k (omega arith)) positive) in
       omega arith
 
-  pub coefficient-is : (first half at s top less r : ℕ) (i : first ≡ k - n) (small : half ≤ k - first) → at ≡ n - k
-      → s ≡ (transposedAt (front first half i small) d at + transposedAt (rest first half i small) (onward first half i small) at) % m
+  pub coefficient-is : (first at s top less r : ℕ) → first ≡ k - n → at ≡ n - k
+      → s ≡ transposedAt (take (k - first) (drop first q)) d at % m
       → top ≡ getD (reversed n g) k 0 → less ≡ negative m s → r ≡ (top + less) * y % m
       → r ≡ nextQuotient m (reversed n g) (reversed (suc n) d) k q
   unfolding nextQuotient
-  coefficient-is first half at s top less r i small j sum-is e o h =
-      let moved : transposedAt (part q first (k - first)) d at ≡ transposedAt standing d (n - k) = rw (i, j) in
+  coefficient-is first at s top less r i j sum-is e o h =
+      let moved : transposedAt (take (k - first) (drop first q)) d at ≡ transposedAt standing d (n - k) = rw (i, j) in
       let same : negative m s ≡ negative m (sum k term) =
-      ap (negative m) (sum-is ∙ ap (λ x. x % m) (halves-are first half i small at ∙ moved ∙ sym sum-transposed))
-      ∙ negative-mod m (sum k term) in
+      ap (negative m) (sum-is ∙ ap (λ x. x % m) (moved ∙ sym sum-transposed)) ∙ negative-mod m (sum k term) in
       let by : y ≡ inverse m (getD (reversed (suc n) d) 0 0) =
       inverse-unique m (getD d n 0) y (input .divides .modulus .least) (input .divides .inverseBelow) (input .divides .inverts)
       ∙ ap (inverse m) (reversed-first n d) in

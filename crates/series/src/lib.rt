@@ -6,7 +6,7 @@ ghost use Prim.Native.Nat.{suc, _≤_};
 ghost use lib.ListN.{length, getD, drop};
 ghost use Rattle.definitions.specs.Orthogonality.{nextQuotient, quotient};
 ghost use Rattle.series.specs.Division.{reversed, CoefficientInput, QuotientInput};
-use convolution::transposed_at;
+use convolution::sum_at;
 use lists::excess;
 use residue::negative;
 use residue::product_by;
@@ -37,17 +37,7 @@ fn coefficient(
 {
     let first = excess(k, n);
     let at = excess(n, k);
-    let half = (k - first) / 2;
-    let middle = first + half;
-    let sum = transposed_at(
-        m,
-        reciprocal,
-        &q[first..middle],
-        divisor,
-        &q[middle..k],
-        &divisor[half..],
-        at,
-    );
+    let sum = sum_at(m, reciprocal, &q[first..k], divisor, at);
     let top = reversed_entry(numerator, n, k);
     let less = negative(m, reciprocal, sum);
     product_by(m, reciprocal, top + less, inverse)
