@@ -145,9 +145,9 @@ static uint32_t random_modulus(struct random *random) {
     return one_in(random, 3) ? 1 + below(random, 2147483647) : ONE_OF(random, moduli);
 }
 
+/* From 1 on: no list that the library hands in is empty, and the compiler, which sees all of its calls, may count on it. */
 static size_t random_length(struct random *random, size_t limit) {
-    if (one_in(random, 8)) return 0;
-    return one_in(random, 3) ? limit : below(random, limit + 1);
+    return one_in(random, 3) ? limit : 1 + below(random, limit);
 }
 
 /* All five in any order, one behind another or with gaps. */
