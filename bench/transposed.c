@@ -13,18 +13,17 @@
 #include "transposed.h"
 
 /* products::transposed: the compiler leaves out the length of w, which nothing reads. */
-void compiled_transposed(uint32_t m, uint64_t reciprocal, uint32_t *w, size_t target, size_t n, size_t p, size_t pn, size_t q, size_t qn,
-                         size_t v, size_t vn, size_t u, size_t un);
+void compiled_transposed(uint32_t m, uint64_t reciprocal, uint32_t *w, size_t target, size_t n, size_t p, size_t q, size_t pn, size_t v,
+                         size_t u, size_t vn);
 
-/* One product is taken by the halves of its multiplier, as if they were two. */
+/* One product is taken by the halves of its multiplier, as if they were two. Each half asks for as much of the list as the terms need. */
 static void by_library(struct operands *x) {
     size_t n = x->length, half = n / 2;
     if (x->two)
-        compiled_transposed(x->m, x->reciprocal, x->numbers, TERMS, n, MULTIPLIER, n, SECOND_MULTIPLIER, n, LIST, 2 * n, SECOND_LIST,
-                            2 * n);
+        compiled_transposed(x->m, x->reciprocal, x->numbers, TERMS, n, MULTIPLIER, SECOND_MULTIPLIER, n, LIST, SECOND_LIST, 2 * n);
     else
-        compiled_transposed(x->m, x->reciprocal, x->numbers, TERMS, n, MULTIPLIER, half, MULTIPLIER + half, half, LIST, 2 * n,
-                            LIST + half, 2 * n - half);
+        compiled_transposed(x->m, x->reciprocal, x->numbers, TERMS, n, MULTIPLIER, MULTIPLIER + half, half, LIST, LIST + half,
+                            n + half - 1);
 }
 
 struct sum {

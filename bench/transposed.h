@@ -19,8 +19,9 @@ enum {
 };
 
 /* Term i is the sum over j of multiplier[j] list[i + j] modulo m, and where `two` is set that of the second multiplier and list is added.
- * A multiplier has `length` numbers, a list twice as many, and `length` terms are asked for. They are coefficients of the product of
- * the list with the multiplier turned round, from length - 1 on. FLINT is handed it turned round: a caller can keep it in that order. */
+ * A multiplier has `length` numbers, an even count, a list twice as many, and `length` terms are asked for. They are coefficients of the
+ * product of the list with the multiplier turned round, from length - 1 on. FLINT is handed it turned round: a caller can keep it in that
+ * order. */
 struct operands {
     uint32_t m;
     uint64_t reciprocal; /* 2^64 - 1 over m */

@@ -176,7 +176,8 @@ def product_loops(body, ways, wanted):
             raise Fault(f"decides {len(jumps) + len(choices)} times in each step of the loop at {min(loop):x}, which multiplies")
     if not sums:
         raise Fault("has no loop that multiplies")
-    return f"multiplies in {len(sums)} loops within that loop and no other, and each goes on or ends by one jump"
+    number = "one loop" if len(sums) == 1 else f"{len(sums)} loops"
+    return f"multiplies in {number} within that loop and no other, and goes on or ends by one jump in each step"
 
 
 def no_division(body):

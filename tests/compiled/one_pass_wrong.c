@@ -5,9 +5,9 @@
 #include <stdint.h>
 #include <string.h>
 
-#define PRODUCT                                                                                                              \
-    uint32_t m, uint64_t reciprocal, uint32_t *w, size_t target, size_t n, size_t p, size_t pn, size_t q, size_t qn, size_t v, \
-        size_t vn, size_t u, size_t un
+#define PRODUCT                                                                                                                \
+    uint32_t m, uint64_t reciprocal, uint32_t *w, size_t target, size_t n, size_t p, size_t q, size_t pn, size_t v, size_t u, \
+        size_t vn
 #define VERSION(name) \
     void name(PRODUCT); \
     void name(PRODUCT)
@@ -36,15 +36,12 @@ static inline uint32_t rest(uint64_t low, uint64_t wraps, uint32_t m, uint64_t r
 #define FIRST_PRODUCT                                                                       \
     TOTAL;                                                                                  \
     for (size_t j = 0, end = lesser(pn, i < vn ? vn - i : 0); j < end; j++) ADD(w[p + j], w[v + i + j])
-#define EACH_TERM UNUSED(q), UNUSED(qn), UNUSED(u), UNUSED(un); for (size_t i = 0; i < n; i++)
+#define EACH_TERM UNUSED(q), UNUSED(u); for (size_t i = 0; i < n; i++)
 
 VERSION(one_pass) {
     for (size_t i = 0; i < n; i++) {
         TOTAL;
-        size_t first = lesser(pn, i < vn ? vn - i : 0), second = lesser(qn, i < un ? un - i : 0), both = lesser(first, second);
-        for (size_t j = both; j < first; j++) ADD(w[p + j], w[v + i + j]);
-        for (size_t j = both; j < second; j++) ADD(w[q + j], w[u + i + j]);
-        for (size_t j = 0; j < both; j++) {
+        for (size_t j = 0, end = lesser(pn, i < vn ? vn - i : 0); j < end; j++) {
             ADD(w[p + j], w[v + i + j]);
             ADD(w[q + j], w[u + i + j]);
         }
@@ -129,7 +126,7 @@ VERSION(two_stores) {
     for (size_t i = 0; i < n; i++) {
         FIRST_PRODUCT;
         w[target + i] = rest(low, wraps, m, reciprocal);
-        for (size_t j = 0, end = lesser(qn, i < un ? un - i : 0); j < end; j++) ADD(w[q + j], w[u + i + j]);
+        for (size_t j = 0, end = lesser(pn, i < vn ? vn - i : 0); j < end; j++) ADD(w[q + j], w[u + i + j]);
         w[target + i] = rest(low, wraps, m, reciprocal);
     }
 }
@@ -147,7 +144,6 @@ VERSION(inner_store) {
 
 /* It writes the first product of every term, and then every sum: two passes. */
 VERSION(two_passes) {
-    UNUSED(qn), UNUSED(un);
     for (size_t i = 0; i < n; i++) {
         FIRST_PRODUCT;
         w[target + i] = rest(low, wraps, m, reciprocal);

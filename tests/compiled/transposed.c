@@ -30,7 +30,7 @@ struct place {
     size_t at, length;
 };
 
-/* The four lists and the wanted terms. The room holds w and numbers before and behind it. */
+/* The four lists, P as long as Q and V as long as U, and the wanted terms. The room holds w and numbers before and behind it. */
 struct trial {
     uint32_t m;
     struct place place[PLACES];
@@ -63,8 +63,8 @@ static uint32_t wanted_term(const struct trial *trial, size_t i) {
 
 static void call(transposed_product *run, const struct trial *trial, uint32_t *w) {
     const struct place *place = trial->place;
-    run(trial->m, UINT64_MAX / trial->m, w, place[TARGET].at, place[TARGET].length, place[P].at, place[P].length, place[Q].at,
-        place[Q].length, place[V].at, place[V].length, place[U].at, place[U].length);
+    run(trial->m, UINT64_MAX / trial->m, w, place[TARGET].at, place[TARGET].length, place[P].at, place[Q].at, place[P].length,
+        place[V].at, place[U].at, place[V].length);
 }
 
 /* Whether the version does right by the case; if not, the first fault. */
@@ -110,15 +110,17 @@ static void tell(const struct trial *trial, const struct fault *fault) {
 
 enum { MOST_FIGURE = 4, FILL = 99 };
 
-/* The lists stand side by side in this order, as the four of a matrix do in the working list, and the wanted terms behind them. */
+/* The lists stand side by side in this order, as the four of a matrix do in the working list, and the wanted terms behind them. In the
+ * last figure p ends in a zero and q does not. */
 static const struct figure {
     uint32_t m;
-    size_t length[SOURCES], n;
+    size_t pn, vn, n;
     uint32_t list[SOURCES][MOST_FIGURE];
 } FIGURES[] = {
-    {15, {2, 3, 3, 4}, 3, {{1, 2}, {2, 1, 4}, {3, 4, 5}, {7, 8, 9, 1}}},
+    {15, 3, 4, 3, {{1, 2, 3}, {2, 1, 4}, {3, 4, 5, 6}, {7, 8, 9, 2}}},
 #define GREATEST 2147483646, 2147483646, 2147483646
-    {2147483647, {3, 3, 3, 3}, 1, {{GREATEST}, {GREATEST}, {GREATEST}, {GREATEST}}},
+    {2147483647, 3, 3, 1, {{GREATEST}, {GREATEST}, {GREATEST}, {GREATEST}}},
+    {15, 3, 4, 3, {{1, 2, 0}, {2, 1, 4}, {3, 4, 5, 6}, {7, 8, 9, 2}}},
 };
 enum { FIGURE_COUNT = sizeof FIGURES / sizeof *FIGURES };
 
@@ -127,9 +129,10 @@ static void set_figure(struct trial *trial, const struct figure *figure) {
     trial->m = figure->m;
     for (size_t i = 0; i < ROOM; i++) trial->room[i] = FILL;
     for (int list = P; list <= U; list++) {
-        trial->place[list] = (struct place){at, figure->length[list]};
-        memcpy(trial->room + GUARD + at, figure->list[list], figure->length[list] * sizeof *trial->room);
-        at += figure->length[list];
+        size_t length = list < V ? figure->pn : figure->vn;
+        trial->place[list] = (struct place){at, length};
+        memcpy(trial->room + GUARD + at, figure->list[list], length * sizeof *trial->room);
+        at += length;
     }
     trial->place[TARGET] = (struct place){at, figure->n};
 }
@@ -193,7 +196,8 @@ static void set_random(struct trial *trial, size_t number) {
     struct random random = random_of_case(SEED, number);
     size_t limit = LIMITS[number / OF_EACH_LIMIT];
     trial->m = random_modulus(&random);
-    for (int list = P; list <= U; list++) trial->place[list].length = random_length(&random, limit);
+    trial->place[P].length = trial->place[Q].length = random_length(&random, limit);
+    trial->place[V].length = trial->place[U].length = random_length(&random, limit);
     trial->place[TARGET].length = random_length(&random, limit + MORE_TERMS);
     if (one_in(&random, 2))
         place_apart(&random, trial);
