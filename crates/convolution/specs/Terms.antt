@@ -3,9 +3,9 @@
 --   Reach p v i end            all p_j v_{i+j} with j below end lie within both lists, and fit
 --   SinglesInput, PairsInput   what a part of the sum is taken of: of one of the two products, of both side by side
 --   SumInput                   what one term is taken of where the list reaches: residues
---   TransposedInput            what a term of two products is taken of: residues
+--   TransposedInput            what a term of two products is taken of: residues, multipliers and lists of one length each
 -- Proved: how each part begins, goes on and ends; what is beside the pairs and the pairs make up the sum; the entries settle a term, so that
--- zeros at the end of either list change none; a multiplier may be taken as two parts side by side.
+-- zeros at the end of either list change none; one product is the sum of two, of the halves of its multiplier.
 -- Assumes nothing.
 use mathlib.Core.Path.{_≡_, refl, sym, _∙_, ap, ap₂}
 use mathlib.Core.List.{List}
@@ -17,7 +17,6 @@ use lib.ListN.{length, getD, take, drop, length-drop, List·getD-eq-default}
 use lib.Seq.{length-take-le, getD-take, getD-drop}
 use Rattle.definitions.specs.Number.{sum}
 use Rattle.numbers.specs.Products.{Below, transposedAt}
-use Rattle.numbers.specs.Regions.{part, part-length, part-entry, part-past}
 use Rattle.numbers.specs.Sums.{sum-equal, sum-split, sum-cut, sum-both}
 use Rattle.reduction.specs.Reciprocal.{word}
 use Rattle.reduction.specs.Wrapping.{Reducible, WrapsAfter}
@@ -61,6 +60,8 @@ pub record TransposedInput (m reciprocal : ℕ) (p v q u : List ℕ) : Type 0 wh
   pub vBelow : Below m v
   pub qBelow : Below m q
   pub uBelow : Below m u
+  pub qLong : length q ≡ length p
+  pub uLong : length u ≡ length v
 
 -- ---- one product a step
 module _ (low₀ wraps₀ : ℕ) (p v : List ℕ) (i first end : ℕ) (input : SinglesInput low₀ wraps₀ p v i first end) where
@@ -228,67 +229,36 @@ term-reach p v i end h = sum-cut end (length p) (transposedTerm p v i) (h .secon
     past j a b (yes g) = let all : end ≡ length p = h .one g in omega arith
     past j a b (no g) = omega arith
 
-module _ (m reciprocal : ℕ) (p v q u : List ℕ) (input : TransposedInput m reciprocal p v q u) (i first second both : ℕ)
-    (a : Lesser (length v - i) (length p) first) (b : Lesser (length u - i) (length q) second) (c : Lesser first second both) where
-  reach : (xs ys : List ℕ) (end : ℕ) → Below m xs → Below m ys → end ≤ length xs → end ≤ length ys - i → Reach xs ys i end
-  reach xs ys end x y k l = record { multiplier = k; list = l; pSmall = small (input .reducible) xs x; vSmall = small (input .reducible) ys y }
+module _ (m reciprocal : ℕ) (p v q u : List ℕ) (input : TransposedInput m reciprocal p v q u) (i end : ℕ)
+    (ends : Lesser (length v - i) (length p) end) where
+  ends-too : Lesser (length u - i) (length q) end
+  ends-too = rw (input .qLong, input .uLong) ends
 
-  pub tail-first : SinglesInput 0 0 p v i both first
-  tail-first = record {
+  pub term-input : PairsInput 0 0 p v q u i end
+  term-input = record {
     fits = omega arith;
     few = omega arith;
-    within = c .first;
-    reach = reach p v first (input .pBelow) (input .vBelow) (a .second) (a .first);
+    first = record {
+      multiplier = ends .second;
+      list = ends .first;
+      pSmall = small (input .reducible) p (input .pBelow);
+      vSmall = small (input .reducible) v (input .vBelow);
+    };
+    second = record {
+      multiplier = ends-too .second;
+      list = ends-too .first;
+      pSmall = small (input .reducible) q (input .qBelow);
+      vSmall = small (input .reducible) u (input .uBelow);
+    };
   }
 
-  abbrev tailSum : List ℕ → List ℕ → ℕ → ℕ
-  tailSum xs ys end = sum (end - both) (λ t. transposedTerm xs ys i (both + t))
-
-  module _ (long : length p ≤ 2305843009213693952) {low₁ wraps₁ : ℕ} (d : Added 0 0 (first - both) (tailSum p v first) low₁ wraps₁) where
-    pub tail-second : SinglesInput low₁ wraps₁ q u i both second
-    tail-second = record {
-      fits = d .fits;
-      few = omega (arith, d .few, a .second);
-      within = c .second;
-      reach = reach q u second (input .qBelow) (input .uBelow) (b .second) (b .first);
-    }
-
-    module _ (long′ : length q ≤ 2305843009213693952) {low₂ wraps₂ : ℕ}
-        (e : Added low₁ wraps₁ (second - both) (tailSum q u second) low₂ wraps₂) where
-      pub both-input : PairsInput low₂ wraps₂ p v q u i both
-      both-input = record {
-        fits = e .fits;
-        few = omega (arith, d .few, e .few, a .second, b .second);
-        first = reach p v both (input .pBelow) (input .vBelow) (omega (arith, a .second, c .first)) (omega (arith, a .first, c .first));
-        second = reach q u both (input .qBelow) (input .uBelow) (omega (arith, b .second, c .second)) (omega (arith, b .first, c .second));
-      }
-
-      abbrev frontSum : List ℕ → List ℕ → ℕ
-      frontSum xs ys = sum both (transposedTerm xs ys i)
-
-      -- the front and the tail of each
-      front-tail : (xs ys : List ℕ) (end : ℕ) → Lesser (length ys - i) (length xs) end → both ≤ end
-          → transposedAt xs ys i ≡ frontSum xs ys + tailSum xs ys end
-      front-tail xs ys end h l =
-          let parts : end ≡ both + (end - both) = omega arith in
-          term-reach xs ys i end h ∙ ap (λ k. sum k (transposedTerm xs ys i)) parts ∙ sum-split both (end - both) (transposedTerm xs ys i)
-
-      pub transposed-ends : {low wraps : ℕ}
-          → Added low₂ wraps₂ both (sum both (λ j. transposedTerm p v i j + transposedTerm q u i j)) low wraps
-          → (r : ℕ) → r ≡ (low + wraps * word) % m → r ≡ (transposedAt p v i + transposedAt q u i) % m
-      unfolding amount
-      transposed-ends {low} {wraps} f r g =
-          let x = front-tail p v first a (c .first) in
-          let y = front-tail q u second b (c .second) in
-          let z : sum both (λ j. transposedTerm p v i j + transposedTerm q u i j) ≡ frontSum p v + frontSum q u = sum-both both _ _ in
-          let none = amount-number 0 in
-          let whole : amount low wraps ≡ transposedAt p v i + transposedAt q u i
-          = f .whole ∙ ap₂ _+_ (e .whole ∙ ap (λ k. k + tailSum q u second) (d .whole)) z ∙ gathered none x y in
-          g ∙ ap (λ k. k % m) whole
-        where
-          gathered : {s t : ℕ} → amount 0 0 ≡ 0 → s ≡ frontSum p v + tailSum p v first → t ≡ frontSum q u + tailSum q u second
-              → amount 0 0 + tailSum p v first + tailSum q u second + (frontSum p v + frontSum q u) ≡ s + t
-          gathered n x y = omega arith
+  pub transposed-ends : {low wraps : ℕ}
+      → Added 0 0 end (sum end (λ j. transposedTerm p v i j + transposedTerm q u i j)) low wraps
+      → (r : ℕ) → r ≡ (low + wraps * word) % m → r ≡ (transposedAt p v i + transposedAt q u i) % m
+  unfolding amount
+  transposed-ends f r g =
+      g ∙ ap (λ k. k % m) (f .whole ∙ ap (λ k. k + sum end (λ j. transposedTerm p v i j + transposedTerm q u i j)) (amount-number 0)
+      ∙ zero-add _ ∙ sum-both end _ _ ∙ sym (ap₂ _+_ (term-reach p v i end ends) (term-reach q u i end ends-too)))
 
 -- ---- what settles a term
 -- the sum may go on past the multiplier's end
@@ -302,33 +272,11 @@ transposed-entries p p′ w w′ i e d =
     let n = length p + length p′ in
     term-sum p w i n (omega arith) ∙ sum-equal n _ _ (λ j _. ap₂ _*_ (e j) (d (i + j))) ∙ sym (term-sum p′ w′ i n (omega arith))
 
--- the multiplier, a part, as two parts side by side: the second meets the list h places on
-module _ (w : List ℕ) (at n h : ℕ) (within : h ≤ n) where
-  -- entry h + k of a part is entry k of the part h places on
-  pub part-on : (k : ℕ) → getD (part w at n) (h + k) 0 ≡ getD (part w (at + h) (n - h)) k 0
-  part-on k = by (decLt k (n - h))
-    where
-      by : Dec (k < n - h) → getD (part w at n) (h + k) 0 ≡ getD (part w (at + h) (n - h)) k 0
-      by (yes l) =
-          let there : at + (h + k) ≡ at + h + k = omega arith in
-          part-entry w at n (h + k) (omega arith) ∙ ap (λ i. getD w i 0) there ∙ sym (part-entry w (at + h) (n - h) k l)
-      by (no l) = part-past w at n (h + k) (omega arith) ∙ sym (part-past w (at + h) (n - h) k (omega arith))
-
-  pub transposed-parts : (v v′ : List ℕ) (i : ℕ) → ((k : ℕ) → getD v (h + k) 0 ≡ getD v′ k 0)
-      → transposedAt (part w at h) v i + transposedAt (part w (at + h) (n - h)) v′ i ≡ transposedAt (part w at n) v i
-  transposed-parts v v′ i on =
-      let first = part w at h in
-      let second = part w (at + h) (n - h) in
-      let all : h + (n - h) ≡ n = omega arith in
-      ap₂ _+_ (term-sum first v i h (omega (arith, part-length w at h)) ∙ sum-equal h _ _ front)
-      (term-sum second v′ i (n - h) (omega (arith, part-length w (at + h) (n - h))) ∙ sum-equal (n - h) _ _ rest)
-      ∙ sym (sum-split h (n - h) (transposedTerm (part w at n) v i))
-      ∙ sym (term-sum (part w at n) v i (h + (n - h)) (omega (arith, part-length w at n)))
-    where
-      front : (j : ℕ) → j < h → transposedTerm (part w at h) v i j ≡ transposedTerm (part w at n) v i j
-      front j l = ap (λ x. x * getD v (i + j) 0) (part-entry w at h j l ∙ sym (part-entry w at n j (omega arith)))
-
-      rest : (j : ℕ) → j < n - h → transposedTerm (part w (at + h) (n - h)) v′ i j ≡ transposedTerm (part w at n) v i (h + j)
-      rest j l =
-          let there : h + (i + j) ≡ i + (h + j) = omega arith in
-          ap₂ _*_ (sym (part-on j)) (sym (on (i + j)) ∙ ap (λ k. getD v k 0) there)
+-- the multiplier in two halves of h entries, the second of which meets the list h places on
+pub transposed-halves : (p w p₁ w₁ p₂ w₂ : List ℕ) (i h : ℕ) → length p ≤ h + h → length p₁ ≤ h → length p₂ ≤ h
+    → ((j : ℕ) → j < h → transposedTerm p₁ w₁ i j ≡ transposedTerm p w i j)
+    → ((j : ℕ) → j < h → transposedTerm p₂ w₂ i j ≡ transposedTerm p w i (h + j))
+    → transposedAt p₁ w₁ i + transposedAt p₂ w₂ i ≡ transposedAt p w i
+transposed-halves p w p₁ w₁ p₂ w₂ i h l l₁ l₂ e₁ e₂ =
+    ap₂ _+_ (term-sum p₁ w₁ i h l₁ ∙ sum-equal h _ _ e₁) (term-sum p₂ w₂ i h l₂ ∙ sum-equal h _ _ e₂)
+    ∙ sym (sum-split h h (transposedTerm p w i)) ∙ sym (term-sum p w i (h + h) l)

@@ -123,8 +123,8 @@ pub fn sum_at(m: u32, reciprocal: u64, p: &[u32], v: &[u32], i: usize) -> u32
     remainder_of_sum(m, reciprocal, total.low, total.wraps)
 }
 
-// Term i of the transposed products of v with p and of u with q, added up: the sum over j of p_j v_{i+j} and of q_j u_{i+j}, zero past
-// the end of v and of u. What one of the two has beyond the other comes first, and then both side by side.
+// Term i of the transposed products of v with p and of u with q, added up: the sum over j of p_j v_{i+j} and q_j u_{i+j}, zero past the
+// end of the lists.
 pub fn transposed_at(
     m: u32,
     reciprocal: u64,
@@ -138,12 +138,8 @@ pub fn transposed_at(
     ensures { λ r. ⌜ r ≡ (transposedAt (now (p .entry)) (now (v .entry)) i
         + transposedAt (now (q .entry)) (now (u .entry)) i) % m ⌝ }
 {
-    let first = lesser(excess(v.len(), i), p.len());
-    let second = lesser(excess(u.len(), i), q.len());
-    let both = lesser(first, second);
+    let end = lesser(excess(v.len(), i), p.len());
     let none = Total { low: 0, wraps: 0 };
-    let more = with_singles(none, p, v, i, both, first);
-    let rest = with_singles(more, q, u, i, both, second);
-    let total = with_pairs(rest, p, v, q, u, i, both);
+    let total = with_pairs(none, p, v, q, u, i, end);
     remainder_of_sum(m, reciprocal, total.low, total.wraps)
 }

@@ -6,7 +6,7 @@
 --   slice w at n            the n numbers that are lent by a slice from place at on
 --   Used w p r pn n         the first n of the pn numbers from p on and from r on have the entries of all: the rest are zeros
 --   ProductPlaces           of a loop that writes n of them;  productEntry  what it writes at k
---   TermInput, TransposedPlaces, transposedEntry   the same of transposed products, whose parts may differ in length
+--   TermInput, TransposedPlaces, transposedEntry   the same of transposed products
 -- Proved: what lies apart from the target is read as it was, so that each step is handed what it requires; what a slice lends is the
 -- part; zeros at the end of both factors change nothing; how the loops go on and end.
 -- Assumes nothing.
@@ -68,24 +68,23 @@ unfoldable pub productEntry : ℕ → List ℕ → ℕ → ℕ → ℕ → ℕ �
 productEntry m w t tn p r pn q s qn k =
     (getD (part w t tn) k 0 + productAt (part w p pn) (part w q qn) k + productAt (part w r pn) (part w s qn) k) % m
 
-pub record TermInput (m reciprocal : ℕ) (w : List ℕ) (p pn q qn v vn u un : ℕ) : Type 0 where
+pub record TermInput (m reciprocal : ℕ) (w : List ℕ) (p q pn v u vn : ℕ) : Type 0 where
   pub reducible : Reducible m reciprocal
   pub pSource : Source m w p pn
-  pub qSource : Source m w q qn
+  pub qSource : Source m w q pn
   pub vSource : Source m w v vn
-  pub uSource : Source m w u un
+  pub uSource : Source m w u vn
 
-pub record TransposedPlaces (m reciprocal : ℕ) (w : List ℕ) (target n p pn q qn v vn u un : ℕ) : Type 0 where
+pub record TransposedPlaces (m reciprocal : ℕ) (w : List ℕ) (target n p q pn v u vn : ℕ) : Type 0 where
   pub reducible : Reducible m reciprocal
   pub room : target + n ≤ length w
   pub pAside : Aside m w target (target + n) p pn
-  pub qAside : Aside m w target (target + n) q qn
+  pub qAside : Aside m w target (target + n) q pn
   pub vAside : Aside m w target (target + n) v vn
-  pub uAside : Aside m w target (target + n) u un
+  pub uAside : Aside m w target (target + n) u vn
 
-unfoldable pub transposedEntry : ℕ → List ℕ → ℕ → ℕ → ℕ → ℕ → ℕ → ℕ → ℕ → ℕ → ℕ → ℕ
-transposedEntry m w p pn q qn v vn u un i =
-    (transposedAt (part w p pn) (part w v vn) i + transposedAt (part w q qn) (part w u un) i) % m
+unfoldable pub transposedEntry : ℕ → List ℕ → ℕ → ℕ → ℕ → ℕ → ℕ → ℕ → ℕ → ℕ
+transposedEntry m w p q pn v u vn i = (transposedAt (part w p pn) (part w v vn) i + transposedAt (part w q pn) (part w u vn) i) % m
 
 -- ---- parts that lie apart from what is written
 pub aside-within : (m : ℕ) (w : List ℕ) (lo hi at n lo′ hi′ at′ n′ : ℕ) → Aside m w lo hi at n
@@ -193,26 +192,28 @@ used-less w p r pn n pos u zp zr =
     }
 
 -- ---- one term of a sum of two transposed products
-module _ (m reciprocal : ℕ) (w : List ℕ) (p pn q qn v vn u un i : ℕ) (input : TermInput m reciprocal w p pn q qn v vn u un) where
-  pub term-input : TransposedInput m reciprocal (slice w p pn) (slice w v vn) (slice w q qn) (slice w u un)
+module _ (m reciprocal : ℕ) (w : List ℕ) (p q pn v u vn i : ℕ) (input : TermInput m reciprocal w p q pn v u vn) where
+  pub term-input : TransposedInput m reciprocal (slice w p pn) (slice w v vn) (slice w q pn) (slice w u vn)
   term-input = record {
     reducible = input .reducible;
     pBelow = slice-below m w p pn (input .pSource) pos;
     vBelow = slice-below m w v vn (input .vSource) pos;
-    qBelow = slice-below m w q qn (input .qSource) pos;
-    uBelow = slice-below m w u un (input .uSource) pos;
+    qBelow = slice-below m w q pn (input .qSource) pos;
+    uBelow = slice-below m w u vn (input .uSource) pos;
+    qLong = slice-length m w q pn (input .qSource) ∙ sym (slice-length m w p pn (input .pSource));
+    uLong = slice-length m w u vn (input .uSource) ∙ sym (slice-length m w v vn (input .vSource));
   }
     where
       pos : 0 < m
       pos = input .reducible .reciprocal .positive
 
-  pub term-is : (y : ℕ) → y ≡ (transposedAt (slice w p pn) (slice w v vn) i + transposedAt (slice w q qn) (slice w u un) i) % m
-      → y ≡ transposedEntry m w p pn q qn v vn u un i
+  pub term-is : (y : ℕ) → y ≡ (transposedAt (slice w p pn) (slice w v vn) i + transposedAt (slice w q pn) (slice w u vn) i) % m
+      → y ≡ transposedEntry m w p q pn v u vn i
   unfolding transposedEntry
   term-is y e =
       e ∙ ap₂ (λ x y. (x + y) % m)
       (ap₂ (λ x y. transposedAt x y i) (slice-part m w p pn (input .pSource)) (slice-part m w v vn (input .vSource)))
-      (ap₂ (λ x y. transposedAt x y i) (slice-part m w q qn (input .qSource)) (slice-part m w u un (input .uSource)))
+      (ap₂ (λ x y. transposedAt x y i) (slice-part m w q pn (input .qSource)) (slice-part m w u vn (input .uSource)))
 
 -- ---- all of them
 module _ (m : ℕ) (w₀ : List ℕ) (target n : ℕ) (f : ℕ → ℕ) (w : List ℕ) (k : ℕ) (h : Writing w₀ target n f w k)
@@ -277,47 +278,47 @@ pub product-ends : (m : ℕ) (w₀ : List ℕ) (target n t tn p r pn q s qn : �
 unfolding productEntry plusProducts
 product-ends m w₀ target n t tn p r pn q s qn w k l h = writing-ends w₀ target n (productEntry m w₀ t tn p r pn q s qn) w k h l
 
-module _ (m reciprocal : ℕ) (w₀ : List ℕ) (target n p pn q qn v vn u un : ℕ)
-    (places : TransposedPlaces m reciprocal w₀ target n p pn q qn v vn u un) where
+module _ (m reciprocal : ℕ) (w₀ : List ℕ) (target n p q pn v u vn : ℕ)
+    (places : TransposedPlaces m reciprocal w₀ target n p q pn v u vn) where
   abbrev wanted : ℕ → ℕ
-  wanted = transposedEntry m w₀ p pn q qn v vn u un
+  wanted = transposedEntry m w₀ p q pn v u vn
 
   module _ (w : List ℕ) (i : ℕ) (l : i < n) (h : Writing w₀ target n wanted w i)
-      {a b c d : ℕ} (pUsed : Used w₀ p p pn a) (qUsed : Used w₀ q q qn b) (vUsed : Used w₀ v v vn c) (uUsed : Used w₀ u u un d) where
-    -- the front of a part, as far as it is used
-    used-aside : (at k used : ℕ) → Aside m w₀ target (target + n) at k → Used w₀ at at k used → Aside m w₀ target (target + n) at used
-    used-aside at k used s e =
-        aside-within m w₀ target (target + n) at k target (target + n) at used s (omega arith) (omega arith) (omega arith)
-        (omega (arith, e .within))
+      {used held : ℕ} (multipliers : Used w₀ p q pn used) (lists : Used w₀ v u vn held) where
+    -- the front of a part, as far as it is used, is there still
+    module _ (at k c : ℕ) (a : Aside m w₀ target (target + n) at k) (fewer : c ≤ k) where
+      front-aside : Aside m w₀ target (target + n) at c
+      front-aside = aside-within m w₀ target (target + n) at k target (target + n) at c a (omega arith) (omega arith) (omega arith) (omega arith)
 
-    still : (at k used : ℕ) → Aside m w₀ target (target + n) at k → Used w₀ at at k used → Source m w at used
-    still at k used s e = aside-source m w₀ target n wanted w i h at used (used-aside at k used s e)
+      front-source : Source m w at c
+      front-source = aside-source m w₀ target n wanted w i h at c front-aside
 
-    pub transposed-term : TermInput m reciprocal w p a q b v c u d
+      front-entry : (j : ℕ) → getD (part w at c) j 0 ≡ getD (part w₀ at c) j 0
+      front-entry j = ap (λ x. getD x j 0) (aside-part m w₀ target n wanted w i h at c front-aside)
+
+    pub transposed-term : TermInput m reciprocal w p q used v u held
     transposed-term = record {
       reducible = places .reducible;
-      pSource = still p pn a (places .pAside) pUsed;
-      qSource = still q qn b (places .qAside) qUsed;
-      vSource = still v vn c (places .vAside) vUsed;
-      uSource = still u un d (places .uAside) uUsed;
+      pSource = front-source p pn used (places .pAside) (multipliers .within);
+      qSource = front-source q pn used (places .qAside) (multipliers .within);
+      vSource = front-source v vn held (places .vAside) (lists .within);
+      uSource = front-source u vn held (places .uAside) (lists .within);
     }
 
-    same : (at k used : ℕ) → Aside m w₀ target (target + n) at k → Used w₀ at at k used → (j : ℕ)
-        → getD (part w at used) j 0 ≡ getD (part w₀ at k) j 0
-    same at k used s e j = ap (λ x. getD x j 0) (aside-part m w₀ target n wanted w i h at used (used-aside at k used s e)) ∙ e .pSame j
-
-    pub transposed-next : (x : ℕ) → x ≡ transposedEntry m w p a q b v c u d i → Writing w₀ target n wanted (set w (target + i) x) (i + 1)
+    pub transposed-next : (x : ℕ) → x ≡ transposedEntry m w p q used v u held i
+        → Writing w₀ target n wanted (set w (target + i) x) (i + 1)
     unfolding transposedEntry
     transposed-next x g =
-        let first = transposed-entries (part w p a) (part w₀ p pn) (part w v c) (part w₀ v vn) i
-        (same p pn a (places .pAside) pUsed) (same v vn c (places .vAside) vUsed) in
-        let second = transposed-entries (part w q b) (part w₀ q qn) (part w u d) (part w₀ u un) i
-        (same q qn b (places .qAside) qUsed) (same u un d (places .uAside) uUsed) in
+        let first = transposed-entries (part w p used) (part w₀ p pn) (part w v held) (part w₀ v vn) i
+        (λ j. front-entry p pn used (places .pAside) (multipliers .within) j ∙ multipliers .pSame j)
+        (λ j. front-entry v vn held (places .vAside) (lists .within) j ∙ lists .pSame j) in
+        let second = transposed-entries (part w q used) (part w₀ q pn) (part w u held) (part w₀ u vn) i
+        (λ j. front-entry q pn used (places .qAside) (multipliers .within) j ∙ multipliers .rSame j)
+        (λ j. front-entry u vn held (places .uAside) (lists .within) j ∙ lists .rSame j) in
         writing-next w₀ target n wanted w i h x l (g ∙ ap₂ (λ y z. (y + z) % m) first second)
 
-pub transposed-ends : (m : ℕ) (w₀ : List ℕ) (target n p pn q qn v vn u un : ℕ) (w : List ℕ) (i : ℕ) → n ≤ i
-    → Writing w₀ target n (transposedEntry m w₀ p pn q qn v vn u un) w i
-    → w ≡ written w₀ target (transposedSum m n (part w₀ p pn) (part w₀ v vn) (part w₀ q qn) (part w₀ u un))
+pub transposed-ends : (m : ℕ) (w₀ : List ℕ) (target n p q pn v u vn : ℕ) (w : List ℕ) (i : ℕ) → n ≤ i
+    → Writing w₀ target n (transposedEntry m w₀ p q pn v u vn) w i
+    → w ≡ written w₀ target (transposedSum m n (part w₀ p pn) (part w₀ v vn) (part w₀ q pn) (part w₀ u vn))
 unfolding transposedEntry transposedSum
-transposed-ends m w₀ target n p pn q qn v vn u un w i l h =
-    writing-ends w₀ target n (transposedEntry m w₀ p pn q qn v vn u un) w i h l
+transposed-ends m w₀ target n p q pn v u vn w i l h = writing-ends w₀ target n (transposedEntry m w₀ p q pn v u vn) w i h l

@@ -81,7 +81,7 @@ fn coefficient_or_start(
 }
 
 // How many of the pn numbers from p on and from r on are left without the zeros at the end of both. Of one list, p is r.
-fn used_length(w: &[u32], p: usize, r: usize, pn: usize) -> usize
+pub fn used_length(w: &[u32], p: usize, r: usize, pn: usize) -> usize
     requires { ⌜ (p + pn ≤ length (now w)) × (r + pn ≤ length (now w)) ⌝ }
     ensures { λ n. ⌜ Used (now (w .entry)) p r pn n ⌝ }
 {
@@ -132,40 +132,38 @@ pub fn add_products(
     }
 }
 
-// Term i of the transposed products of v with p and of u with q, added up, where each is a part.
+// Term i of the transposed products of v with p and of u with q, added up, where p and q are parts of pn numbers, v and u of vn.
 fn term(
     m: u32,
     reciprocal: u64,
     w: &[u32],
     p: usize,
-    pn: usize,
     q: usize,
-    qn: usize,
+    pn: usize,
     v: usize,
-    vn: usize,
     u: usize,
-    un: usize,
+    vn: usize,
     i: usize,
 ) -> u32
-    requires { ⌜ TermInput m reciprocal (now w) p pn q qn v vn u un ⌝ }
-    ensures { λ x. ⌜ x ≡ transposedEntry m (now (w .entry)) p pn q qn v vn u un i ⌝ }
+    requires { ⌜ TermInput m reciprocal (now w) p q pn v u vn ⌝ }
+    ensures { λ x. ⌜ x ≡ transposedEntry m (now (w .entry)) p q pn v u vn i ⌝ }
 {
     transposed_at(
         m,
         reciprocal,
         &w[p..p + pn],
         &w[v..v + vn],
-        &w[q..q + qn],
-        &w[u..u + un],
+        &w[q..q + pn],
+        &w[u..u + vn],
         i,
     )
 }
 
 // Transposed multiplication, in one pass: writes the n first terms of the transposed products of v with p and of u with q, added up, from
-// place target on. Term i is the sum over j of p_j v_{i+j} and of q_j u_{i+j}, where p and q are the multipliers, v and u the lists, zero
-// past their ends. All of them are parts of w: p has pn numbers, q has qn, v has vn and u has un, and they lie apart from the n wanted
-// terms. Nothing else is formed or written, and the zeros at the end of a list are not multiplied. One product alone is that of a
-// multiplier's two pieces (convolution, Terms).
+// place target on. Term i is the sum over j of p_j v_{i+j} and q_j u_{i+j}, where p and q are the multipliers and v and u the lists, zero
+// past their ends. All are parts of w: p and q have pn numbers, v and u have vn, and they lie apart from the n wanted terms. Nothing else is
+// formed or written, and the zeros that end both multipliers or both lists are not multiplied. One product alone is the sum of two, of
+// the halves of its multiplier (convolution, Terms).
 pub fn transposed(
     m: u32,
     reciprocal: u64,
@@ -173,39 +171,22 @@ pub fn transposed(
     target: usize,
     n: usize,
     p: usize,
-    pn: usize,
     q: usize,
-    qn: usize,
+    pn: usize,
     v: usize,
-    vn: usize,
     u: usize,
-    un: usize,
+    vn: usize,
 )
-    requires { ⌜ TransposedPlaces m reciprocal (now w) target n p pn q qn v vn u un ⌝ }
+    requires { ⌜ TransposedPlaces m reciprocal (now w) target n p q pn v u vn ⌝ }
     ensures { λ _. ⌜ now (w .exit) ≡ written (now (w .entry)) target
         (transposedSum m n (part (now (w .entry)) p pn) (part (now (w .entry)) v vn)
-        (part (now (w .entry)) q qn) (part (now (w .entry)) u un)) ⌝ }
+        (part (now (w .entry)) q pn) (part (now (w .entry)) u vn)) ⌝ }
 {
-    let p_used = used_length(w, p, p, pn);
-    let q_used = used_length(w, q, q, qn);
-    let v_used = used_length(w, v, v, vn);
-    let u_used = used_length(w, u, u, un);
+    let used = used_length(w, p, q, pn);
+    let held = used_length(w, v, u, vn);
     let mut i: usize = 0;
     while i < n {
-        let x = term(
-            m,
-            reciprocal,
-            w,
-            p,
-            p_used,
-            q,
-            q_used,
-            v,
-            v_used,
-            u,
-            u_used,
-            i,
-        );
+        let x = term(m, reciprocal, w, p, q, used, v, u, held, i);
         let place = target + i;
         w[place] = x;
         i += 1;

@@ -29,7 +29,7 @@ module _ {m : ℕ} {w : List ℕ} {target n matrix qn first second vn : ℕ} (pl
   adjointEntry w′ row = transposedSum m n (part w′ row qn) (part w′ first vn) (part w′ (row + qn) qn) (part w′ second vn)
 
   pub adjointPair-first : {reciprocal : ℕ} → Reciprocal m reciprocal
-      → TransposedPlaces m reciprocal w target n matrix qn (matrix + qn) qn first vn second vn
+      → TransposedPlaces m reciprocal w target n matrix (matrix + qn) qn first second vn
   adjointPair-first held =
       let room : target + (n + n) ≤ length w = places .room in
       record {
@@ -52,7 +52,7 @@ module _ {m : ℕ} {w : List ℕ} {target n matrix qn first second vn : ℕ} (pl
         (omega (arith, first-length)))
 
     pub adjointPair-second : {reciprocal : ℕ} → Reciprocal m reciprocal → TransposedPlaces m reciprocal w₁ (target + n) n
-        (matrix + (qn + qn)) qn (matrix + (qn + qn) + qn) qn first vn second vn
+        (matrix + (qn + qn)) (matrix + (qn + qn) + qn) qn first second vn
     adjointPair-second held =
         let room : target + (n + n) ≤ length w = places .room in
         let matrixStill = aside-still (places .matrixAside) adjointPair-kept in

@@ -258,11 +258,9 @@ fn adjoint_pair(
         target,
         n,
         matrix,
-        qn,
         matrix + qn,
         qn,
         first,
-        vn,
         second,
         vn,
     );
@@ -273,11 +271,9 @@ fn adjoint_pair(
         target + n,
         n,
         row,
-        qn,
         row + qn,
         qn,
         first,
-        vn,
         second,
         vn,
     );

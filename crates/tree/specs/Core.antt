@@ -248,7 +248,6 @@ module _ {m : ℕ} {a b c curve : List ℕ} {n : ℕ} {output work : List ℕ} (
         bBelow = first-below 0;
         aBelow = first-below 1;
         curveHolds = h .curveHolds;
-        least = omega (arith, two, deep .reaches);
         covers = omega (arith, deep .reaches);
         room = omega (arith, deep .few, h .workLong, tree-kept .long);
       }

@@ -11,7 +11,7 @@ ghost use Rattle.numbers.specs.Regions.{part, written};
 ghost use Rattle.numbers.specs.Products.{plusProduct};
 ghost use Rattle.tree_model.specs.Tree.{treeExpand, treeAdjoint};
 ghost use Rattle.subproduct.specs.Layout.{Level};
-ghost use Rattle.tree.specs.Root.{LevelOf, RootInput, CoefficientInput, rootEntry, PairInput, PairOutput, stretched};
+ghost use Rattle.tree.specs.Root.{LevelOf, RootInput, CoefficientInput, rootEntry, PairInput, PairOutput, StretchInput, stretched};
 ghost use Rattle.tree.specs.Input.{Input};
 ghost use Rattle.tree.specs.Core.{TreeOutput, expandVectors, adjointVectors};
 use convolution::products_at;
@@ -89,15 +89,15 @@ fn expand_root(
     }
 }
 
-// Writes the first n entries of the curve from place at on, and zeros behind them, span numbers in all.
-fn stretch(curve: &[u32], n: usize, w: &mut [u32], at: usize, span: usize)
-    requires { ⌜ (n ≤ length (now curve)) × (at + span ≤ length (now w)) ⌝ }
-    ensures { λ _. ⌜ now (w .exit) ≡ written (now (w .entry)) at (stretched span (take n (now (curve .entry)))) ⌝ }
+// Writes the entries of the curve, which has n, that follow its first ones from place at on, and zeros behind them, span numbers in all.
+fn stretch(curve: &[u32], n: usize, first: usize, w: &mut [u32], at: usize, span: usize)
+    requires { ⌜ StretchInput (now curve) n first (now w) at span ⌝ }
+    ensures { λ _. ⌜ now (w .exit) ≡ written (now (w .entry)) at (stretched span first (take n (now (curve .entry)))) ⌝ }
 {
     let mut i: usize = 0;
     while i < span {
         let place = at + i;
-        w[place] = row_entry(curve, n, i, 0);
+        w[place] = row_entry(curve, n, first + i, 0);
         i += 1;
     }
 }
@@ -112,7 +112,7 @@ fn store_two(w: &mut [u32], at: usize, x: u32, y: u32)
 }
 
 // Writes the pair of the root from place at on: the transposed products of the curve with F_0 = 1, which is the curve, and with
-// F_1 = b + a x. Behind the pair F_1 is left.
+// F_1 = b + a x, of which b meets the curve and a the curve from its second entry on. These and a stay behind the pair.
 fn root_pair(m: u32, b: u32, a: u32, curve: &[u32], n: usize, w: &mut [u32], at: usize, span: usize)
     requires { ⌜ PairInput m b a (now curve) n (now w) at span ⌝ }
     ensures { λ _. ⌜ PairOutput m b a (take n (now (curve .entry))) (now (w .entry)) at span (now (w .exit)) ⌝ }
@@ -120,8 +120,10 @@ fn root_pair(m: u32, b: u32, a: u32, curve: &[u32], n: usize, w: &mut [u32], at:
     let reciprocal = reduction::reciprocal(m);
     let second = at + span;
     let behind = second + span;
-    stretch(curve, n, w, at, span);
+    let onward = behind + 2;
+    stretch(curve, n, 0, w, at, span);
     store_two(w, behind, b, a);
+    stretch(curve, n, 1, w, onward, span);
     transposed(
         m,
         reciprocal,
@@ -129,13 +131,11 @@ fn root_pair(m: u32, b: u32, a: u32, curve: &[u32], n: usize, w: &mut [u32], at:
         second,
         span,
         behind,
-        1,
         behind + 1,
         1,
         at,
+        onward,
         span,
-        at + 1,
-        span - 1,
     );
 }
 

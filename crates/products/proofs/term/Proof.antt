@@ -6,10 +6,10 @@ use Rattle.products.proofs.term.Tie as tie
 
 transposed-at-requires : tie.Need-transposed-at-requires
 transposed-at-requires c κs =
-    term-input _ _ _ _ _ _ _ _ _ _ _ (c .before .before .before .before .before .args .i) (c .before .before .before .before .before .pre)
+    term-input _ _ _ _ _ _ _ _ _ (c .before .before .before .before .before .args .i) (c .before .before .before .before .before .pre)
 
 returns : tie.Need-returns
-returns c = term-is _ _ _ _ _ _ _ _ _ _ _ _ (c .before .before .before .before .before .before .pre) _ (c .transposed-at .ensures)
+returns c = term-is _ _ _ _ _ _ _ _ _ _ (c .before .before .before .before .before .before .pre) _ (c .transposed-at .ensures)
 
 pub term-spec : {M : Type 1} → statement M
 term-spec =

@@ -1,5 +1,5 @@
 -- `products::transposed` meets its contract: the loop's invariant is that i terms stand from place target on (`Writing`) and the rest is
--- as it was; zeros at the end of a part change none of them. The measure is what is left of them. Assumes nothing.
+-- as it was; zeros that end both multipliers or both lists change none of them. The measure is what is left of them. Assumes nothing.
 use Prim.Native.Nat.{_-_}
 use native.Mathlib.Omega.{arith}
 use Rattle.numbers.specs.Regions.{Writing, writing-starts}
@@ -8,41 +8,29 @@ use Rattle.products.proofs.transposed.Statement.{statement}
 use Rattle.products.proofs.transposed.Tie as tie
 
 abbrev Inv-loop : tie.InvT-loop
-Inv-loop m reciprocal w₀ target n p pn q qn v vn u un p-used q-used v-used u-used i₀ w i =
-    Writing w₀ target n (transposedEntry m w₀ p pn q qn v vn u un) w i
+Inv-loop m reciprocal w₀ target n p q pn v u vn used held i₀ w i = Writing w₀ target n (transposedEntry m w₀ p q pn v u vn) w i
 
 abbrev μ-loop : tie.MeasureT-loop
-μ-loop m reciprocal w₀ target n p pn q qn v vn u un p-used q-used v-used u-used i₀ w i = n - i
+μ-loop m reciprocal w₀ target n p q pn v u vn used held i₀ w i = n - i
 
 used-length-requires : tie.Need-used-length-requires Inv-loop μ-loop
-used-length-requires c κs = let start = c .before .before in (start .pre .pAside .source .inside, start .pre .pAside .source .inside)
+used-length-requires c κs = let start = c .before .before in (start .pre .pAside .source .inside, start .pre .qAside .source .inside)
 
 used-length-requires-2 : tie.Need-used-length-requires-2 Inv-loop μ-loop
 used-length-requires-2 c κs =
     let start = c .before .before .before .before in
-    (start .pre .qAside .source .inside, start .pre .qAside .source .inside)
-
-used-length-requires-3 : tie.Need-used-length-requires-3 Inv-loop μ-loop
-used-length-requires-3 c κs =
-    let start = c .before .before .before .before .before .before in
-    (start .pre .vAside .source .inside, start .pre .vAside .source .inside)
-
-used-length-requires-4 : tie.Need-used-length-requires-4 Inv-loop μ-loop
-used-length-requires-4 c κs =
-    let start = c .before .before .before .before .before .before .before .before in
-    (start .pre .uAside .source .inside, start .pre .uAside .source .inside)
+    (start .pre .vAside .source .inside, start .pre .uAside .source .inside)
 
 loop-holds : tie.Need-loop-holds Inv-loop μ-loop
-loop-holds c = writing-starts _ _ _ _ (c .before .before .before .before .before .before .before .before .before .pre .room)
+loop-holds c = writing-starts _ _ _ _ (c .before .before .before .before .before .pre .room)
 
 term-requires : tie.Need-term-requires Inv-loop μ-loop
 term-requires c κs =
     let loop = c .before .before in
-    let used = loop .before in
-    let start = used .before .before .before .before .before .before .before .before .before in
-    transposed-term _ _ _ _ _ _ _ _ _ _ _ _ _ (start .pre) _ _ (c .before .loop-test .taken) (loop .loop .inv)
-    (used .before .before .before .before .before .before .used-length .ensures) (used .before .before .before .before .used-length2 .ensures)
-    (used .before .before .used-length3 .ensures) (used .used-length4 .ensures)
+    let lists = loop .before in
+    let start = lists .before .before .before .before .before in
+    transposed-term _ _ _ _ _ _ _ _ _ _ _ (start .pre) _ _ (c .before .loop-test .taken) (loop .loop .inv)
+    (lists .before .before .used-length .ensures) (lists .used-length2 .ensures)
 
 add-place : tie.Need-add-place Inv-loop μ-loop
 add-place c = omega arith
@@ -62,21 +50,20 @@ loop-less c = omega arith
 loop-again : tie.Need-loop-again Inv-loop μ-loop
 loop-again c =
     let loop = c .before .before .before in
-    let used = loop .before in
-    let start = used .before .before .before .before .before .before .before .before .before in
-    transposed-next _ _ _ _ _ _ _ _ _ _ _ _ _ (start .pre) _ _ (c .before .before .loop-test .taken) (loop .loop .inv)
-    (used .before .before .before .before .before .before .used-length .ensures) (used .before .before .before .before .used-length2 .ensures)
-    (used .before .before .used-length3 .ensures) (used .used-length4 .ensures) _ (c .term .ensures)
+    let lists = loop .before in
+    let start = lists .before .before .before .before .before in
+    transposed-next _ _ _ _ _ _ _ _ _ _ _ (start .pre) _ _ (c .before .before .loop-test .taken) (loop .loop .inv)
+    (lists .before .before .used-length .ensures) (lists .used-length2 .ensures) _ (c .term .ensures)
 
 same-length : tie.Need-same-length Inv-loop μ-loop
 same-length c = omega arith
 
 returns : tie.Need-returns Inv-loop μ-loop
-returns c = transposed-ends _ _ _ _ _ _ _ _ _ _ _ _ _ _ (c .loop-test .left) (c .before .loop .inv)
+returns c = transposed-ends _ _ _ _ _ _ _ _ _ _ _ _ (c .loop-test .left) (c .before .loop .inv)
 
 pub transposed-spec : {M : Type 1} → statement M
 transposed-spec =
     tie.close
     (tie.spec
-    Inv-loop μ-loop used-length-requires used-length-requires-2 used-length-requires-3 used-length-requires-4 loop-holds term-requires
-    add-place mul-w slice-write-w add-i loop-less loop-again same-length returns)
+    Inv-loop μ-loop used-length-requires used-length-requires-2 loop-holds term-requires add-place mul-w slice-write-w add-i loop-less
+    loop-again same-length returns)

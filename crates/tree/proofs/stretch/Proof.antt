@@ -1,6 +1,6 @@
 -- `tree::stretch` meets its contract: the loop's invariant is that i entries stand from place at on (`Writing`) and the rest is as it was;
 -- the measure is what is left of them. Assumes nothing.
-use Prim.Native.Nat.{_-_}
+use Prim.Native.Nat.{_+_, _-_}
 use native.Mathlib.Omega.{arith}
 use lib.ListN.{getD, take}
 use Rattle.numbers.specs.Regions.{Writing, writing-starts, writing-next}
@@ -9,19 +9,22 @@ use Rattle.tree.proofs.stretch.Statement.{statement}
 use Rattle.tree.proofs.stretch.Tie as tie
 
 abbrev Inv-loop : tie.InvT-loop
-Inv-loop curve n w₀ at span i₀ w i = Writing w₀ at span (λ i. getD (take n curve) i 0) w i
+Inv-loop curve n first w₀ at span i₀ w i = Writing w₀ at span (λ i. getD (take n curve) (first + i) 0) w i
 
 abbrev μ-loop : tie.MeasureT-loop
-μ-loop curve n w₀ at span i₀ w i = span - i
+μ-loop curve n first w₀ at span i₀ w i = span - i
 
 loop-holds : tie.Need-loop-holds Inv-loop μ-loop
-loop-holds c = writing-starts _ _ _ _ (c .before .before .pre .1)
+loop-holds c = writing-starts _ _ _ _ (c .before .before .pre .room)
 
 add-place : tie.Need-add-place Inv-loop μ-loop
 add-place c = omega arith
 
+add-row-entry : tie.Need-add-row-entry Inv-loop μ-loop
+add-row-entry c = let start = c .before .before .before .before in omega (arith, start .pre .few, start .pre .room, start .good)
+
 row-entry-requires : tie.Need-row-entry-requires Inv-loop μ-loop
-row-entry-requires c κs = c .before .before .before .before .pre .0
+row-entry-requires c κs = c .before .before .before .before .pre .long
 
 mul-w : tie.Need-mul-w Inv-loop μ-loop
 mul-w c = omega arith
@@ -42,10 +45,10 @@ same-length : tie.Need-same-length Inv-loop μ-loop
 same-length c = omega arith
 
 returns : tie.Need-returns Inv-loop μ-loop
-returns c = stretch-ends _ (c .before .loop .inv) (c .loop-test .left)
+returns c = stretch-ends _ _ (c .before .loop .inv) (c .loop-test .left)
 
 pub stretch-spec : {M : Type 1} → statement M
 stretch-spec =
     tie.close
     (tie.spec
-    Inv-loop μ-loop loop-holds add-place row-entry-requires mul-w slice-write-w add-i loop-less loop-again same-length returns)
+    Inv-loop μ-loop loop-holds add-place add-row-entry row-entry-requires mul-w slice-write-w add-i loop-less loop-again same-length returns)
