@@ -2,4 +2,5 @@
 pub mod Input
 pub mod Polynomials
 pub mod Moments
+pub mod Hankel
 pub mod Decompose

@@ -24,6 +24,7 @@ use lists::copy;
 use lists::row_entry;
 use lists::zeros;
 use products::transposed;
+use products::used_length;
 use residue::negative;
 use residue::product_by;
 use series::quotient;
@@ -216,8 +217,6 @@ fn decompose_tree(
         (now (output .entry)) (now (output .exit)) (now (work .entry)) (now (work .exit)) ⌝ }
 {
     let reciprocal = reduction::reciprocal(m);
-    let count = 2 * n - 1;
-    let half = n / 2;
     let mut lists = hankel_room();
     moments(
         m,
@@ -234,6 +233,8 @@ fn decompose_tree(
         work,
     );
     copy(coefficients, n, &mut lists[383..]);
+    let used = used_length(&lists, 383, 383, n);
+    let half = used - used / 2;
     transposed(
         m,
         reciprocal,
@@ -241,13 +242,11 @@ fn decompose_tree(
         0,
         n,
         383,
-        half,
         383 + half,
-        n - half,
+        half,
         128,
-        count,
         128 + half,
-        count - half,
+        n + half - 1,
     );
     adjoint(m, a, b, c, &lists, n, output, work);
     divide_by_norms(m, a, c_inverses, close_a, close_c_inverse, n, output);
