@@ -19,7 +19,6 @@ use Rattle.numbers.specs.Lists.{filled, filled-length, table-equal, table-entri
 use Rattle.numbers.specs.Products.{Below, transposedAt, transposed, transposedSum, transposedSum-length}
 use Rattle.numbers.specs.Regions.{part, written, ResiduesIn, KeptOutside, part-length, part-entry, part-past, part-residues, part-written}
 use Rattle.numbers.specs.Regions.{written-length, written-kept, kept-wider, kept-part, kept-drop}
-use Rattle.reduction.specs.Reciprocal.{Reciprocal}
 use Rattle.lists.specs.Held.{Holds, held-below}
 use Rattle.convolution.specs.Terms.{transposed-entries, transposed-halves}
 use Rattle.products.specs.Places.{Aside, TransposedPlaces, Used}
@@ -160,14 +159,14 @@ module _ {blank : List ℕ} (z : blank ≡ replicate 511 0) where
         hankel-used = (omega (arith, second-long, input .few), omega (arith, second-long, input .few))
 
         module _ {used half : ℕ} (left : Used lists₂ 383 383 n used) (halves : Halves used half) where
-          pub hankel-places : {reciprocal : ℕ} → Reciprocal m reciprocal
-              → TransposedPlaces m reciprocal lists₂ 0 n 383 (383 + half) half 128 (128 + half) (n + half - 1)
-          hankel-places held =
+          pub hankel-places : TransposedPlaces m lists₂ 0 n 383 (383 + half) half 128 (128 + half) (n + half - 1)
+          hankel-places =
               let few : n ≤ 128 = input .few in
               let some : used ≤ n = left .within in
               let two : half + half ≤ used + 1 = halves .close in
               record {
-                reducible = record { most = input .most; reciprocal = held };
+                least = input .positive;
+                most = input .most;
                 room = omega (arith, second-long);
                 pAside = beside 383 128 383 half coefficients-below (omega arith) (omega arith) (omega arith) (omega arith);
                 qAside = beside 383 128 (383 + half) half coefficients-below (omega arith) (omega arith) (omega arith) (omega arith);

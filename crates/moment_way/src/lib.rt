@@ -216,7 +216,6 @@ fn decompose_tree(
         (take n (now (coefficients .entry)))) n
         (now (output .entry)) (now (output .exit)) (now (work .entry)) (now (work .exit)) ⌝ }
 {
-    let reciprocal = reduction::reciprocal(m);
     let mut lists = hankel_room();
     moments(
         m,
@@ -237,7 +236,6 @@ fn decompose_tree(
     let half = used - used / 2;
     transposed(
         m,
-        reciprocal,
         &mut lists,
         0,
         n,

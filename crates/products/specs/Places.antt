@@ -72,8 +72,9 @@ pub record TermInput (m reciprocal : ℕ) (w : List ℕ) (p q pn v u vn : ℕ) :
   pub vSource : Source m w v vn
   pub uSource : Source m w u vn
 
-pub record TransposedPlaces (m reciprocal : ℕ) (w : List ℕ) (target n p q pn v u vn : ℕ) : Type 0 where
-  pub reducible : Reducible m reciprocal
+pub record TransposedPlaces (m : ℕ) (w : List ℕ) (target n p q pn v u vn : ℕ) : Type 0 where
+  pub least : 0 < m
+  pub most : m ≤ greatestModulus
   pub room : target + n ≤ length w
   pub pAside : Aside m w target (target + n) p pn
   pub qAside : Aside m w target (target + n) q pn
@@ -275,8 +276,7 @@ pub product-ends : (m : ℕ) (w₀ : List ℕ) (target n t tn p r pn q s qn : �
 unfolding productEntry plusProducts
 product-ends m w₀ target n t tn p r pn q s qn w k l h = writing-ends w₀ target n (productEntry m w₀ t tn p r pn q s qn) w k h l
 
-module _ (m reciprocal : ℕ) (w₀ : List ℕ) (target n p q pn v u vn : ℕ)
-    (places : TransposedPlaces m reciprocal w₀ target n p q pn v u vn) where
+module _ (m : ℕ) (w₀ : List ℕ) (target n p q pn v u vn : ℕ) (places : TransposedPlaces m w₀ target n p q pn v u vn) where
   abbrev wanted : ℕ → ℕ
   wanted = transposedEntry m w₀ p q pn v u vn
 
@@ -293,9 +293,9 @@ module _ (m reciprocal : ℕ) (w₀ : List ℕ) (target n p q pn v u vn : ℕ)
       front-entry : (j : ℕ) → getD (part w at c) j 0 ≡ getD (part w₀ at c) j 0
       front-entry j = ap (λ x. getD x j 0) (aside-part m w₀ target n wanted w i h at c front-aside)
 
-    pub transposed-term : TermInput m reciprocal w p q used v u held
-    transposed-term = record {
-      reducible = places .reducible;
+    pub transposed-term : {reciprocal : ℕ} → Reciprocal m reciprocal → TermInput m reciprocal w p q used v u held
+    transposed-term reciprocal = record {
+      reducible = record { most = places .most; reciprocal = reciprocal };
       pSource = front-source p pn used (places .pAside) (multipliers .within);
       qSource = front-source q pn used (places .qAside) (multipliers .within);
       vSource = front-source v vn held (places .vAside) (lists .within);

@@ -166,7 +166,6 @@ fn term(
 // the halves of its multiplier (convolution, Terms).
 pub fn transposed(
     m: u32,
-    reciprocal: u64,
     w: &mut [u32],
     target: usize,
     n: usize,
@@ -177,11 +176,12 @@ pub fn transposed(
     u: usize,
     vn: usize,
 )
-    requires { ⌜ TransposedPlaces m reciprocal (now w) target n p q pn v u vn ⌝ }
+    requires { ⌜ TransposedPlaces m (now w) target n p q pn v u vn ⌝ }
     ensures { λ _. ⌜ now (w .exit) ≡ written (now (w .entry)) target
         (transposedSum m n (part (now (w .entry)) p pn) (part (now (w .entry)) v vn)
         (part (now (w .entry)) q pn) (part (now (w .entry)) u vn)) ⌝ }
 {
+    let reciprocal = reduction::reciprocal(m);
     let used = used_length(w, p, q, pn);
     let held = used_length(w, v, u, vn);
     let mut i: usize = 0;

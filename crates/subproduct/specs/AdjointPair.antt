@@ -10,7 +10,6 @@ use Rattle.definitions.specs.Family.{greatestModulus}
 use Rattle.numbers.specs.Regions.{part, written, KeptOutside, written-then, written-kept}
 use Rattle.numbers.specs.Products.{transposedSum, transposedSum-length}
 use Rattle.tree_model.specs.Tree.{adjointPair}
-use Rattle.reduction.specs.Reciprocal.{Reciprocal}
 use Rattle.products.specs.Places.{Aside, TransposedPlaces}
 use Rattle.subproduct.specs.Layout.{listsAt, pairList, matrixAt, wider, aside-in, aside-still, aside-part}
 
@@ -28,12 +27,12 @@ module _ {m : ℕ} {w : List ℕ} {target n matrix qn first second vn : ℕ} (pl
   abbrev adjointEntry : List ℕ → ℕ → List ℕ
   adjointEntry w′ row = transposedSum m n (part w′ row qn) (part w′ first vn) (part w′ (row + qn) qn) (part w′ second vn)
 
-  pub adjointPair-first : {reciprocal : ℕ} → Reciprocal m reciprocal
-      → TransposedPlaces m reciprocal w target n matrix (matrix + qn) qn first second vn
-  adjointPair-first held =
+  pub adjointPair-first : TransposedPlaces m w target n matrix (matrix + qn) qn first second vn
+  adjointPair-first =
       let room : target + (n + n) ≤ length w = places .room in
       record {
-        reducible = record { most = places .most; reciprocal = held };
+        least = places .least;
+        most = places .most;
         room = omega arith;
         pAside = aside-in (places .matrixAside) (omega arith) (omega arith) (omega arith) (omega arith);
         qAside = aside-in (places .matrixAside) (omega arith) (omega arith) (omega arith) (omega arith);
@@ -51,13 +50,13 @@ module _ {m : ℕ} {w : List ℕ} {target n matrix qn first second vn : ℕ} (pl
         rw e₁ (wider (written-kept w target (adjointEntry w matrix) (omega (arith, first-length))) (omega arith)
         (omega (arith, first-length)))
 
-    pub adjointPair-second : {reciprocal : ℕ} → Reciprocal m reciprocal → TransposedPlaces m reciprocal w₁ (target + n) n
-        (matrix + (qn + qn)) (matrix + (qn + qn) + qn) qn first second vn
-    adjointPair-second held =
+    pub adjointPair-second : TransposedPlaces m w₁ (target + n) n (matrix + (qn + qn)) (matrix + (qn + qn) + qn) qn first second vn
+    adjointPair-second =
         let room : target + (n + n) ≤ length w = places .room in
         let matrixStill = aside-still (places .matrixAside) adjointPair-kept in
         record {
-          reducible = record { most = places .most; reciprocal = held };
+          least = places .least;
+          most = places .most;
           room = omega (arith, adjointPair-kept .long);
           pAside = aside-in matrixStill (omega arith) (omega arith) (omega arith) (omega arith);
           qAside = aside-in matrixStill (omega arith) (omega arith) (omega arith) (omega arith);

@@ -265,34 +265,9 @@ fn adjoint_pair(
     ensures { λ _. ⌜ now (w .exit) ≡ written (now (w .entry)) target (pairList (adjointPair m n
         (matrixAt (now (w .entry)) matrix qn) (listsAt (now (w .entry)) first second vn))) ⌝ }
 {
-    let reciprocal = reduction::reciprocal(m);
     let row = matrix + (qn + qn);
-    transposed(
-        m,
-        reciprocal,
-        w,
-        target,
-        n,
-        matrix,
-        matrix + qn,
-        qn,
-        first,
-        second,
-        vn,
-    );
-    transposed(
-        m,
-        reciprocal,
-        w,
-        target + n,
-        n,
-        row,
-        row + qn,
-        qn,
-        first,
-        second,
-        vn,
-    );
+    transposed(m, w, target, n, matrix, matrix + qn, qn, first, second, vn);
+    transposed(m, w, target + n, n, row, row + qn, qn, first, second, vn);
 }
 
 fn descend_leaf(w: &mut [u32], first: usize, second: usize, at: usize)

@@ -284,10 +284,10 @@ module _ {m b a : ℕ} {curve : List ℕ} {n : ℕ} {w : List ℕ} {at span : �
         first-aside p l g = aside behind 2 p 1 (part-residues m w₃ behind 2 first first-holds first-below) (inr (omega arith))
             (omega (arith, all-long, h .room)) l g
 
-        pub pair-places : {reciprocal : ℕ} → Reciprocal m reciprocal
-            → TransposedPlaces m reciprocal w₃ (at + span) span behind (behind + 1) 1 at onward span
-        pair-places held = record {
-          reducible = record { most = h .modulus .greatest; reciprocal = held };
+        pub pair-places : TransposedPlaces m w₃ (at + span) span behind (behind + 1) 1 at onward span
+        pair-places = record {
+          least = pair-positive;
+          most = h .modulus .greatest;
           room = omega (arith, all-long, h .room);
           pAside = first-aside behind (omega arith) (omega arith);
           qAside = first-aside (behind + 1) (omega arith) (omega arith);

@@ -117,26 +117,13 @@ fn root_pair(m: u32, b: u32, a: u32, curve: &[u32], n: usize, w: &mut [u32], at:
     requires { ⌜ PairInput m b a (now curve) n (now w) at span ⌝ }
     ensures { λ _. ⌜ PairOutput m b a (take n (now (curve .entry))) (now (w .entry)) at span (now (w .exit)) ⌝ }
 {
-    let reciprocal = reduction::reciprocal(m);
     let second = at + span;
     let behind = second + span;
     let onward = behind + 2;
     stretch(curve, n, 0, w, at, span);
     store_two(w, behind, b, a);
     stretch(curve, n, 1, w, onward, span);
-    transposed(
-        m,
-        reciprocal,
-        w,
-        second,
-        span,
-        behind,
-        behind + 1,
-        1,
-        at,
-        onward,
-        span,
-    );
+    transposed(m, w, second, span, behind, behind + 1, 1, at, onward, span);
 }
 
 // Expand with two entries at least: the tree is stored, the pairs climb it to the root, and the root's pair gives the coefficients. The

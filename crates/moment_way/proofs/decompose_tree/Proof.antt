@@ -8,21 +8,17 @@ use borrow.Author.Needs.{needs}
 use Rattle.moment_way.proofs.decompose_tree.Statement.{statement}
 use Rattle.moment_way.proofs.decompose_tree.Tie as tie
 
-reciprocal-requires : tie.Need-reciprocal-requires
-reciprocal-requires c κs =
-    omega (arith, c .before .before .before .before .before .before .before .before .pre .0 .closed .rows .modulus .least)
-
 moments-requires : tie.Need-moments-requires
 moments-requires c κs =
     let room = c .before .before in
-    let start = room .before .before .before .before .before .before .before .before .before .before in
+    let start = room .before .before .before .before .before .before .before .before .before in
     decompose-moments (start .pre .0) (start .pre .1) (room .hankel-room .ensures)
 
 part-lists-end-2 : tie.Need-part-lists-end-2
 part-lists-end-2 c =
     let moment = c .before .before .before in
     let room = moment .before .before .before in
-    let start = room .before .before .before .before .before .before .before .before .before .before in
+    let start = room .before .before .before .before .before .before .before .before .before in
     let blank = room .hankel-room .ensures in
     let input = decompose-hankel (start .pre .0) (start .pre .1) blank in
     omega (arith, first-long blank input (moment .moments .ensures .written) refl)
@@ -31,7 +27,7 @@ copy-requires : tie.Need-copy-requires
 copy-requires c κs =
     let moment = c .before .before .before .before in
     let room = moment .before .before .before in
-    let start = room .before .before .before .before .before .before .before .before .before .before in
+    let start = room .before .before .before .before .before .before .before .before .before in
     let blank = room .hankel-room .ensures in
     let input = decompose-hankel (start .pre .0) (start .pre .1) blank in
     hankel-copy blank input (moment .moments .ensures .written) refl
@@ -41,7 +37,7 @@ slice-aggregate-used-length c =
     let copied = c .before .before in
     let moment = copied .before .before .before .before .before in
     let room = moment .before .before .before in
-    let start = room .before .before .before .before .before .before .before .before .before .before in
+    let start = room .before .before .before .before .before .before .before .before .before in
     let blank = room .hankel-room .ensures in
     let input = decompose-hankel (start .pre .0) (start .pre .1) blank in
     sym (second-long blank input (moment .moments .ensures .written) refl (copied .copy .ensures) refl)
@@ -51,7 +47,7 @@ used-length-requires c κs =
     let copied = c .before .before in
     let moment = copied .before .before .before .before .before in
     let room = moment .before .before .before in
-    let start = room .before .before .before .before .before .before .before .before .before .before in
+    let start = room .before .before .before .before .before .before .before .before .before in
     let blank = room .hankel-room .ensures in
     let input = decompose-hankel (start .pre .0) (start .pre .1) blank in
     hankel-used blank input (moment .moments .ensures .written) refl (copied .copy .ensures) refl
@@ -62,7 +58,7 @@ slice-aggregate-transposed c =
     let copied = left .before .before .before in
     let moment = copied .before .before .before .before .before in
     let room = moment .before .before .before in
-    let start = room .before .before .before .before .before .before .before .before .before .before in
+    let start = room .before .before .before .before .before .before .before .before .before in
     let blank = room .hankel-room .ensures in
     let input = decompose-hankel (start .pre .0) (start .pre .1) blank in
     sym (second-long blank input (moment .moments .ensures .written) refl (copied .copy .ensures) refl)
@@ -73,7 +69,7 @@ add-transposed-3 c =
     let copied = left .before .before .before in
     let moment = copied .before .before .before .before .before in
     let room = moment .before .before .before in
-    let start = room .before .before .before .before .before .before .before .before .before .before in
+    let start = room .before .before .before .before .before .before .before .before .before in
     let blank = room .hankel-room .ensures in
     let input = decompose-hankel (start .pre .0) (start .pre .1) blank in
     omega (arith, left .used-length .ensures .within, start .pre .0 .closed .most)
@@ -84,11 +80,11 @@ transposed-requires c κs =
     let copied = left .before .before .before in
     let moment = copied .before .before .before .before .before in
     let room = moment .before .before .before in
-    let start = room .before .before .before .before .before .before .before .before .before .before in
+    let start = room .before .before .before .before .before .before .before .before .before in
     let blank = room .hankel-room .ensures in
     let input = decompose-hankel (start .pre .0) (start .pre .1) blank in
     hankel-places blank input (moment .moments .ensures .written) refl (copied .copy .ensures) refl (left .used-length .ensures)
-    (halves _) (room .before .reciprocal .ensures)
+    (halves _)
 
 adjoint-requires : tie.Need-adjoint-requires
 adjoint-requires c κs =
@@ -97,7 +93,7 @@ adjoint-requires c κs =
     let copied = left .before .before .before in
     let moment = copied .before .before .before .before .before in
     let room = moment .before .before .before in
-    let start = room .before .before .before .before .before .before .before .before .before .before in
+    let start = room .before .before .before .before .before .before .before .before .before in
     let blank = room .hankel-room .ensures in
     let input = decompose-hankel (start .pre .0) (start .pre .1) blank in
     let product = hankel-weighed blank input (moment .moments .ensures .written) refl (copied .copy .ensures) refl
@@ -112,7 +108,7 @@ divide-by-norms-requires c κs =
     let copied = left .before .before .before in
     let moment = copied .before .before .before .before .before in
     let room = moment .before .before .before in
-    let start = room .before .before .before .before .before .before .before .before .before .before in
+    let start = room .before .before .before .before .before .before .before .before .before in
     let blank = room .hankel-room .ensures in
     let input = decompose-hankel (start .pre .0) (start .pre .1) blank in
     let product = hankel-weighed blank input (moment .moments .ensures .written) refl (copied .copy .ensures) refl
@@ -128,7 +124,7 @@ returns c =
     let copied = left .before .before .before in
     let moment = copied .before .before .before .before .before in
     let room = moment .before .before .before in
-    let start = room .before .before .before .before .before .before .before .before .before .before in
+    let start = room .before .before .before .before .before .before .before .before .before in
     let blank = room .hankel-room .ensures in
     let input = decompose-hankel (start .pre .0) (start .pre .1) blank in
     let product = hankel-weighed blank input (moment .moments .ensures .written) refl (copied .copy .ensures) refl
@@ -140,7 +136,7 @@ pub decompose-tree-spec : {M : Type 1} → statement M
 decompose-tree-spec =
     tie.close
     (tie.spec
-    reciprocal-requires (search needs) (search needs) (search needs) (search needs) moments-requires (search needs) (search needs)
+    (search needs) (search needs) (search needs) (search needs) moments-requires (search needs) (search needs)
     part-lists-end-2 copy-requires slice-aggregate-used-length used-length-requires (search needs) slice-aggregate-transposed
     (search needs) (search needs) add-transposed-3 (search needs) transposed-requires (search needs) adjoint-requires
     divide-by-norms-requires (search needs) (search needs) returns)

@@ -5,27 +5,23 @@ use borrow.Author.Needs.{needs}
 use Rattle.subproduct.proofs.adjoint_pair.Statement.{statement}
 use Rattle.subproduct.proofs.adjoint_pair.Tie as tie
 
-reciprocal-requires : tie.Need-reciprocal-requires
-reciprocal-requires c κs = c .before .pre .least
-
 transposed-requires : tie.Need-transposed-requires
-transposed-requires c κs = adjointPair-first (c .before .before .before .pre) (c .before .reciprocal .ensures)
+transposed-requires c κs = adjointPair-first (c .before .before .pre)
 
 transposed-requires-2 : tie.Need-transposed-requires-2
 transposed-requires-2 c κs =
     let first = c .before .before .before in
-    let start = first .before .before .before .before in
-    adjointPair-second (start .pre) (first .transposed .ensures) (first .before .before .reciprocal .ensures)
+    adjointPair-second (first .before .before .before .pre) (first .transposed .ensures)
 
 returns : tie.Need-returns
 returns c =
     let second = c .before .before in
     let first = second .before .before .before .before in
-    adjointPair-written (first .before .before .before .before .pre) (first .transposed .ensures) (second .transposed2 .ensures)
+    adjointPair-written (first .before .before .before .pre) (first .transposed .ensures) (second .transposed2 .ensures)
 
 pub adjoint-pair-spec : {M : Type 1} → statement M
 adjoint-pair-spec =
     tie.close
     (tie.spec
-    reciprocal-requires (search needs) (search needs) (search needs) transposed-requires (search needs) (search needs)
-    transposed-requires-2 (search needs) returns)
+    (search needs) (search needs) (search needs) transposed-requires (search needs) (search needs) transposed-requires-2
+    (search needs) returns)
