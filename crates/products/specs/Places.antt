@@ -18,9 +18,11 @@ use native.Mathlib.Decide.{decLt, ℕ-discrete}
 use native.Mathlib.Nat.{add-zero, mod-eq-of-lt}
 use native.Mathlib.Omega.{arith}
 use lib.ListN.{length, getD, take, drop, set}
+use Rattle.definitions.specs.Family.{greatestModulus}
 use Rattle.numbers.specs.Regions.{part, written, Apart, ResiduesIn, KeptOutside, part-length, part-entry, part-past, part-slice}
 use Rattle.numbers.specs.Regions.{part-below, kept-part, kept-residues, Writing, writing-kept, writing-next, writing-ends}
 use Rattle.numbers.specs.Products.{Below, productAt, plusProducts, transposedAt, transposedSum}
+use Rattle.reduction.specs.Reciprocal.{Reciprocal}
 use Rattle.reduction.specs.Wrapping.{Reducible}
 use Rattle.convolution.specs.Coefficients.{ProductsInput, product-past, product-entries}
 use Rattle.convolution.specs.Terms.{TransposedInput, transposed-entries}
@@ -51,8 +53,9 @@ pub record Used (w : List ℕ) (p r pn n : ℕ) : Type 0 where
   pub pSame : (i : ℕ) → getD (part w p n) i 0 ≡ getD (part w p pn) i 0
   pub rSame : (i : ℕ) → getD (part w r n) i 0 ≡ getD (part w r pn) i 0
 
-pub record ProductPlaces (m reciprocal : ℕ) (w : List ℕ) (target n t tn p r pn q s qn : ℕ) : Type 0 where
-  pub reducible : Reducible m reciprocal
+pub record ProductPlaces (m : ℕ) (w : List ℕ) (target n t tn p r pn q s qn : ℕ) : Type 0 where
+  pub least : 0 < m
+  pub most : m ≤ greatestModulus
   pub room : target + n ≤ length w
   pub reached : n ≤ pn + qn
   pub tAside : Aside m w target (target + n) t tn
@@ -226,8 +229,7 @@ module _ (m : ℕ) (w₀ : List ℕ) (target n : ℕ) (f : ℕ → ℕ) (w : Lis
     below = kept-residues target (target + n) w₀ w (writing-kept w₀ target n f w k h) m at c (a .apart) (a .source .below);
   }
 
-module _ (m reciprocal : ℕ) (w₀ : List ℕ) (target n t tn p r pn q s qn : ℕ)
-    (places : ProductPlaces m reciprocal w₀ target n t tn p r pn q s qn)
+module _ (m : ℕ) (w₀ : List ℕ) (target n t tn p r pn q s qn : ℕ) (places : ProductPlaces m w₀ target n t tn p r pn q s qn)
     (w : List ℕ) (k : ℕ) (l : k < n) (h : Writing w₀ target n (productEntry m w₀ t tn p r pn q s qn) w k) where
   source : (at c : ℕ) → Aside m w₀ target (target + n) at c → Source m w at c
   source = aside-source m w₀ target n (productEntry m w₀ t tn p r pn q s qn) w k h
@@ -235,16 +237,17 @@ module _ (m reciprocal : ℕ) (w₀ : List ℕ) (target n t tn p r pn q s qn : �
   kept : (at c : ℕ) → Aside m w₀ target (target + n) at c → part w at c ≡ part w₀ at c
   kept = aside-part m w₀ target n (productEntry m w₀ t tn p r pn q s qn) w k h
 
-  module _ (used : ℕ) (u : Used w₀ p r pn used) where
+  module _ (reciprocal used : ℕ) (u : Used w₀ p r pn used) where
     front : (at : ℕ) → Aside m w₀ target (target + n) at pn → Aside m w₀ target (target + n) at used
     front at a =
         aside-within m w₀ target (target + n) at pn target (target + n) at used a (omega arith) (omega arith) (omega arith)
         (omega (arith, u .within))
 
-    pub product-sources : (start : ℕ) → start ≡ getD (part w t tn) k 0 → SourceInput m reciprocal w start p r used q s qn
-    product-sources start e = record {
-      reducible = places .reducible;
-      startBelow = rw e (part-below m w t tn (places .reducible .reciprocal .positive) (source t tn (places .tAside) .below) k);
+    pub product-sources : Reciprocal m reciprocal → (start : ℕ) → start ≡ getD (part w t tn) k 0
+        → SourceInput m reciprocal w start p r used q s qn
+    product-sources held start e = record {
+      reducible = record { most = places .most; reciprocal = held };
+      startBelow = rw e (part-below m w t tn (places .least) (source t tn (places .tAside) .below) k);
       pSource = source p used (front p (places .pAside));
       rSource = source r used (front r (places .rAside));
       qSource = source q qn (places .qAside);

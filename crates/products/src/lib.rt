@@ -103,7 +103,6 @@ pub fn used_length(w: &[u32], p: usize, r: usize, pn: usize) -> usize
 // pn, q and s have qn. The zeros at the end of p and r are not multiplied.
 pub fn add_products(
     m: u32,
-    reciprocal: u64,
     w: &mut [u32],
     target: usize,
     n: usize,
@@ -116,11 +115,12 @@ pub fn add_products(
     s: usize,
     qn: usize,
 )
-    requires { ⌜ ProductPlaces m reciprocal (now w) target n t tn p r pn q s qn ⌝ }
+    requires { ⌜ ProductPlaces m (now w) target n t tn p r pn q s qn ⌝ }
     ensures { λ _. ⌜ now (w .exit) ≡ written (now (w .entry)) target
         (plusProducts m n (part (now (w .entry)) t tn) (part (now (w .entry)) p pn) (part (now (w .entry)) q qn)
         (part (now (w .entry)) r pn) (part (now (w .entry)) s qn)) ⌝ }
 {
+    let reciprocal = reduction::reciprocal(m);
     let used = used_length(w, p, r, pn);
     let mut k: usize = 0;
     while k < n {

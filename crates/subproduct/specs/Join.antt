@@ -14,7 +14,6 @@ use Rattle.numbers.specs.Regions.{part, written, KeptOutside, written-then, wri
 use Rattle.numbers.specs.Products.{plusProducts, plusProducts-length}
 use Rattle.tree_model.specs.Tree.{join, expandPair}
 use Rattle.tree_model.specs.TreeLengths.{expandPair-length}
-use Rattle.reduction.specs.Reciprocal.{Reciprocal}
 use Rattle.products.specs.Places.{Aside, ProductPlaces}
 use Rattle.subproduct.specs.Layout.{matrixList, pairList, matrixAt, pairAt, pairList-length, pairAt-kept, matrixAt-kept, wider, aside-in}
 use Rattle.subproduct.specs.Layout.{aside-still, aside-part}
@@ -47,12 +46,12 @@ module _ {m : ℕ} {w : List ℕ} {target n t tn row pn matrix qn : ℕ} (places
   expandedSecond w′ = plusProducts m n (part w′ (t + tn) tn) (part w′ row pn) (part w′ (matrix + qn) qn)
       (part w′ (row + pn) pn) (part w′ (matrix + (qn + qn) + qn) qn)
 
-  pub expandPair-first : {reciprocal : ℕ} → Reciprocal m reciprocal
-      → ProductPlaces m reciprocal w target n t tn row (row + pn) pn matrix (matrix + (qn + qn)) qn
-  expandPair-first held =
+  pub expandPair-first : ProductPlaces m w target n t tn row (row + pn) pn matrix (matrix + (qn + qn)) qn
+  expandPair-first =
       let room : target + (n + n) ≤ length w = places .room in
       record {
-        reducible = record { most = places .most; reciprocal = held };
+        least = places .least;
+        most = places .most;
         room = omega arith;
         reached = places .reached;
         tAside = aside-in (places .tAside) (omega arith) (omega arith) (omega arith) (omega arith);
@@ -71,15 +70,16 @@ module _ {m : ℕ} {w : List ℕ} {target n t tn row pn matrix qn : ℕ} (places
         let room : target + (n + n) ≤ length w = places .room in
         rw e₁ (wider (written-kept w target (expandedFirst w) (omega (arith, first-length))) (omega arith) (omega (arith, first-length)))
 
-    pub expandPair-second : {reciprocal : ℕ} → Reciprocal m reciprocal
-        → ProductPlaces m reciprocal w₁ (target + n) n (t + tn) tn row (row + pn) pn (matrix + qn) (matrix + (qn + qn) + qn) qn
-    expandPair-second held =
+    pub expandPair-second :
+        ProductPlaces m w₁ (target + n) n (t + tn) tn row (row + pn) pn (matrix + qn) (matrix + (qn + qn) + qn) qn
+    expandPair-second =
         let room : target + (n + n) ≤ length w = places .room in
         let tStill = aside-still (places .tAside) kept in
         let rowStill = aside-still (places .rowAside) kept in
         let matrixStill = aside-still (places .matrixAside) kept in
         record {
-          reducible = record { most = places .most; reciprocal = held };
+          least = places .least;
+          most = places .most;
           room = omega (arith, kept .long);
           reached = places .reached;
           tAside = aside-in tStill (omega arith) (omega arith) (omega arith) (omega arith);

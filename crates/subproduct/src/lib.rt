@@ -84,27 +84,11 @@ fn expand_pair(
     ensures { λ _. ⌜ now (w .exit) ≡ written (now (w .entry)) target (pairList (expandPair m n
         (pairAt (now (w .entry)) t tn) (pairAt (now (w .entry)) row pn) (matrixAt (now (w .entry)) matrix qn))) ⌝ }
 {
-    let reciprocal = reduction::reciprocal(m);
     let second = row + pn;
     let bottom = matrix + (qn + qn);
+    add_products(m, w, target, n, t, tn, row, second, pn, matrix, bottom, qn);
     add_products(
         m,
-        reciprocal,
-        w,
-        target,
-        n,
-        t,
-        tn,
-        row,
-        second,
-        pn,
-        matrix,
-        bottom,
-        qn,
-    );
-    add_products(
-        m,
-        reciprocal,
         w,
         target + n,
         n,
