@@ -1,7 +1,7 @@
 /* The library's transposed multiplication, and what one has without it: C that forms the whole product and cuts it.
  *
  * The C adds up as the library does: two products a step in one sum, which is its low 64 bits and a count of its wraps, and one remainder
- * by the reciprocal for each coefficient. It is the quickest of that kind that we know. It reads multiplier and list forwards, and so takes
+ * by the reciprocal for each coefficient, which it is handed and the library finds. It is the quickest of that kind that we know. It reads multiplier and list forwards, and so takes
  * the multiplier as it is: turned round, with one of the two read backwards, it takes up to half as long again.
  */
 #include <inttypes.h>
@@ -13,16 +13,15 @@
 #include "transposed.h"
 
 /* products::transposed: the compiler leaves out the length of w, which nothing reads. */
-void compiled_transposed(uint32_t m, uint64_t reciprocal, uint32_t *w, size_t target, size_t n, size_t p, size_t q, size_t pn, size_t v,
-                         size_t u, size_t vn);
+void compiled_transposed(uint32_t m, uint32_t *w, size_t target, size_t n, size_t p, size_t q, size_t pn, size_t v, size_t u, size_t vn);
 
 /* One product is taken by the halves of its multiplier, as if they were two. Each half asks for as much of the list as the terms need. */
 static void by_library(struct operands *x) {
     size_t n = x->length, half = n / 2;
     if (x->two)
-        compiled_transposed(x->m, x->reciprocal, x->numbers, TERMS, n, MULTIPLIER, SECOND_MULTIPLIER, n, LIST, SECOND_LIST, 2 * n);
+        compiled_transposed(x->m, x->numbers, TERMS, n, MULTIPLIER, SECOND_MULTIPLIER, n, LIST, SECOND_LIST, 2 * n);
     else
-        compiled_transposed(x->m, x->reciprocal, x->numbers, TERMS, n, MULTIPLIER, MULTIPLIER + half, half, LIST, LIST + half,
+        compiled_transposed(x->m, x->numbers, TERMS, n, MULTIPLIER, MULTIPLIER + half, half, LIST, LIST + half,
                             n + half - 1);
 }
 

@@ -19,15 +19,15 @@ import sys
 # long one, one remainder has two. In more than one loop: Euclid's algorithm for each entry, to find whom to blame, and the root of a tree.
 TABLE = """
 products::add_products            1  0  0
+products::transposed              1  0  0
 inverses::of_list                 2  2  2
 checks::lacks_inverse             1  2  2
 record_check::record              1  0  0
 plain::decompose                  2  0  0
 prepared::prepare                 1  0  0
-subproduct::descend               1  0  0
 subproduct::build                 1  0  0
 tree::expand                      1  1  0
-tree::adjoint                     2  0  0
+tree::adjoint                     1  0  0
 moment_way::moments               1  0  0
 moment_way::decompose             2  0  0
 verdicts::rows                    1  2  0

@@ -9,7 +9,7 @@ Prints a line for each thing that is read from its instructions:
   and no product is kept. Where the compiler has made two loops or two ways of one, there may be more, but none runs after another: not in
   one round of a loop, and not in a loop after another;
 - every loop that multiplies stands in such a loop and in no other, and goes on or ends by one jump: its end is found before it;
-- it has no division.
+- it divides in no loop: remainders are taken by the reciprocal.
 
 Fails if one of these is not so, and if there is no such function.
 """
@@ -180,12 +180,12 @@ def product_loops(body, ways, wanted):
     return f"multiplies in {number} within that loop and no other, and goes on or ends by one jump in each step"
 
 
-def no_division(body):
-    """The remainders are taken by the reciprocal."""
+def no_division(body, ways):
+    """The remainders are taken by the reciprocal, which is found before the loops."""
     for address, words in body.items():
-        if DIVISION.match(words):
-            raise Fault(f"divides at {address:x}")
-    return "has no division"
+        if DIVISION.match(words) and any(address in loop for loop, _, _ in ways):
+            raise Fault(f"divides at {address:x}, in a loop")
+    return "divides in no loop"
 
 
 def main():
@@ -205,7 +205,7 @@ def main():
         wanted, line = written_once(body, successors, ways)
         print(f"{NAME} {line}")
         print(f"{NAME} {product_loops(body, ways, wanted)}")
-        print(f"{NAME} {no_division(body)}")
+        print(f"{NAME} {no_division(body, ways)}")
     except Fault as fault:
         sys.stdout.flush()
         sys.exit(f"one_pass: {NAME} {fault}")

@@ -5,9 +5,8 @@
 #include <stdint.h>
 #include <string.h>
 
-#define PRODUCT                                                                                                                \
-    uint32_t m, uint64_t reciprocal, uint32_t *w, size_t target, size_t n, size_t p, size_t q, size_t pn, size_t v, size_t u, \
-        size_t vn
+#define PRODUCT \
+    uint32_t m, uint32_t *w, size_t target, size_t n, size_t p, size_t q, size_t pn, size_t v, size_t u, size_t vn
 #define VERSION(name) \
     void name(PRODUCT); \
     void name(PRODUCT)
@@ -36,9 +35,14 @@ static inline uint32_t rest(uint64_t low, uint64_t wraps, uint32_t m, uint64_t r
 #define FIRST_PRODUCT                                                                       \
     TOTAL;                                                                                  \
     for (size_t j = 0, end = lesser(pn, i < vn ? vn - i : 0); j < end; j++) ADD(w[p + j], w[v + i + j])
-#define EACH_TERM UNUSED(q), UNUSED(u); for (size_t i = 0; i < n; i++)
+#define RECIPROCAL uint64_t reciprocal = UINT64_MAX / m
+#define EACH_TERM                                    \
+    RECIPROCAL;                                      \
+    UNUSED(reciprocal), UNUSED(q), UNUSED(u);        \
+    for (size_t i = 0; i < n; i++)
 
 VERSION(one_pass) {
+    RECIPROCAL;
     for (size_t i = 0; i < n; i++) {
         TOTAL;
         for (size_t j = 0, end = lesser(pn, i < vn ? vn - i : 0); j < end; j++) {
@@ -123,6 +127,7 @@ VERSION(address) {
 
 /* It writes each term twice, the first product and then the sum. */
 VERSION(two_stores) {
+    RECIPROCAL;
     for (size_t i = 0; i < n; i++) {
         FIRST_PRODUCT;
         w[target + i] = rest(low, wraps, m, reciprocal);
@@ -144,6 +149,7 @@ VERSION(inner_store) {
 
 /* It writes the first product of every term, and then every sum: two passes. */
 VERSION(two_passes) {
+    RECIPROCAL;
     for (size_t i = 0; i < n; i++) {
         FIRST_PRODUCT;
         w[target + i] = rest(low, wraps, m, reciprocal);
@@ -154,7 +160,7 @@ VERSION(two_passes) {
 /* It writes nothing. */
 VERSION(no_store) {
     uint64_t sum = 0;
-    UNUSED(target), UNUSED(m), UNUSED(reciprocal);
+    UNUSED(target);
     EACH_TERM {
         FIRST_PRODUCT;
         sum += low + wraps;
@@ -203,9 +209,8 @@ VERSION(no_product) {
     }
 }
 
-/* It takes the remainder by a division. */
+/* It takes each remainder by a division. */
 VERSION(divides) {
-    UNUSED(reciprocal);
     EACH_TERM {
         FIRST_PRODUCT;
         w[target + i] = (uint32_t)((low + wraps) % m);

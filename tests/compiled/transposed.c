@@ -16,13 +16,14 @@
 #include <stdlib.h>
 #include <string.h>
 #include <ucontext.h>
+#include <unistd.h>
 
 #include "random.h"
 #include "transposed_versions.h"
 
 transposed_product compiled_transposed;
 
-enum { LONGEST = 257, MORE_TERMS = 3, GUARD = 64, SPACE = 6 * LONGEST, ROOM = GUARD + SPACE + GUARD, MOST_STACK = 256 };
+enum { LONGEST = 257, MORE_TERMS = 3, GUARD = 64, SPACE = 6 * LONGEST, ROOM = GUARD + SPACE + GUARD, MOST_STACK = 256, MOST_SECONDS = 300 };
 enum { P, Q, V, U, SOURCES, TARGET = SOURCES, PLACES };
 
 /* Where a list stands in w, and how long it is. */
@@ -63,7 +64,7 @@ static uint32_t wanted_term(const struct trial *trial, size_t i) {
 
 static void call(transposed_product *run, const struct trial *trial, uint32_t *w) {
     const struct place *place = trial->place;
-    run(trial->m, UINT64_MAX / trial->m, w, place[TARGET].at, place[TARGET].length, place[P].at, place[Q].at, place[P].length,
+    run(trial->m, w, place[TARGET].at, place[TARGET].length, place[P].at, place[Q].at, place[P].length,
         place[V].at, place[U].at, place[V].length);
 }
 
@@ -304,6 +305,7 @@ static int one_alone(const char *name) {
 }
 
 int main(int argc, char **argv) {
+    alarm(MOST_SECONDS); /* a version that does not end is ended, and the run fails */
     const struct version library = {"library", "products::transposed", RIGHT, compiled_transposed};
     if (argc > 2) {
         fprintf(stderr, "usage: transposed [VERSION]\n");

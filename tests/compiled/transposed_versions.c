@@ -6,7 +6,7 @@
 enum { MOST_TERMS = 512 };
 
 #define UNUSED(name) (void)(name)
-#define LENT m, reciprocal, w, target, n, p, q, pn, v, u, vn
+#define LENT m, w, target, n, p, q, pn, v, u, vn
 
 /* ---- one sum */
 
@@ -39,7 +39,6 @@ static void add_right(struct total *total, const uint32_t *w, size_t i, size_t p
 }
 
 static void write_terms(part *add_part, PRODUCT) {
-    UNUSED(reciprocal);
     for (size_t i = 0; i < n; i++) {
         struct total total = {0, 0};
         add_part(&total, w, i, p, pn, v, vn);
@@ -55,7 +54,7 @@ static void right(PRODUCT) { write_terms(add_right, LENT); }
 static void own_array(PRODUCT) {
     uint32_t terms[MOST_TERMS];
     for (size_t i = 0; i < n; i++) {
-        right(m, reciprocal, w, target + i, 1, p, q, pn, v + i, u + i, i < vn ? vn - i : 0);
+        right(m, w, target + i, 1, p, q, pn, v + i, u + i, i < vn ? vn - i : 0);
         terms[i] = w[target + i];
     }
     memcpy(w + target, terms, n * sizeof *terms);
@@ -64,14 +63,14 @@ static void own_array(PRODUCT) {
 /* ---- wrong versions */
 
 void untouched(PRODUCT) {
-    UNUSED(m), UNUSED(reciprocal), UNUSED(w), UNUSED(target), UNUSED(n), UNUSED(p), UNUSED(q), UNUSED(pn), UNUSED(v), UNUSED(u);
+    UNUSED(m), UNUSED(w), UNUSED(target), UNUSED(n), UNUSED(p), UNUSED(q), UNUSED(pn), UNUSED(v), UNUSED(u);
     UNUSED(vn);
 }
 
-static void term_more(PRODUCT) { right(m, reciprocal, w, target, n, p, q, pn + 1, v, u, vn); }
+static void term_more(PRODUCT) { right(m, w, target, n, p, q, pn + 1, v, u, vn); }
 
 static void second_left_out(PRODUCT) {
-    UNUSED(reciprocal), UNUSED(q), UNUSED(u);
+    UNUSED(q), UNUSED(u);
     for (size_t i = 0; i < n; i++) {
         struct total total = {0, 0};
         add_right(&total, w, i, p, pn, v, vn);
@@ -79,7 +78,7 @@ static void second_left_out(PRODUCT) {
     }
 }
 
-static void past(PRODUCT) { right(m, reciprocal, w, target, n + 1, p, q, pn, v, u, vn); }
+static void past(PRODUCT) { right(m, w, target, n + 1, p, q, pn, v, u, vn); }
 
 static void before(PRODUCT) {
     right(LENT);

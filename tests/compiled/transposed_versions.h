@@ -6,11 +6,9 @@
 #include <stdint.h>
 
 /* All places are indices into w. For i below n, place target + i becomes the sum over j below pn of w[p + j] V(i + j) and of
- * w[q + j] U(i + j) modulo m, where V is the list of vn numbers at v and U that of vn at u, both zero past their ends. The reciprocal
- * is (2^64 - 1) / m. */
-#define PRODUCT                                                                                                                \
-    uint32_t m, uint64_t reciprocal, uint32_t *w, size_t target, size_t n, size_t p, size_t q, size_t pn, size_t v, size_t u, \
-        size_t vn
+ * w[q + j] U(i + j) modulo m, where V is the list of vn numbers at v and U that of vn at u, both zero past their ends. */
+#define PRODUCT \
+    uint32_t m, uint32_t *w, size_t target, size_t n, size_t p, size_t q, size_t pn, size_t v, size_t u, size_t vn
 typedef void transposed_product(PRODUCT);
 
 enum kind { RIGHT, WRONG, TOO_MUCH_STACK };
