@@ -223,7 +223,8 @@ reaches e h = rw e at h
 -- a term is a sum as far as both lists reach
 term-reach : (p v : List ℕ) (i end : ℕ) → Lesser (length v - i) (length p) end → transposedAt p v i ≡ sum end (transposedTerm p v i)
 unfolding transposedAt
-term-reach p v i end h = sum-cut end (length p) (transposedTerm p v i) (h .second) (λ j a b. past-second p v (i + j) j (past j a b (decLt end (length v - i))))
+term-reach p v i end h = sum-cut end (length p) (transposedTerm p v i) (h .second)
+    (λ j a b. past-second p v (i + j) j (past j a b (decLt end (length v - i))))
   where
     past : (j : ℕ) → end ≤ j → j < length p → Dec (end < length v - i) → length v ≤ i + j
     past j a b (yes g) = let all : end ≡ length p = h .one g in omega arith

@@ -24,7 +24,7 @@ use Rattle.theory.specs.Closing.{closedBy}
 use Rattle.theory.specs.ByMoments.{hankelProduct, momentsDecompose, hankelProduct-curve, moments-decompose}
 use Rattle.theory.specs.Moments.{moments-length, moments-below}
 use Rattle.theory.specs.NormInverse.{signedInverse, norm-inverse}
-use Rattle.numbers.specs.Lists.{Filling, filled, table-length, table-equal, table-entries}
+use Rattle.numbers.specs.Lists.{Filling, filled, table-length, table-equal}
 use Rattle.numbers.specs.Lists.{filling-start, filling-next, filling-stop, filling-from}
 use Rattle.numbers.specs.Products.{Below, transposedAt, transposed}
 use Rattle.numbers.specs.Sums.{sum-equal}

@@ -11,18 +11,18 @@ use mathlib.Core.Logic.{inl, inr, by-cases}
 use Prim.Native.Nat.{ℕ, _+_, _*_, _-_, _/_, _%_, _≤_, _<_}
 use native.Mathlib.Decide.{decLt}
 use native.Mathlib.Omega.{arith}
-use lib.ListN.{length, getD, take, drop, replicate, length-append, length-drop, length-replicate, List·getD-eq-default}
+use lib.ListN.{length, getD, take, drop, replicate, length-append, length-replicate, List·getD-eq-default}
 use lib.Seq.{length-take-le, getD-take, drop-drop, take-append-seam}
 use Rattle.definitions.specs.Family.{greatestModulus}
 use Rattle.definitions.specs.Number.{table}
-use Rattle.numbers.specs.Lists.{filled, filled-length, table-equal, table-entries}
+use Rattle.numbers.specs.Lists.{filled, table-equal, table-entries}
 use Rattle.numbers.specs.Products.{Below, transposedAt, transposed, transposedSum, transposedSum-length}
 use Rattle.numbers.specs.Regions.{part, written, ResiduesIn, KeptOutside, part-length, part-entry, part-past, part-residues, part-written}
 use Rattle.numbers.specs.Regions.{written-length, written-kept, kept-wider, kept-part, kept-drop}
 use Rattle.lists.specs.Held.{Holds, held-below}
 use Rattle.convolution.specs.Terms.{transposed-entries, transposed-halves}
 use Rattle.products.specs.Places.{Aside, TransposedPlaces, Used}
-use Rattle.moment_way.specs.Moments.{Front, front, front-below}
+use Rattle.moment_way.specs.Moments.{Front, front}
 
 pub record HankelInput (m n : ℕ) (ms coefficients : List ℕ) : Type 0 where
   pub positive : 0 < m
@@ -94,7 +94,8 @@ module _ {blank : List ℕ} (z : blank ≡ replicate 511 0) where
       first-long = ap length first-written ∙ written-length blank 128 moment first-room ∙ blank-long
 
       first-kept : KeptOutside 128 383 blank lists₁
-      first-kept = rw first-written (kept-wider _ _ _ _ _ _ (omega arith) (omega (arith, momentFront .long)) (written-kept blank 128 moment first-room))
+      first-kept = rw first-written
+          (kept-wider _ _ _ _ _ _ (omega arith) (omega (arith, momentFront .long)) (written-kept blank 128 moment first-room))
 
       moments-stand : part lists₁ 128 255 ≡ moment
       moments-stand = ap₂ (λ v k. part v 128 k) first-written (sym (momentFront .long)) ∙ part-written blank 128 moment first-room

@@ -35,7 +35,8 @@ use Rattle.subproduct.specs.Build.{BuildInput, padded-below}
 use Rattle.subproduct.specs.Climb.{ClimbInput, ClimbOutput, climbed, climbed-up, climbed-length, climbed-below}
 use Rattle.subproduct.specs.Descend.{DescendInput, DescendOutput, descended-down}
 use Rattle.tree.specs.Input.{Input}
-use Rattle.tree.specs.Root.{LevelOf, RootInput, PairInput, PairOutput, rootLists}
+use Rattle.tree.specs.Root.{LevelOf, RootInput}
+use Rattle.tree.specs.RootPair.{PairInput, PairOutput, rootLists}
 
 unfoldable pub storedTree : Family → List ℕ
 storedTree f = treeList (padded f) (levelFor (size f)) 0

@@ -1,6 +1,6 @@
 -- `tree::root_pair` meets its contract: the curve stands, behind the pair F_1 and the curve from its second entry on, and between them
 -- the transposed product. Assumes nothing.
-use Rattle.tree.specs.Root.{pair-stretch, pair-store, pair-onward, pair-places, pair-output}
+use Rattle.tree.specs.RootPair.{pair-stretch, pair-store, pair-onward, pair-places, pair-output}
 use borrow.Author.Needs.{needs}
 use Rattle.tree.proofs.root_pair.Statement.{statement}
 use Rattle.tree.proofs.root_pair.Tie as tie

@@ -4,7 +4,7 @@ use Prim.Native.Nat.{_+_, _-_}
 use native.Mathlib.Omega.{arith}
 use lib.ListN.{getD, take}
 use Rattle.numbers.specs.Regions.{Writing, writing-starts, writing-next}
-use Rattle.tree.specs.Root.{stretch-ends}
+use Rattle.tree.specs.RootPair.{stretch-ends}
 use Rattle.tree.proofs.stretch.Statement.{statement}
 use Rattle.tree.proofs.stretch.Tie as tie
 
