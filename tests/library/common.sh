@@ -24,7 +24,7 @@ functions() { # of what the header declares, or of what nm lists, the functions 
 expose() { # FUNCTION SYMBOL ARCHIVE: writes a copy of the library in which a function of its own goes by a symbol that C can name
     command -v objcopy >/dev/null || fail "objcopy, of binutils, is not on the PATH"
     objcopy --redefine-sym "$1=$2" --globalize-symbol="$2" "$archive" "$3" || fail "objcopy does not take the library"
-    nm "$3" | grep -q " T $2\$" || fail "the library has no function $1 by itself: the compiler has put it in line, or it has another name"
+    nm "$3" | grep " T $2\$" >/dev/null || fail "the library has no function $1 by itself: the compiler has put it in line, or it has another name"
 }
 is_sealed() { # whether the archive is the one that the kit made last, and no source has changed since that build began
     local newer
