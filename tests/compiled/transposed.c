@@ -149,9 +149,10 @@ static uint32_t random_modulus(struct random *random) {
     return one_in(random, 3) ? 1 + below(random, 2147483647) : ONE_OF(random, moduli);
 }
 
-/* From 1 on: no list that the library hands in is empty, and the compiler, which sees all of its calls, may count on it. */
-static size_t random_length(struct random *random, size_t limit) {
-    return one_in(random, 3) ? limit : 1 + below(random, limit);
+/* From 1 on for lists and wanted terms: the library hands in no fewer, and the compiler, which sees all of its calls, may count on it.
+ * Multipliers may be empty, as those of a curve of zeros are. */
+static size_t random_length(struct random *random, size_t least, size_t limit) {
+    return one_in(random, 3) ? limit : least + below(random, limit - least + 1);
 }
 
 /* All five in any order, one behind another or with gaps. */
@@ -197,9 +198,9 @@ static void set_random(struct trial *trial, size_t number) {
     struct random random = random_of_case(SEED, number);
     size_t limit = LIMITS[number / OF_EACH_LIMIT];
     trial->m = random_modulus(&random);
-    trial->place[P].length = trial->place[Q].length = random_length(&random, limit);
-    trial->place[V].length = trial->place[U].length = random_length(&random, limit);
-    trial->place[TARGET].length = random_length(&random, limit + MORE_TERMS);
+    trial->place[P].length = trial->place[Q].length = random_length(&random, 0, limit);
+    trial->place[V].length = trial->place[U].length = random_length(&random, 1, limit);
+    trial->place[TARGET].length = random_length(&random, 1, limit + MORE_TERMS);
     if (one_in(&random, 2))
         place_apart(&random, trial);
     else

@@ -1,7 +1,7 @@
 -- The product of the coefficients with the Hankel matrix of the moments, term i the sum over j of p_j and moment i + j: a transposed
 -- product, in one list of 511 numbers. The terms stand from place 0 on, the moments from place 128 on, the coefficients from place 383 on.
 --   HankelInput   the moments and the coefficients: residues, and at most 128 coefficients
---   Halves        half of the coefficients that are left without the zeros at their end
+--   Halves        half, rounded up, of the coefficients that are left without the zeros at their end, which may be none
 --   Weighed       the terms stand at the front of a list
 -- Proved: what each step is handed, and that the terms are those of the product: of the coefficients the first half meets the moments, and
 -- the second half the moments from half on. Assumes nothing.

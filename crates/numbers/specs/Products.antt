@@ -2,7 +2,7 @@
 --   productAt p q k              the coefficient of x^k in p q
 --   plusProduct m n t p q        the n first coefficients of t + p q
 --   plusProducts m n t p q r s   those of t + p q + r s
---   transposedAt p w i           the sum over j of p_j w_{i+j}, where w ends in zeros
+--   transposedAt p w i           the sum over j of p_j w_{i+j}, zero past the end of w
 --   transposed m n p w           its terms i = 0 to n - 1: the transposed product of w with p (the report's mul^t)
 --   transposedSum m n p v q w    the sum of two of them
 --   Below m xs                   every entry of xs is below m

@@ -5,6 +5,7 @@
 --   CoefficientInput        the same where k does not lie past both products
 --   slice w at n            the n numbers that are lent by a slice from place at on
 --   Used w p r pn n         the first n of the pn numbers from p on and from r on have the entries of all: the rest are zeros
+--   UsedLength w p r pn n   the same of the least n: the last of these numbers are not both zero
 --   ProductPlaces           of a loop that writes n of them;  productEntry  what it writes at k
 --   TermInput, TransposedPlaces, transposedEntry   the same of transposed products
 -- Proved: what lies apart from the target is read as it was, so that each step is handed what it requires; what a slice lends is the
@@ -52,6 +53,10 @@ pub record Used (w : List ℕ) (p r pn n : ℕ) : Type 0 where
   pub within : n ≤ pn
   pub pSame : (i : ℕ) → getD (part w p n) i 0 ≡ getD (part w p pn) i 0
   pub rSame : (i : ℕ) → getD (part w r n) i 0 ≡ getD (part w r pn) i 0
+
+pub record UsedLength (w : List ℕ) (p r pn n : ℕ) : Type 0 where
+  pub used : Used w p r pn n
+  pub least : 0 < n → getD (part w p pn) (n - 1) 0 ≡ 0 → getD (part w r pn) (n - 1) 0 ≡ 0 → ⊥
 
 pub record ProductPlaces (m : ℕ) (w : List ℕ) (target n t tn p r pn q s qn : ℕ) : Type 0 where
   pub least : 0 < m
@@ -181,6 +186,9 @@ used-more w at pn n l z same i = at-place (decLt i n)
 
 pub used-all : (w : List ℕ) (p r pn : ℕ) → Used w p r pn pn
 used-all w p r pn = record { within = omega arith; pSame = λ i. refl; rSame = λ i. refl }
+
+pub used-none : {w : List ℕ} {p r pn n : ℕ} → n ≤ 0 → Used w p r pn n → UsedLength w p r pn n
+used-none none u = record { used = u; least = λ some _ _. absurd (omega arith) }
 
 pub used-less : (w : List ℕ) (p r pn n : ℕ) → 0 < n → Used w p r pn n → getD (part w p pn) (n - 1) 0 ≡ 0 → getD (part w r pn) (n - 1) 0 ≡ 0
     → Used w p r pn (n - 1)

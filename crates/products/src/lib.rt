@@ -4,7 +4,7 @@ ghost use Prim.Native.Nat.{_+_, _%_, _≤_};
 ghost use lib.ListN.{length, getD};
 ghost use Rattle.numbers.specs.Regions.{part, written};
 ghost use Rattle.numbers.specs.Products.{productAt, plusProducts, transposedSum};
-ghost use Rattle.products.specs.Places.{CoefficientInput, SourceInput, Used, ProductPlaces};
+ghost use Rattle.products.specs.Places.{CoefficientInput, SourceInput, UsedLength, ProductPlaces};
 ghost use Rattle.products.specs.Places.{TermInput, TransposedPlaces, transposedEntry};
 use convolution::products_at;
 use convolution::transposed_at;
@@ -83,7 +83,7 @@ fn coefficient_or_start(
 // How many of the pn numbers from p on and from r on are left without the zeros at the end of both. Of one list, p is r.
 pub fn used_length(w: &[u32], p: usize, r: usize, pn: usize) -> usize
     requires { ⌜ (p + pn ≤ length (now w)) × (r + pn ≤ length (now w)) ⌝ }
-    ensures { λ n. ⌜ Used (now (w .entry)) p r pn n ⌝ }
+    ensures { λ n. ⌜ UsedLength (now (w .entry)) p r pn n ⌝ }
 {
     let mut n = pn;
     while 0 < n {
@@ -160,10 +160,10 @@ fn term(
 }
 
 // Transposed multiplication, in one pass: writes the n first terms of the transposed products of v with p and of u with q, added up, from
-// place target on. Term i is the sum over j of p_j v_{i+j} and q_j u_{i+j}, where p and q are the multipliers and v and u the lists, zero
-// past their ends. All are parts of w: p and q have pn numbers, v and u have vn, and they lie apart from the n wanted terms. Nothing else is
-// formed or written, and the zeros that end both multipliers or both lists are not multiplied. One product alone is the sum of two, of
-// the halves of its multiplier (convolution, Terms).
+// place target on. Term i is the sum over j of p_j v_{i+j} and q_j u_{i+j} modulo m, where p and q are the multipliers and v and u the lists,
+// zero past their ends. All are parts of w, residues: p and q have pn numbers, v and u have vn, and they lie apart from the n wanted terms.
+// Nothing else is formed or written, and the zeros that end both multipliers or both lists are not multiplied. A caller with one product
+// hands in the halves of its multiplier, each with its piece of the list (`transposed-halves` in convolution, Terms).
 pub fn transposed(
     m: u32,
     w: &mut [u32],

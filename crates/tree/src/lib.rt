@@ -113,7 +113,8 @@ fn store_two(w: &mut [u32], at: usize, x: u32, y: u32)
 }
 
 // Writes the pair of the root from place at on: the transposed products of the curve with F_0 = 1, which is the curve, and with
-// F_1 = b + a x, of which b meets the curve and a the curve from its second entry on. These and a stay behind the pair.
+// F_1 = b + a x, of which b meets the curve and a the curve from its second entry on. Behind the pair b and a are left, and behind them the
+// curve from its second entry on.
 fn root_pair(m: u32, b: u32, a: u32, curve: &[u32], n: usize, w: &mut [u32], at: usize, span: usize)
     requires { ⌜ PairInput m b a (now curve) n (now w) at span ⌝ }
     ensures { λ _. ⌜ PairOutput m b a (take n (now (curve .entry))) (now (w .entry)) at span (now (w .exit)) ⌝ }
@@ -153,7 +154,7 @@ fn expand_tree(
 }
 
 // Adjoint with two entries at least: the tree is stored, and the root's pair descends it to the entries. The tree, that pair and the
-// entries are left in the working list, for `adjoint` to clear.
+// entries are left in the working list, and scratch behind them, for `adjoint` to clear.
 fn adjoint_tree(
     m: u32,
     a: &[u32],

@@ -72,7 +72,7 @@ add-transposed-3 c =
     let start = room .before .before .before .before .before .before .before .before .before in
     let blank = room .hankel-room .ensures in
     let input = decompose-hankel (start .pre .0) (start .pre .1) blank in
-    omega (arith, left .used-length .ensures .within, start .pre .0 .closed .most)
+    omega (arith, left .used-length .ensures .used .within, start .pre .0 .closed .most)
 
 transposed-requires : tie.Need-transposed-requires
 transposed-requires c κs =
@@ -83,7 +83,7 @@ transposed-requires c κs =
     let start = room .before .before .before .before .before .before .before .before .before in
     let blank = room .hankel-room .ensures in
     let input = decompose-hankel (start .pre .0) (start .pre .1) blank in
-    hankel-places blank input (moment .moments .ensures .written) refl (copied .copy .ensures) refl (left .used-length .ensures)
+    hankel-places blank input (moment .moments .ensures .written) refl (copied .copy .ensures) refl (left .used-length .ensures .used)
     (halves _)
 
 adjoint-requires : tie.Need-adjoint-requires
@@ -97,7 +97,7 @@ adjoint-requires c κs =
     let blank = room .hankel-room .ensures in
     let input = decompose-hankel (start .pre .0) (start .pre .1) blank in
     let product = hankel-weighed blank input (moment .moments .ensures .written) refl (copied .copy .ensures) refl
-    (left .used-length .ensures) (halves _) (hankel .transposed .ensures) in
+    (left .used-length .ensures .used) (halves _) (hankel .transposed .ensures) in
     decompose-adjoint (start .pre .0) (start .pre .1) blank (moment .moments .ensures) product
 
 divide-by-norms-requires : tie.Need-divide-by-norms-requires
@@ -112,7 +112,7 @@ divide-by-norms-requires c κs =
     let blank = room .hankel-room .ensures in
     let input = decompose-hankel (start .pre .0) (start .pre .1) blank in
     let product = hankel-weighed blank input (moment .moments .ensures .written) refl (copied .copy .ensures) refl
-    (left .used-length .ensures) (halves _) (hankel .transposed .ensures) in
+    (left .used-length .ensures .used) (halves _) (hankel .transposed .ensures) in
     decompose-divide (start .pre .0) (start .pre .1) blank (moment .moments .ensures) product (entries .adjoint .ensures)
 
 returns : tie.Need-returns
@@ -128,7 +128,7 @@ returns c =
     let blank = room .hankel-room .ensures in
     let input = decompose-hankel (start .pre .0) (start .pre .1) blank in
     let product = hankel-weighed blank input (moment .moments .ensures .written) refl (copied .copy .ensures) refl
-    (left .used-length .ensures) (halves _) (hankel .transposed .ensures) in
+    (left .used-length .ensures .used) (halves _) (hankel .transposed .ensures) in
     decompose-is (start .pre .0) (start .pre .1) blank (moment .moments .ensures) product (entries .adjoint .ensures)
     (done .divide-by-norms .ensures)
 

@@ -30,7 +30,7 @@ coefficient-or-start-requires c κs =
     let loop = c .before .before .before .before in
     let start = loop .before .before .before .before .before in
     product-sources _ _ _ _ _ _ _ _ _ _ _ _ (start .pre) _ _ (c .before .before .before .loop-test .taken) (loop .loop .inv) _ _
-    (loop .before .used-length .ensures) (loop .before .before .before .reciprocal .ensures) _ (c .before .entry .ensures)
+    (loop .before .used-length .ensures .used) (loop .before .before .before .reciprocal .ensures) _ (c .before .entry .ensures)
 
 add-place : tie.Need-add-place Inv-loop μ-loop
 add-place c = omega arith
@@ -52,7 +52,7 @@ loop-again c =
     let loop = c .before .before .before .before .before in
     let start = loop .before .before .before .before .before in
     product-next _ _ _ _ _ _ _ _ _ _ _ _ (start .pre) _ _ (c .before .before .before .before .loop-test .taken) (loop .loop .inv)
-    (loop .before .before .before .reciprocal .result) _ (loop .before .used-length .ensures) _ _ (c .before .before .entry .ensures)
+    (loop .before .before .before .reciprocal .result) _ (loop .before .used-length .ensures .used) _ _ (c .before .before .entry .ensures)
     (c .coefficient-or-start .ensures)
 
 same-length : tie.Need-same-length Inv-loop μ-loop

@@ -33,7 +33,7 @@ term-requires c κs =
     let lists = loop .before in
     let held = lists .before .before .before .before in
     transposed-term _ _ _ _ _ _ _ _ _ _ (held .before .before .pre) _ _ (c .before .loop-test .taken) (loop .loop .inv)
-    (lists .before .before .used-length .ensures) (lists .used-length2 .ensures) (held .reciprocal .ensures)
+    (lists .before .before .used-length .ensures .used) (lists .used-length2 .ensures .used) (held .reciprocal .ensures)
 
 add-place : tie.Need-add-place Inv-loop μ-loop
 add-place c = omega arith
@@ -56,7 +56,7 @@ loop-again c =
     let lists = loop .before in
     let start = lists .before .before .before .before .before .before in
     transposed-next _ _ _ _ _ _ _ _ _ _ (start .pre) _ _ (c .before .before .loop-test .taken) (loop .loop .inv)
-    (lists .before .before .used-length .ensures) (lists .used-length2 .ensures) _ (c .term .ensures)
+    (lists .before .before .used-length .ensures .used) (lists .used-length2 .ensures .used) _ (c .term .ensures)
 
 same-length : tie.Need-same-length Inv-loop μ-loop
 same-length c = omega arith

@@ -1,8 +1,8 @@
 -- `products::used_length` meets its contract: the loop's invariant is that what it has passed over is zero, and its measure is
--- what is left. Assumes nothing.
+-- what is left; it ends at a number that is not zero, or with nothing. Assumes nothing.
 use mathlib.Core.Path.{sym, _∙_}
 use native.Mathlib.Omega.{arith}
-use Rattle.products.specs.Places.{Used, used-all, used-less}
+use Rattle.products.specs.Places.{Used, used-all, used-none, used-less}
 use Rattle.products.proofs.used_length.Statement.{statement}
 use Rattle.products.proofs.used_length.Tie as tie
 
@@ -22,13 +22,19 @@ entry-requires : tie.Need-entry-requires Inv-loop μ-loop
 entry-requires c κs = omega arith
 
 returns : tie.Need-returns Inv-loop μ-loop
-returns c = c .before .before .before .loop .inv
+returns c = record {
+  used = c .before .before .before .loop .inv;
+  least = λ _ zero _. c .if1 .taken (c .before .entry .ensures ∙ zero);
+}
 
 entry-requires-2 : tie.Need-entry-requires-2 Inv-loop μ-loop
 entry-requires-2 c κs = omega arith
 
 returns-2 : tie.Need-returns-2 Inv-loop μ-loop
-returns-2 c = c .before .before .before .before .before .loop .inv
+returns-2 c = record {
+  used = c .before .before .before .before .before .loop .inv;
+  least = λ _ _ zero. c .if2 .taken (c .before .entry2 .ensures ∙ zero);
+}
 
 loop-less : tie.Need-loop-less Inv-loop μ-loop
 loop-less c = omega arith
@@ -40,7 +46,7 @@ loop-again c = used-less _ _ _ _ _ (c .before .before .before .before .loop-test
     (sym (c .before .entry2 .ensures) ∙ (c .if2 .left))
 
 returns-3 : tie.Need-returns-3 Inv-loop μ-loop
-returns-3 c = c .before .loop .inv
+returns-3 c = used-none (c .loop-test .left) (c .before .loop .inv)
 
 pub used-length-spec : {M : Type 1} → statement M
 used-length-spec =
