@@ -90,7 +90,7 @@ fn expand_root(
     }
 }
 
-// Writes the entries of the curve, which has n, that follow its first ones from place at on, and zeros behind them, span numbers in all.
+// Writes the curve, of which n entries take part, from entry first on: at place at and on, with zeros behind, span numbers in all.
 fn stretch(curve: &[u32], n: usize, first: usize, w: &mut [u32], at: usize, span: usize)
     requires { ⌜ StretchInput (now curve) n first (now w) at span ⌝ }
     ensures { λ _. ⌜ now (w .exit) ≡ written (now (w .entry)) at (stretched span first (take n (now (curve .entry)))) ⌝ }
