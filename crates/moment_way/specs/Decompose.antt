@@ -142,6 +142,21 @@ module _ {m : ℕ} {a b c aInverses cInverses : List ℕ} {close : Row} {closeAI
     norm-is i = norm-inverse f two (entryOr cInverses (n - 1) closeCInverse) i (a-inverse i) (λ j _. c-inverts j)
 
     -- the product with the Hankel matrix of the moments
+    pub decompose-hankel : HankelInput m n (moments f) coefficients
+    decompose-hankel = record {
+      positive = positive;
+      most = input .closed .rows .modulus .greatest;
+      least = input .closed .least;
+      few = input .closed .most;
+      momentsLong = count;
+      momentsBelow = λ i. by-cases (decLt i (2 * size f - 1)) (λ l. moments-below f positive i l)
+          (λ l. rw (List·getD-eq-default (moments f) 0 {n = i} (omega (arith, moments-length f))) positive);
+      coefficientsHold = input .coefficientsHold;
+    }
+      where
+        count : length (moments f) ≡ 2 * n - 1
+        count = moments-length f ∙ ap (λ k. 2 * k - 1) sized
+
     module _ {blank : List ℕ} (z : blank ≡ replicate 511 0) where
       pub decompose-moments : MomentsCoreInput m a b c aInverses close closeAInverse n (take 255 (drop 128 blank)) work
       decompose-moments = record {
@@ -150,21 +165,6 @@ module _ {m : ℕ} {a b c aInverses cInverses : List ℕ} {close : Row} {closeAI
         outputLong = omega (arith, moments-room z, input .closed .most);
         workLong = input .workLong;
       }
-
-      pub decompose-hankel : HankelInput m n (moments f) coefficients
-      decompose-hankel = record {
-        positive = positive;
-        most = input .closed .rows .modulus .greatest;
-        least = input .closed .least;
-        few = input .closed .most;
-        momentsLong = count;
-        momentsBelow = λ i. by-cases (decLt i (2 * size f - 1)) (λ l. moments-below f positive i l)
-            (λ l. rw (List·getD-eq-default (moments f) 0 {n = i} (omega (arith, moments-length f))) positive);
-        coefficientsHold = input .coefficientsHold;
-      }
-        where
-          count : length (moments f) ≡ 2 * n - 1
-          count = moments-length f ∙ ap (λ k. 2 * k - 1) sized
 
       module _ {moment work₁ : List ℕ} (h : Output (moments f) (2 * n - 1) (take 255 (drop 128 blank)) moment work work₁)
           {weighed : List ℕ} (product : Weighed m n u (moments f) weighed) where
