@@ -16,7 +16,7 @@ import subprocess
 import sys
 
 # Every function that has a division: how many stand in no loop, in one, and in more. Where the compiler tries a short division before a
-# long one, one remainder has two. In more than one loop: Euclid's algorithm for each entry, to find whom to blame, and the root of a tree.
+# long one, one remainder has two. In more than one loop: Euclid's algorithm for each entry, to find whom to blame.
 TABLE = """
 products::add_products            1  0  0
 products::transposed              1  0  0
@@ -26,7 +26,7 @@ record_check::record              1  0  0
 plain::decompose                  2  0  0
 prepared::prepare                 1  0  0
 subproduct::build                 1  0  0
-tree::expand                      1  1  0
+tree::expand                      2  0  0
 tree::adjoint                     1  0  0
 moment_way::moments               1  0  0
 moment_way::decompose             2  0  0

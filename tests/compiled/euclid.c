@@ -9,65 +9,19 @@
  * Prints the counts and exits 0; exits 1 if a call takes more for one c_1 than for another, if the refusal takes no more than that, or
  * if there is no division to count.
  */
-#define _GNU_SOURCE
 #include <inttypes.h>
-#include <signal.h>
 #include <stdio.h>
 #include <stdlib.h>
-#include <sys/mman.h>
-#include <ucontext.h>
-#include <unistd.h>
 
+#include "breakpoints.h"
 #include "zahupnik.h"
 
 /* 2147483646 is 2 3^2 7 11 31 151 331. */
 enum { MODULUS = 2147483646, ROWS = ZAHUPNIK_MOST_ROWS, N = ROWS + 1, MOMENTS = 2 * ROWS + 1 };
 
-/* ---- the count */
-
-enum { MOST_DIVISIONS = 1000, BREAKPOINT = 0xCC, TRAP_FLAG = 0x100 };
-
-struct division {
-    uint8_t *at, first_byte;
-};
-
-static struct division divisions[MOST_DIVISIONS];
-static size_t known;
-static unsigned long run_through;
-
 static void cannot(const char *what) {
     fprintf(stderr, "euclid: %s\n", what);
     exit(1);
-}
-
-static void read_addresses(void) {
-    uintptr_t address, page = (uintptr_t)sysconf(_SC_PAGESIZE);
-    for (; scanf("%" SCNxPTR, &address) == 1; known++) {
-        if (known == MOST_DIVISIONS) cannot("there are more divisions than it has room for");
-        uint8_t *at = (uint8_t *)address, *first = at - address % page;
-        if (mprotect(first, (size_t)page, PROT_READ | PROT_WRITE | PROT_EXEC)) cannot("an address is none of this program's");
-        divisions[known] = (struct division){at, *at};
-    }
-    if (!known) cannot("it is told no address");
-}
-
-static void set_breakpoints(int set) {
-    for (size_t i = 0; i < known; i++) *divisions[i].at = set ? BREAKPOINT : divisions[i].first_byte;
-}
-
-/* At a breakpoint the division is put back and run alone; after it all breakpoints are set again. */
-static void on_trap(int number, siginfo_t *info, void *context) {
-    greg_t *registers = ((ucontext_t *)context)->uc_mcontext.gregs;
-    (void)number;
-    if (info->si_code == TRAP_TRACE) {
-        registers[REG_EFL] &= ~TRAP_FLAG;
-        set_breakpoints(1);
-    } else {
-        registers[REG_EFL] |= TRAP_FLAG;
-        registers[REG_RIP]--;
-        set_breakpoints(0);
-        run_through++;
-    }
 }
 
 /* ---- the calls */
@@ -98,16 +52,15 @@ static const struct call {
 static unsigned long counted(const struct call *call, uint32_t first, uint32_t last, uint32_t number) {
     c[0] = first;
     c[ROWS - 1] = last;
-    run_through = 0;
-    set_breakpoints(1);
+    begin_count();
     uint32_t returned = call->run();
-    set_breakpoints(0);
+    end_count();
     if (returned != number) {
         fprintf(stderr, "euclid: %s returns %" PRIu32 " and not %" PRIu32 "\n", call->name, returned, number);
         exit(1);
     }
-    printf(" %8lu", run_through);
-    return run_through;
+    printf(" %8lu", passed[0]);
+    return passed[0];
 }
 
 static int holds(const struct call *call) {
@@ -123,10 +76,9 @@ static int holds(const struct call *call) {
 }
 
 int main(void) {
-    struct sigaction action = {.sa_sigaction = on_trap, .sa_flags = SA_SIGINFO};
+    uintptr_t address;
     int all = 1;
-    read_addresses();
-    if (sigaction(SIGTRAP, &action, NULL)) cannot("it cannot catch a trap");
+    while (scanf("%" SCNxPTR, &address) == 1) watch(address, 0);
     /* powers of 5 and of 13, which have inverses */
     for (uint64_t i = 0, x = 5, y = 13; i < ROWS; i++, x = x * 5 % MODULUS, y = y * 13 % MODULUS) {
         a[i] = (uint32_t)x;

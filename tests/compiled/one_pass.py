@@ -1,9 +1,11 @@
 """Reads from the compiled products::transposed that it forms the wanted terms in one pass and keeps no array.
 
 usage: tests/compiled/one_pass.py ARCHIVE
+       tests/compiled/one_pass.py --places PROGRAM FUNCTION..
 
 Prints a line for each thing that is read from its instructions:
-- it calls nothing and goes on in no other function, so that no array is had from elsewhere, and names nothing outside but constants;
+- it calls nothing and goes on in no other function, so that no array is had from elsewhere, and names nothing outside but constants,
+  in sections that cannot be written;
 - it takes little stack, takes no address of it and reads it at no place that is found while it runs: single numbers, and no array;
 - one instruction writes elsewhere than to the stack, and stands in one loop, which is over the wanted terms: each is written once,
   and no product is kept. Where the compiler has made two loops or two ways of one, there may be more, but none runs after another: not in
@@ -12,6 +14,9 @@ Prints a line for each thing that is read from its instructions:
 - it divides in no loop: remainders are taken by the reciprocal.
 
 Fails if one of these is not so, and if there is no such function.
+
+With --places it prints where each FUNCTION of a program writes elsewhere than to the stack, and where it multiplies, for
+tests/compiled/steps.c: what the instructions do not show, such as coefficients that are formed and thrown away, is counted there.
 """
 
 import re
@@ -27,24 +32,35 @@ CALL = re.compile(r"call[qlw]?\b")
 CHOICE = re.compile(r"cmov")
 # What multiplies in a register: numbers of 32 or 64 bits, or several at once.
 MULTIPLY = re.compile(r"(i?mul|mulx|pmul\w*)[bwlq]?\s")
+# What writes to a place that is no operand of it, or by parts of one.
+HIDDEN_WRITE = re.compile(r"(v?maskmov\w*|movdir\w*|enqcmd\w*|stos[bwlq]?|movs[bwlq]|xsave\w*|fxsave\w*)$")
 # Names that end in a memory operand and do not write it. Of mul and div those with one operand, which is read.
 READS = re.compile(r"((cmp|test|bt|push|call|jmp|nop|mul|imul|div|idiv)[bwlq]?|prefetch\w*|u?comis[sd]|ptest)")
 RELOCATION = re.compile(r"\s*([0-9a-f]+): R_X86_64_\w+\s+(\S+)")
 CONSTANTS = (".LC", ".rodata")
+READ_ONLY = "READONLY"
 
 
 class Fault(Exception):
     """What the function does that it may not."""
 
 
+def writable(archive):
+    """The sections of the archive that can be written."""
+    rows = re.findall(r"^ *\d+ (\S+) .*\n +(.*)$", disassembled(archive, "--section-headers"), re.MULTILINE)
+    return {name for name, flags in rows if READ_ONLY not in flags}
+
+
 def outside(archive):
     """What the function names outside itself, constants left out: what the linker has to fill in."""
-    names, within = [], False
+    names, within, may_change = [], False, writable(archive)
     for line in disassembled(archive, "--reloc").splitlines():
         if match := re.fullmatch(r"[0-9a-f]+ <(.*)>:", line):
             within = match[1] == NAME
-        elif within and (match := RELOCATION.fullmatch(line)) and not match[2].startswith(CONSTANTS):
-            names.append(re.sub(r"[+-]0x[0-9a-f]+$", "", match[2]))
+        elif within and (match := RELOCATION.fullmatch(line)):
+            name = re.sub(r"[+-]0x[0-9a-f]+$", "", match[2])
+            if not name.startswith(CONSTANTS) or name in may_change:
+                names.append(name)
     return names
 
 
@@ -78,7 +94,7 @@ def stack_step(address, words):
     name, operands = parts(words)
     if name in ("enter", "leave") or "%esp" in operands or "%sp" in operands:
         raise Fault(f"moves its stack at {address:x} in a way that is not read")
-    if re.fullmatch(r"push[qf]?", name):
+    if re.fullmatch(r"push[qf]?", name) and operands != ["%rsp"]:
         return 8
     if re.fullmatch(r"popq?", name) and operands != ["%rsp"]:
         return -8
@@ -128,6 +144,8 @@ def alone(archive, body):
             raise Fault(f"jumps at {address:x} out of itself")
         if re.match(r"(syscall|sysenter|int)\b", words):
             raise Fault(f"calls the system at {address:x}")
+        if HIDDEN_WRITE.match(parts(words)[0]):
+            raise Fault(f"writes at {address:x} in a way that is not read")
     if not any(END.match(words) for words in body.values()):
         raise Fault("does not return")
     return "calls nothing, goes on in no other function and names nothing outside but constants"
@@ -188,8 +206,27 @@ def no_division(body, ways):
     return "divides in no loop"
 
 
+def print_places(program, names):
+    """Where functions write and multiply, those products left out that have a number of the program's in them: they find places."""
+    found = functions(program)
+    for name in names:
+        if name not in found:
+            sys.exit(f"one_pass: {program} has no function {name}")
+        body = found[name]
+        for address in sorted(reached(min(body), graph(name, body))):
+            words = PREFIX.sub("", body[address])
+            if words.startswith(("pmul", "vpmul")):
+                sys.exit(f"one_pass: {name} multiplies several at once at {address:x}, which is not counted")
+            if MULTIPLY.match(words) and "$" not in words:
+                print(f"{name} multiply {address:x}")
+            if (place := written(words)) and "(%rsp" not in place:
+                print(f"{name} write {address:x}")
+
+
 def main():
     """Say what the function does, or what it does wrong."""
+    if len(sys.argv) > 3 and sys.argv[1] == "--places":
+        return print_places(sys.argv[2], sys.argv[3:])
     if len(sys.argv) != 2:
         sys.exit(__doc__)
     body = functions(sys.argv[1]).get(NAME)

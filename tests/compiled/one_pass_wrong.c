@@ -125,6 +125,35 @@ VERSION(address) {
     }
 }
 
+/* It takes the address of its stack by way of the stack. */
+VERSION(address_pushed) {
+    uint64_t here;
+    __asm__ volatile("push %%rsp\n\tpop %0" : "=r"(here)::"memory");
+    EACH_TERM {
+        FIRST_PRODUCT;
+        w[target + i] = rest(low + here, wraps, m, reciprocal);
+    }
+}
+
+/* It keeps the terms in an array whose section has the name of constants and can be written. */
+VERSION(hidden_array) {
+    static __attribute__((section(".LC.hidden"))) uint32_t kept[512] = {1};
+    EACH_TERM {
+        FIRST_PRODUCT;
+        kept[i % 512] = rest(low, wraps, m, reciprocal);
+        w[target + i] = kept[(i + 1) % 512];
+    }
+}
+
+/* It writes by an instruction whose operand is not the place. */
+VERSION(hidden_write) {
+    EACH_TERM {
+        FIRST_PRODUCT;
+        w[target + i] = rest(low, wraps, m, reciprocal);
+        __asm__ volatile("maskmovdqu %%xmm0, %%xmm1" ::"D"(w) : "memory");
+    }
+}
+
 /* It writes each term twice, the first product and then the sum. */
 VERSION(two_stores) {
     RECIPROCAL;

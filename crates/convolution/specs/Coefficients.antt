@@ -1,23 +1,23 @@
 -- The sum of the coefficient of x^k in start + p q + r s.
 --   ProductsInput   what it is taken of: residues, and lists of equal lengths side by side
---   Multiplying     the sum in progress
+--   Multiplying     the sum in progress: of the terms i from first to end - 1, where p_i and q_{k-i} both reach, the first t
 -- Proved: how it begins, that two products fit, how it goes on, and that it ends with the coefficient; where a product has no term, and
 -- that its entries settle it.
 -- Assumes nothing.
-use mathlib.Core.Path.{_≡_, refl, sym, _∙_, ap, ap₂, fun-ext}
+use mathlib.Core.Path.{_≡_, refl, sym, _∙_, ap, ap₂}
 use mathlib.Core.List.{List, [], _∷_}
 use Prim.Native.Nat.{ℕ, zero, suc, _+_, _*_, _-_, _%_, _≤_, _<_}
 use native.Mathlib.Decide.{decLt}
-use native.Mathlib.Nat.{add-assoc, mul-one, mul-zero, zero-add, zero-mul}
+use native.Mathlib.Nat.{add-assoc, add-zero, mul-one, mul-zero, zero-add, zero-mul}
 use native.Mathlib.Omega.{arith}
 use lib.ListN.{length, getD, List·getD-eq-default}
 use Rattle.definitions.specs.Number.{sum}
 use Rattle.numbers.specs.Products.{Below, productAt}
-use Rattle.numbers.specs.Sums.{sum-zero, sum-between, sum-both}
+use Rattle.numbers.specs.Sums.{sum-equal, sum-zero, sum-between, sum-both}
 use Rattle.reduction.specs.Reciprocal.{word}
-use Rattle.reduction.specs.Wrapping.{Reducible, WrapsAfter}
-use Rattle.convolution.specs.Totals.{Lesser, SmallNumbers, Totalling, amount, amount-number, pair-fits}
-use Rattle.convolution.specs.Totals.{totalling-starts, totalling-next, totalling-ends}
+use Rattle.reduction.specs.Wrapping.{Reducible}
+use Rattle.convolution.specs.Totals.{Lesser, SmallNumbers, PlusInput, Added, Totalling, amount, amount-number, pair-fits}
+use Rattle.convolution.specs.Totals.{totalling-starts, totalling-next, totalling-ends, one-term}
 
 abbrev productTerm : List ℕ → List ℕ → ℕ → ℕ → ℕ
 productTerm p q k i = getD p i 0 * getD q (k - i) 0
@@ -44,9 +44,10 @@ product-past p q k h = sum-zero (suc k) (productTerm p q k) (λ i l. none i (dec
     none i (yes g) = past-second p q (k - i) i (omega arith)
     none i (no g) = past-first p q (k - i) i (omega arith)
 
-pub product-entries : (p p′ q : List ℕ) (k : ℕ) → ((i : ℕ) → getD p i 0 ≡ getD p′ i 0) → productAt p q k ≡ productAt p′ q k
+pub product-entries : (p p′ q q′ : List ℕ) (k : ℕ) → ((i : ℕ) → getD p i 0 ≡ getD p′ i 0) → ((i : ℕ) → getD q i 0 ≡ getD q′ i 0)
+    → productAt p q k ≡ productAt p′ q′ k
 unfolding productAt
-product-entries p p′ q k e = ap (sum (suc k)) (fun-ext (λ i. ap (λ x. x * getD q (k - i) 0) (e i)))
+product-entries p p′ q q′ k e d = sum-equal (suc k) _ _ (λ i _. ap₂ _*_ (e i) (d (k - i)))
 
 -- the product with the polynomial 1
 pub product-one : (p : List ℕ) (k : ℕ) → productAt p (1 ∷ 0 ∷ []) k ≡ getD p k 0
@@ -80,29 +81,25 @@ pub record ProductsInput (m reciprocal start : ℕ) (p q r s : List ℕ) (k : �
   pub sLong : length s ≡ length q
   pub reached : k < length p + length q
 
-module _ (start : ℕ) (p q r s : List ℕ) (k : ℕ) where
-  abbrev productsTerm : ℕ → ℕ
-  productsTerm i = productTerm p q k i + productTerm r s k i
+abbrev productsTerm : List ℕ → List ℕ → List ℕ → List ℕ → ℕ → ℕ → ℕ
+productsTerm p q r s k i = productTerm p q k i + productTerm r s k i
 
-  pub record Multiplying (end i low wraps : ℕ) : Type 0 where
-    pub ends : Lesser (k + 1) (length p) end
-    pub total : Totalling 0 start (k + 1 - length q) end productsTerm i low wraps
+-- of the count of terms, from first on, t are in
+pub record Multiplying (start : ℕ) (p q r s : List ℕ) (k first end count t low wraps : ℕ) : Type 0 where
+  pub begins : first ≡ k + 1 - length q
+  pub ends : Lesser (k + 1) (length p) end
+  pub counted : count ≡ end - first
+  pub total : Totalling 0 start first end (productsTerm p q r s k) (first + t) low wraps
 
-module _ (m reciprocal start : ℕ) (p q r s : List ℕ) (k : ℕ) (input : ProductsInput m reciprocal start p q r s k) (end : ℕ) where
-  abbrev ProductsLoop : ℕ → ℕ → ℕ → Type 0
-  ProductsLoop = Multiplying start p q r s k end
-
-  abbrev first : ℕ
-  first = k + 1 - length q
-
-  abbrev f : ℕ → ℕ
-  f = productsTerm start p q r s k
-
-  pub multiplying-starts : (i : ℕ) → i ≡ first → Lesser (k + 1) (length p) end → ProductsLoop i start 0
-  multiplying-starts i e ends = rw e record {
+module _ {m reciprocal start : ℕ} {p q r s : List ℕ} {k : ℕ} (input : ProductsInput m reciprocal start p q r s k) {first end count : ℕ} where
+  pub multiplying-starts : first ≡ k + 1 - length q → Lesser (k + 1) (length p) end → count ≡ end - first
+      → Multiplying start p q r s k first end count 0 start 0
+  multiplying-starts e ends c = record {
+    begins = e;
     ends = ends;
-    total = totalling-starts 0 start first end f start 0 (omega (arith, input .startBelow, input .reducible .most)) (omega arith)
-        (amount-number start) within-end;
+    counted = c;
+    total = rw (add-zero first) (totalling-starts 0 start first end (productsTerm p q r s k) start 0
+        (omega (arith, input .startBelow, input .reducible .most)) (omega arith) (amount-number start) within-end);
   }
     where
       within : Dec (end < k + 1) → first ≤ end
@@ -112,32 +109,46 @@ module _ (m reciprocal start : ℕ) (p q r s : List ℕ) (k : ℕ) (input : Prod
       within-end : first ≤ end
       within-end = within (decLt end (k + 1))
 
-  module _ (i low wraps : ℕ) (h : ProductsLoop i low wraps) where
-    pub multiplying-small : SmallNumbers (getD p i 0) (getD q (k - i) 0) (getD r i 0) (getD s (k - i) 0)
-    multiplying-small = small (input .reducible .most) (input .pBelow i) (input .qBelow (k - i)) (input .rBelow i) (input .sBelow (k - i))
+  module _ {t low wraps : ℕ} (h : Multiplying start p q r s k first end count t low wraps) where
+    pub multiplying-small : SmallNumbers (getD p (first + t) 0) (getD q (k - (first + t)) 0) (getD r (first + t) 0)
+        (getD s (k - (first + t)) 0)
+    multiplying-small = small (input .reducible .most) (input .pBelow _) (input .qBelow _) (input .rBelow _) (input .sBelow _)
 
-    pub multiplying-next : i < end → (x next w : ℕ) → x ≡ f i → next ≡ (low + x) % word → WrapsAfter wraps next x w
-        → ProductsLoop (i + 1) next w
-    multiplying-next l x next w e n a = record {
-      ends = h .ends;
-      total = totalling-next 0 start first end f i low wraps x next w l (h .total) e (rw e (pair-fits _ _ _ _ multiplying-small)) n a;
+    pub multiplying-plus : {x : ℕ} → length p ≤ 2305843009213693952 → x ≡ productsTerm p q r s k (first + t) → PlusInput low wraps x
+    multiplying-plus long e = record {
+      fits = h .total .fits;
+      small = rw e (pair-fits _ _ _ _ multiplying-small);
+      few = omega (arith, h .total .few, h .total .reached, h .ends .second);
     }
 
-    pub multiplying-ends : end ≤ i → (v : ℕ) → v ≡ (low + wraps * word) % m → v ≡ (start + productAt p q k + productAt r s k) % m
+    pub multiplying-next : {x next w : ℕ} → t < count → x ≡ productsTerm p q r s k (first + t) → Added low wraps 1 x next w
+        → Multiplying start p q r s k first end count (t + 1) next w
+    multiplying-next l e a = record {
+      begins = h .begins;
+      ends = h .ends;
+      counted = h .counted;
+      total = rw (← add-assoc first t 1) (totalling-next 0 start first end (productsTerm p q r s k) 1 (omega arith)
+          (omega (arith, h .counted)) (h .total) (e ∙ one-term (productsTerm p q r s k) (first + t)) a);
+    }
+
+    pub multiplying-ends : count ≤ t → (v : ℕ) → v ≡ (low + wraps * word) % m → v ≡ (start + productAt p q k + productAt r s k) % m
     unfolding productAt amount
     multiplying-ends l v e =
-        e ∙ ap (λ x. x % m) (totalling-ends 0 start first end f i low wraps l (h .total)
+        e ∙ ap (λ x. x % m) (totalling-ends 0 start first end (productsTerm p q r s k) (first + t) low wraps (omega (arith, h .counted))
+        (h .total)
         ∙ ap (λ x. start + x) (sym all ∙ sum-both (suc k) (productTerm p q k) (productTerm r s k)) ∙ sym (add-assoc start _ _))
       where
-        before : (j : ℕ) → j < first → f j ≡ 0
-        before j b = both-zero (past-second p q (k - j) j (omega arith)) (past-second r s (k - j) j (omega (arith, input .sLong)))
+        before : (j : ℕ) → j < first → productsTerm p q r s k j ≡ 0
+        before j b = both-zero (past-second p q (k - j) j (omega (arith, h .begins)))
+            (past-second r s (k - j) j (omega (arith, h .begins, input .sLong)))
 
-        behind : (j : ℕ) → end ≤ j → j < suc k → f j ≡ 0
+        behind : (j : ℕ) → end ≤ j → j < suc k → productsTerm p q r s k j ≡ 0
         behind j a b =
             let out : end ≡ length p = h .ends .one (omega arith) in
             both-zero (past-first p q (k - j) j (omega arith)) (past-first r s (k - j) j (omega (arith, input .rLong)))
 
-        all : sum (suc k) f ≡ sum (end - first) (λ t. f (first + t))
+        all : sum (suc k) (productsTerm p q r s k) ≡ sum (end - first) (λ t. productsTerm p q r s k (first + t))
         all =
             let whole : first + (end - first) ≡ end = omega (arith, h .total .from, h .total .reached) in
-            sum-between first (end - first) (suc k) f (omega (arith, h .ends .first)) before (λ j a b. behind j (omega arith) b)
+            sum-between first (end - first) (suc k) (productsTerm p q r s k) (omega (arith, h .ends .first)) before
+            (λ j a b. behind j (omega arith) b)

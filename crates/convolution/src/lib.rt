@@ -1,12 +1,13 @@
 // One coefficient of a sum of two products of polynomials, or one term of a sum of two transposed products, on input that is already
 // checked. A sum is kept as its low 64 bits and a count of its wraps: nothing is taken off in the loop, and one remainder ends it.
 ghost use mathlib.Core.Path.{_≡_};
-ghost use Prim.Native.Nat.{_+_, _*_, _-_, _%_};
+ghost use Prim.Native.Nat.{_+_, _*_, _-_, _%_, _≤_};
 ghost use Rattle.definitions.specs.Number.{sum};
 ghost use Rattle.numbers.specs.Products.{productAt, transposedAt};
-ghost use Rattle.convolution.specs.Totals.{Lesser, SmallNumbers, Added};
+ghost use Rattle.convolution.specs.Totals.{Lesser, SmallNumbers, PlusInput, Added};
 ghost use Rattle.convolution.specs.Coefficients.{ProductsInput};
-ghost use Rattle.convolution.specs.Terms.{transposedTerm, SinglesInput, PairsInput, SumInput, TransposedInput};
+ghost use Rattle.convolution.specs.Terms.{transposedTerm, pairTerm, Reach, SinglesInput, PairsInput, TwoPairs, SumInput};
+ghost use Rattle.convolution.specs.Terms.{TransposedInput};
 use lists::excess;
 use reduction::remainder_of_sum;
 use reduction::wraps_after;
@@ -25,6 +26,21 @@ fn pair(x: u32, y: u32, u: u32, v: u32) -> u64
     (x as u64) * (y as u64) + (u as u64) * (v as u64)
 }
 
+// A sum in progress: its low 64 bits, and how often it has wrapped.
+struct Total {
+    low: u64,
+    wraps: u64,
+}
+
+fn plus(total: Total, x: u64) -> Total
+    requires { ⌜ PlusInput (total .low) (total .wraps) x ⌝ }
+    ensures { λ r. ⌜ Added (total .low) (total .wraps) 1 x (r .low) (r .wraps) ⌝ }
+{
+    let low = std::num::wrapping_add_u64(total.low, x);
+    let wraps = wraps_after(total.wraps, low, x);
+    Total { low, wraps }
+}
+
 // The coefficient of x^k in start + p q + r s.
 pub fn products_at(
     m: u32,
@@ -41,25 +57,22 @@ pub fn products_at(
         + productAt (now (r .entry)) (now (s .entry)) k) % m ⌝ }
 {
     let next = k + 1;
-    let mut i = excess(next, q.len());
+    let first = excess(next, q.len());
     let end = lesser(next, p.len());
-    let mut low = start as u64;
-    let mut wraps: u64 = 0;
-    while i < end {
+    let count = excess(end, first);
+    let mut total = Total {
+        low: start as u64,
+        wraps: 0,
+    };
+    let mut t: usize = 0;
+    while t < count {
+        let i = first + t;
         let j = k - i;
         let x = pair(p[i], q[j], r[i], s[j]);
-        let sum = std::num::wrapping_add_u64(low, x);
-        wraps = wraps_after(wraps, sum, x);
-        low = sum;
-        i += 1;
+        total = plus(total, x);
+        t += 1;
     }
-    remainder_of_sum(m, reciprocal, low, wraps)
-}
-
-// A sum in progress: its low 64 bits, and how often it has wrapped.
-struct Total {
-    low: u64,
-    wraps: u64,
+    remainder_of_sum(m, reciprocal, total.low, total.wraps)
 }
 
 // The sum, and p_j v_{i+j} for j from first to end - 1 besides.
@@ -68,21 +81,52 @@ fn with_singles(total: Total, p: &[u32], v: &[u32], i: usize, first: usize, end:
     ensures { λ r. ⌜ Added (total .low) (total .wraps) (end - first)
         (sum (end - first) (λ t. transposedTerm (now (p .entry)) (now (v .entry)) i (first + t))) (r .low) (r .wraps) ⌝ }
 {
-    let mut low = total.low;
-    let mut wraps = total.wraps;
+    let mut sum = total;
     let mut j = first;
     while j < end {
         let k = i + j;
         let x = pair(p[j], v[k], 0, 0);
-        let sum = std::num::wrapping_add_u64(low, x);
-        wraps = wraps_after(wraps, sum, x);
-        low = sum;
+        sum = plus(sum, x);
         j += 1;
     }
-    Total { low, wraps }
+    sum
 }
 
-// The sum, and p_j v_{i+j} + q_j u_{i+j} for j below end besides.
+// The sum, and p_0 v_i + q_0 u_i besides if odd is 1.
+fn with_first(
+    total: Total,
+    p: &[u32],
+    v: &[u32],
+    q: &[u32],
+    u: &[u32],
+    i: usize,
+    odd: usize,
+) -> Total
+    requires { ⌜ PairsInput (total .low) (total .wraps) (now p) (now v) (now q) (now u) i odd × (odd ≤ 1) ⌝ }
+    ensures { λ r. ⌜ Added (total .low) (total .wraps) odd
+        (sum odd (pairTerm (now (p .entry)) (now (v .entry)) (now (q .entry)) (now (u .entry)) i)) (r .low) (r .wraps) ⌝ }
+{
+    if odd == 0 {
+        return total;
+    }
+    let x = pair(p[0], v[i], q[0], u[i]);
+    plus(total, x)
+}
+
+// p_j v_{i+j} + q_j u_{i+j}, and the same for j + 1.
+fn two_pairs(p: &[u32], v: &[u32], q: &[u32], u: &[u32], i: usize, j: usize) -> u64
+    requires { ⌜ Reach (now p) (now v) i (j + 2) × Reach (now q) (now u) i (j + 2) ⌝ }
+    ensures { λ r. ⌜ TwoPairs (now (p .entry)) (now (v .entry)) (now (q .entry)) (now (u .entry)) i j r ⌝ }
+{
+    let k = i + j;
+    let next = j + 1;
+    let after = k + 1;
+    let x = pair(p[j], v[k], q[j], u[k]);
+    let y = pair(p[next], v[after], q[next], u[after]);
+    x + y
+}
+
+// The sum, and p_j v_{i+j} + q_j u_{i+j} for j below end besides: four products a step, after the first two where end is odd.
 fn with_pairs(
     total: Total,
     p: &[u32],
@@ -94,21 +138,17 @@ fn with_pairs(
 ) -> Total
     requires { ⌜ PairsInput (total .low) (total .wraps) (now p) (now v) (now q) (now u) i end ⌝ }
     ensures { λ r. ⌜ Added (total .low) (total .wraps) end
-        (sum end (λ j. transposedTerm (now (p .entry)) (now (v .entry)) i j + transposedTerm (now (q .entry)) (now (u .entry)) i j))
-        (r .low) (r .wraps) ⌝ }
+        (sum end (pairTerm (now (p .entry)) (now (v .entry)) (now (q .entry)) (now (u .entry)) i)) (r .low) (r .wraps) ⌝ }
 {
-    let mut low = total.low;
-    let mut wraps = total.wraps;
-    let mut j: usize = 0;
+    let odd = end % 2;
+    let mut sum = with_first(total, p, v, q, u, i, odd);
+    let mut j = odd;
     while j < end {
-        let k = i + j;
-        let x = pair(p[j], v[k], q[j], u[k]);
-        let sum = std::num::wrapping_add_u64(low, x);
-        wraps = wraps_after(wraps, sum, x);
-        low = sum;
-        j += 1;
+        let x = two_pairs(p, v, q, u, i, j);
+        sum = plus(sum, x);
+        j += 2;
     }
-    Total { low, wraps }
+    sum
 }
 
 // The sum over j of p_j v_{i+j}, where v reaches as far as p asks: by halves of p, so that two products make a step.

@@ -237,49 +237,48 @@ module _ (m : ℕ) (w₀ : List ℕ) (target n : ℕ) (f : ℕ → ℕ) (w : Lis
     below = kept-residues target (target + n) w₀ w (writing-kept w₀ target n f w k h) m at c (a .apart) (a .source .below);
   }
 
+-- the front of such a part, as far as it is used
+module _ (m : ℕ) (w₀ : List ℕ) (target n : ℕ) (f : ℕ → ℕ) (w : List ℕ) (i : ℕ) (h : Writing w₀ target n f w i)
+    (at c k : ℕ) (a : Aside m w₀ target (target + n) at c) (fewer : k ≤ c) where
+  front-aside : Aside m w₀ target (target + n) at k
+  front-aside = aside-within m w₀ target (target + n) at c target (target + n) at k a (omega arith) (omega arith) (omega arith) (omega arith)
+
+  front-source : Source m w at k
+  front-source = aside-source m w₀ target n f w i h at k front-aside
+
+  front-entry : (j : ℕ) → getD (part w at k) j 0 ≡ getD (part w₀ at k) j 0
+  front-entry j = ap (λ x. getD x j 0) (aside-part m w₀ target n f w i h at k front-aside)
+
 module _ (m : ℕ) (w₀ : List ℕ) (target n t tn p r pn q s qn : ℕ) (places : ProductPlaces m w₀ target n t tn p r pn q s qn)
-    (w : List ℕ) (k : ℕ) (l : k < n) (h : Writing w₀ target n (productEntry m w₀ t tn p r pn q s qn) w k) where
-  source : (at c : ℕ) → Aside m w₀ target (target + n) at c → Source m w at c
-  source = aside-source m w₀ target n (productEntry m w₀ t tn p r pn q s qn) w k h
+    (w : List ℕ) (k : ℕ) (l : k < n) (h : Writing w₀ target n (productEntry m w₀ t tn p r pn q s qn) w k)
+    {used held : ℕ} (first : Used w₀ p r pn used) (second : Used w₀ q s qn held) where
+  abbrev coefficients : ℕ → ℕ
+  coefficients = productEntry m w₀ t tn p r pn q s qn
 
-  kept : (at c : ℕ) → Aside m w₀ target (target + n) at c → part w at c ≡ part w₀ at c
-  kept = aside-part m w₀ target n (productEntry m w₀ t tn p r pn q s qn) w k h
+  pub product-sources : {reciprocal : ℕ} → Reciprocal m reciprocal → (start : ℕ) → start ≡ getD (part w t tn) k 0
+      → SourceInput m reciprocal w start p r used q s held
+  product-sources reciprocal start e = record {
+    reducible = record { most = places .most; reciprocal = reciprocal };
+    startBelow = rw e (part-below m w t tn (places .least) (aside-source m w₀ target n coefficients w k h t tn (places .tAside) .below) k);
+    pSource = front-source m w₀ target n coefficients w k h p pn used (places .pAside) (first .within);
+    rSource = front-source m w₀ target n coefficients w k h r pn used (places .rAside) (first .within);
+    qSource = front-source m w₀ target n coefficients w k h q qn held (places .qAside) (second .within);
+    sSource = front-source m w₀ target n coefficients w k h s qn held (places .sAside) (second .within);
+  }
 
-  module _ (reciprocal used : ℕ) (u : Used w₀ p r pn used) where
-    front : (at : ℕ) → Aside m w₀ target (target + n) at pn → Aside m w₀ target (target + n) at used
-    front at a =
-        aside-within m w₀ target (target + n) at pn target (target + n) at used a (omega arith) (omega arith) (omega arith)
-        (omega (arith, u .within))
-
-    pub product-sources : Reciprocal m reciprocal → (start : ℕ) → start ≡ getD (part w t tn) k 0
-        → SourceInput m reciprocal w start p r used q s qn
-    product-sources held start e = record {
-      reducible = record { most = places .most; reciprocal = held };
-      startBelow = rw e (part-below m w t tn (places .least) (source t tn (places .tAside) .below) k);
-      pSource = source p used (front p (places .pAside));
-      rSource = source r used (front r (places .rAside));
-      qSource = source q qn (places .qAside);
-      sSource = source s qn (places .sAside);
-    }
-
-    pub product-next : (start v : ℕ) → start ≡ getD (part w t tn) k 0
-        → v ≡ (start + productAt (part w p used) (part w q qn) k + productAt (part w r used) (part w s qn) k) % m
-        → Writing w₀ target n (productEntry m w₀ t tn p r pn q s qn) (set w (target + k) v) (k + 1)
-    unfolding productEntry
-    product-next start v e g =
-        let first = product-entries (part w₀ p used) (part w₀ p pn) (part w₀ q qn) k (u .pSame) in
-        let second = product-entries (part w₀ r used) (part w₀ r pn) (part w₀ s qn) k (u .rSame) in
-        writing-next w₀ target n (productEntry m w₀ t tn p r pn q s qn) w k h v l
-        (g ∙ rw (
-          e,
-          kept t tn (places .tAside),
-          kept p used (front p (places .pAside)),
-          kept q qn (places .qAside),
-          kept r used (front r (places .rAside)),
-          kept s qn (places .sAside),
-          first,
-          second,
-        ))
+  pub product-next : (start v : ℕ) → start ≡ getD (part w t tn) k 0
+      → v ≡ (start + productAt (part w p used) (part w q held) k + productAt (part w r used) (part w s held) k) % m
+      → Writing w₀ target n (productEntry m w₀ t tn p r pn q s qn) (set w (target + k) v) (k + 1)
+  unfolding productEntry
+  product-next start v e g =
+      let begun = e ∙ ap (λ x. getD x k 0) (aside-part m w₀ target n coefficients w k h t tn (places .tAside)) in
+      let one = product-entries (part w p used) (part w₀ p pn) (part w q held) (part w₀ q qn) k
+      (λ j. front-entry m w₀ target n coefficients w k h p pn used (places .pAside) (first .within) j ∙ first .pSame j)
+      (λ j. front-entry m w₀ target n coefficients w k h q qn held (places .qAside) (second .within) j ∙ second .pSame j) in
+      let other = product-entries (part w r used) (part w₀ r pn) (part w s held) (part w₀ s qn) k
+      (λ j. front-entry m w₀ target n coefficients w k h r pn used (places .rAside) (first .within) j ∙ first .rSame j)
+      (λ j. front-entry m w₀ target n coefficients w k h s qn held (places .sAside) (second .within) j ∙ second .rSame j) in
+      writing-next w₀ target n coefficients w k h v l (g ∙ rw (begun, one, other))
 
 pub product-ends : (m : ℕ) (w₀ : List ℕ) (target n t tn p r pn q s qn : ℕ) (w : List ℕ) (k : ℕ) → n ≤ k
     → Writing w₀ target n (productEntry m w₀ t tn p r pn q s qn) w k
@@ -293,24 +292,13 @@ module _ (m : ℕ) (w₀ : List ℕ) (target n p q pn v u vn : ℕ) (places : Tr
 
   module _ (w : List ℕ) (i : ℕ) (l : i < n) (h : Writing w₀ target n wanted w i)
       {used held : ℕ} (multipliers : Used w₀ p q pn used) (lists : Used w₀ v u vn held) where
-    -- the front of a part, as far as it is used, is there still
-    module _ (at k c : ℕ) (a : Aside m w₀ target (target + n) at k) (fewer : c ≤ k) where
-      front-aside : Aside m w₀ target (target + n) at c
-      front-aside = aside-within m w₀ target (target + n) at k target (target + n) at c a (omega arith) (omega arith) (omega arith) (omega arith)
-
-      front-source : Source m w at c
-      front-source = aside-source m w₀ target n wanted w i h at c front-aside
-
-      front-entry : (j : ℕ) → getD (part w at c) j 0 ≡ getD (part w₀ at c) j 0
-      front-entry j = ap (λ x. getD x j 0) (aside-part m w₀ target n wanted w i h at c front-aside)
-
     pub transposed-term : {reciprocal : ℕ} → Reciprocal m reciprocal → TermInput m reciprocal w p q used v u held
     transposed-term reciprocal = record {
       reducible = record { most = places .most; reciprocal = reciprocal };
-      pSource = front-source p pn used (places .pAside) (multipliers .within);
-      qSource = front-source q pn used (places .qAside) (multipliers .within);
-      vSource = front-source v vn held (places .vAside) (lists .within);
-      uSource = front-source u vn held (places .uAside) (lists .within);
+      pSource = front-source m w₀ target n wanted w i h p pn used (places .pAside) (multipliers .within);
+      qSource = front-source m w₀ target n wanted w i h q pn used (places .qAside) (multipliers .within);
+      vSource = front-source m w₀ target n wanted w i h v vn held (places .vAside) (lists .within);
+      uSource = front-source m w₀ target n wanted w i h u vn held (places .uAside) (lists .within);
     }
 
     pub transposed-next : (x : ℕ) → x ≡ transposedEntry m w p q used v u held i
@@ -318,11 +306,11 @@ module _ (m : ℕ) (w₀ : List ℕ) (target n p q pn v u vn : ℕ) (places : Tr
     unfolding transposedEntry
     transposed-next x g =
         let first = transposed-entries (part w p used) (part w₀ p pn) (part w v held) (part w₀ v vn) i
-        (λ j. front-entry p pn used (places .pAside) (multipliers .within) j ∙ multipliers .pSame j)
-        (λ j. front-entry v vn held (places .vAside) (lists .within) j ∙ lists .pSame j) in
+        (λ j. front-entry m w₀ target n wanted w i h p pn used (places .pAside) (multipliers .within) j ∙ multipliers .pSame j)
+        (λ j. front-entry m w₀ target n wanted w i h v vn held (places .vAside) (lists .within) j ∙ lists .pSame j) in
         let second = transposed-entries (part w q used) (part w₀ q pn) (part w u held) (part w₀ u vn) i
-        (λ j. front-entry q pn used (places .qAside) (multipliers .within) j ∙ multipliers .rSame j)
-        (λ j. front-entry u vn held (places .uAside) (lists .within) j ∙ lists .rSame j) in
+        (λ j. front-entry m w₀ target n wanted w i h q pn used (places .qAside) (multipliers .within) j ∙ multipliers .rSame j)
+        (λ j. front-entry m w₀ target n wanted w i h u vn held (places .uAside) (lists .within) j ∙ lists .rSame j) in
         writing-next w₀ target n wanted w i h x l (g ∙ ap₂ (λ y z. (y + z) % m) first second)
 
 pub transposed-ends : (m : ℕ) (w₀ : List ℕ) (target n p q pn v u vn : ℕ) (w : List ℕ) (i : ℕ) → n ≤ i

@@ -8,7 +8,6 @@ ghost use Rattle.products.specs.Places.{CoefficientInput, SourceInput, U
 ghost use Rattle.products.specs.Places.{TermInput, TransposedPlaces, transposedEntry};
 use convolution::products_at;
 use convolution::transposed_at;
-use lists::excess;
 
 // Entry i of the n numbers of w from place at on, and 0 past them.
 fn entry(w: &[u32], at: usize, n: usize, i: usize) -> u32
@@ -71,10 +70,7 @@ fn coefficient_or_start(
     ensures { λ v. ⌜ v ≡ (start + productAt (part (now (w .entry)) p pn) (part (now (w .entry)) q qn) k
         + productAt (part (now (w .entry)) r pn) (part (now (w .entry)) s qn) k) % m ⌝ }
 {
-    if excess(k, pn) < qn {
-        return coefficient(m, reciprocal, w, start, p, r, pn, q, s, qn, k);
-    }
-    if k < pn {
+    if k < pn + qn {
         return coefficient(m, reciprocal, w, start, p, r, pn, q, s, qn, k);
     }
     start
@@ -100,7 +96,7 @@ pub fn used_length(w: &[u32], p: usize, r: usize, pn: usize) -> usize
 }
 
 // Writes the n first coefficients of t + p q + r s from place target on. All of them are parts of w: t has tn numbers, p and r have
-// pn, q and s have qn. The zeros at the end of p and r are not multiplied.
+// pn, q and s have qn. The zeros that end both p and r, or both q and s, are not multiplied.
 pub fn add_products(
     m: u32,
     w: &mut [u32],
@@ -122,10 +118,11 @@ pub fn add_products(
 {
     let reciprocal = reduction::reciprocal(m);
     let used = used_length(w, p, r, pn);
+    let held = used_length(w, q, s, qn);
     let mut k: usize = 0;
     while k < n {
         let start = entry(w, t, tn, k);
-        let v = coefficient_or_start(m, reciprocal, w, start, p, r, used, q, s, qn, k);
+        let v = coefficient_or_start(m, reciprocal, w, start, p, r, used, q, s, held, k);
         let place = target + k;
         w[place] = v;
         k += 1;
@@ -163,7 +160,8 @@ fn term(
 // place target on. Term i is the sum over j of p_j v_{i+j} and q_j u_{i+j} modulo m, where p and q are the multipliers and v and u the lists,
 // zero past their ends. All are parts of w, residues: p and q have pn numbers, v and u have vn, and they lie apart from the n wanted terms.
 // Nothing else is formed or written, and the zeros that end both multipliers or both lists are not multiplied. A caller with one product
-// hands in the halves of its multiplier, each with its piece of the list (`transposed-halves` in convolution, Terms).
+// hands in the halves of its multiplier, the list, and the list from the half's length on; where the list ends before n and both halves
+// need it to, zeros stand behind it (`transposed-halves` in convolution, Terms).
 pub fn transposed(
     m: u32,
     w: &mut [u32],

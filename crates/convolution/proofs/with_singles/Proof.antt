@@ -4,43 +4,46 @@ use Prim.Native.Nat.{_-_}
 use native.Mathlib.Omega.{arith}
 use borrow.Author.Needs.{needs}
 use Rattle.convolution.specs.Totals.{Totalling, amount}
-use Rattle.convolution.specs.Terms.{transposedTerm, singles-start, single-small, singles-next, singles-end}
+use Rattle.convolution.specs.Terms.{transposedTerm, singles-start, single-small, singles-plus, singles-next, singles-end}
 use Rattle.convolution.proofs.with_singles.Statement.{statement}
 use Rattle.convolution.proofs.with_singles.Tie as tie
 
 abbrev Inv-loop : tie.InvT-loop
-Inv-loop p v i first end low₀ wraps₀ j₀ low wraps j =
-    Totalling wraps₀ (amount low₀ wraps₀) first end (transposedTerm p v i) j low wraps
+Inv-loop p v i first end sum₀ j₀ sum j =
+    Totalling (sum₀ .wraps) (amount (sum₀ .low) (sum₀ .wraps)) first end (transposedTerm p v i) j (sum .low) (sum .wraps)
 
 abbrev μ-loop : tie.MeasureT-loop
-μ-loop p v i first end low₀ wraps₀ j₀ low wraps j = end - j
+μ-loop p v i first end sum₀ j₀ sum j = end - j
+
+-- from the loop's head the start
+abbrev start : tie.At-loop Inv-loop μ-loop → tie.Start Inv-loop μ-loop
+start c = c .before .before .before
 
 loop-holds : tie.Need-loop-holds Inv-loop μ-loop
 loop-holds c = singles-start _ _ _ _ _ _ _ (c .before .before .pre)
 
 add-k : tie.Need-add-k Inv-loop μ-loop
-add-k c = let start = c .before .before .before .before in omega (arith, start .pre .reach .list, start .good)
+add-k c = omega (arith, start (c .before) .pre .reach .list, start (c .before) .good)
 
 mul-pair : tie.Need-mul-pair Inv-loop μ-loop
-mul-pair c = let start = c .before .before .before .before in omega (arith, start .pre .reach .multiplier, start .good)
+mul-pair c = omega (arith, start (c .before) .pre .reach .multiplier, start (c .before) .good)
 
 shared-slice-read-pair : tie.Need-shared-slice-read-pair Inv-loop μ-loop
-shared-slice-read-pair c = let start = c .before .before .before .before .before in omega (arith, start .pre .reach .multiplier)
+shared-slice-read-pair c = omega (arith, start (c .before .before) .pre .reach .multiplier)
 
 mul-pair-2 : tie.Need-mul-pair-2 Inv-loop μ-loop
-mul-pair-2 c = let start = c .before .before .before .before .before in omega (arith, start .pre .reach .list, start .good)
+mul-pair-2 c = omega (arith, start (c .before .before) .pre .reach .list, start (c .before .before) .good)
 
 shared-slice-read-pair-2 : tie.Need-shared-slice-read-pair-2 Inv-loop μ-loop
-shared-slice-read-pair-2 c = let start = c .before .before .before .before .before .before in omega (arith, start .pre .reach .list)
+shared-slice-read-pair-2 c = omega (arith, start (c .before .before .before) .pre .reach .list)
 
 pair-requires : tie.Need-pair-requires Inv-loop μ-loop
-pair-requires c κs = single-small _ _ _ _ _ _ _ (c .before .before .before .before .before .before .pre) _
+pair-requires c κs = single-small _ _ _ _ _ _ _ (start (c .before .before .before) .pre) _
 
-wraps-after-requires : tie.Need-wraps-after-requires Inv-loop μ-loop
-wraps-after-requires c κs =
-    let loop = c .before .before .before .before .before in
-    let start = loop .before .before .before in
-    omega (arith, loop .loop .inv .few, loop .loop .inv .reached, start .pre .few, start .pre .reach .multiplier, start .good)
+plus-requires : tie.Need-plus-requires Inv-loop μ-loop
+plus-requires c κs =
+    let loop = c .before .before .before .before in
+    singles-plus _ _ _ _ _ _ _ (start loop .pre) (loop .loop .inv) (omega (arith, start loop .good)) (c .pair .ensures)
 
 add-j : tie.Need-add-j Inv-loop μ-loop
 add-j c = omega arith
@@ -50,17 +53,15 @@ loop-less c = omega arith
 
 loop-again : tie.Need-loop-again Inv-loop μ-loop
 loop-again c =
-    let loop = c .before .before .before .before .before .before in
-    singles-next _ _ _ _ _ _ _ (loop .before .before .before .pre) _ _ _ (loop .loop .inv)
-    (c .before .before .before .before .before .loop-test .taken) _ _ _ (c .before .before .pair .ensures)
-    (c .before .wrapping-add-u64 .ensures) (c .wraps-after .ensures)
+    let loop = c .before .before .before .before .before in
+    singles-next _ _ _ _ _ _ _ (start loop .pre) (loop .loop .inv) (c .before .before .before .before .loop-test .taken) (c .before .pair .ensures) (c .plus .ensures)
 
 returns : tie.Need-returns Inv-loop μ-loop
-returns c = singles-end _ _ _ _ _ _ _ (c .before .before .before .before .pre) _ _ _ (c .before .loop .inv) (c .loop-test .left)
+returns c = singles-end _ _ _ _ _ _ _ (start (c .before) .pre) (c .before .loop .inv) (c .loop-test .left)
 
 pub with-singles-spec : {M : Type 1} → statement M
 with-singles-spec =
     tie.close
     (tie.spec
-    Inv-loop μ-loop loop-holds add-k mul-pair shared-slice-read-pair mul-pair-2 shared-slice-read-pair-2 pair-requires (search needs)
-    wraps-after-requires add-j loop-less loop-again returns)
+    Inv-loop μ-loop loop-holds add-k mul-pair shared-slice-read-pair mul-pair-2 shared-slice-read-pair-2 pair-requires plus-requires
+    add-j loop-less loop-again returns)
