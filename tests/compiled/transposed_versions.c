@@ -102,6 +102,11 @@ static void add_low(struct total *total, const uint32_t *w, size_t i, size_t p, 
 }
 static void wraps_lost(PRODUCT) { write_terms(add_low, LENT); }
 
+static void add_after_odd(struct total *total, const uint32_t *w, size_t i, size_t p, size_t pn, size_t v, size_t vn) {
+    for (size_t j = end(i, pn, vn) % 2; j < end(i, pn, vn); j++) add(total, w[p + j], w[v + i + j]);
+}
+static void first_left_out(PRODUCT) { write_terms(add_after_odd, LENT); }
+
 static void ends_with_the_first(PRODUCT) {
     while (pn && !w[p + pn - 1]) pn--;
     right(LENT);
@@ -117,6 +122,7 @@ const struct version VERSIONS[] = {
     {"past", "the term past the wanted ones written too", WRONG, past},
     {"before", "a zero written before the wanted terms", WRONG, before},
     {"second_left_out", "the first product alone", WRONG, second_left_out},
+    {"first_left_out", "of an odd count the first products left out", WRONG, first_left_out},
     {"ends_with_the_first", "q cut where p ends in zeros", WRONG, ends_with_the_first},
     {"wraps_lost", "the sum's low 64 bits for the sum", WRONG, wraps_lost},
     {.name = NULL},

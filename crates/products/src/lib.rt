@@ -160,8 +160,8 @@ fn term(
 // place target on. Term i is the sum over j of p_j v_{i+j} and q_j u_{i+j} modulo m, where p and q are the multipliers and v and u the lists,
 // zero past their ends. All are parts of w, residues: p and q have pn numbers, v and u have vn, and they lie apart from the n wanted terms.
 // Nothing else is formed or written, and the zeros that end both multipliers or both lists are not multiplied. A caller with one product
-// hands in the halves of its multiplier, the list, and the list from the half's length on; where the list ends before n and both halves
-// need it to, zeros stand behind it (`transposed-halves` in convolution, Terms).
+// hands in the halves of its multiplier, of pn numbers each, with the list and the list from its place pn on. Both are vn long, so zeros have
+// to stand behind a list that ends sooner (`transposed-halves` in convolution, Terms).
 pub fn transposed(
     m: u32,
     w: &mut [u32],

@@ -24,7 +24,8 @@ add-next c = omega arith
 
 loop-holds : tie.Need-loop-holds Inv-loop μ-loop
 loop-holds c =
-    multiplying-starts (c .before .before .before .before .before .before .before .pre) (c .before .before .excess .ensures) (c .before .lesser .ensures) (c .excess2 .ensures)
+    multiplying-starts (c .before .before .before .before .before .before .before .pre) (c .before .before .excess .ensures)
+    (c .before .lesser .ensures) (c .excess2 .ensures)
 
 add-i : tie.Need-add-i Inv-loop μ-loop
 add-i c = omega (arith, c .before .loop .inv .counted, c .before .loop .inv .ends .second, start (c .before) .good)
@@ -81,8 +82,8 @@ loop-less c = omega arith
 loop-again : tie.Need-loop-again Inv-loop μ-loop
 loop-again c =
     let loop = c .before .before .before .before .before .before .before in
-    multiplying-next (start loop .pre) (loop .loop .inv) (c .before .before .before .before .before .before .loop-test .taken) (c .before .pair .ensures)
-    (c .plus .ensures)
+    multiplying-next (start loop .pre) (loop .loop .inv) (c .before .before .before .before .before .before .loop-test .taken)
+    (c .before .pair .ensures) (c .plus .ensures)
 
 remainder-of-sum-requires : tie.Need-remainder-of-sum-requires Inv-loop μ-loop
 remainder-of-sum-requires c κs = start (c .before) .pre .reducible

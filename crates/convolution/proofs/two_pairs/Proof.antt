@@ -3,7 +3,7 @@
 use mathlib.Core.Path.{refl}
 use native.Mathlib.Omega.{arith}
 use borrow.Author.Needs.{needs}
-use Rattle.convolution.specs.Terms.{pair-small, two-pairs-small, two-pairs-are}
+use Rattle.convolution.specs.Steps.{pair-small, two-pairs-small, two-pairs-are}
 use Rattle.convolution.proofs.two_pairs.Statement.{statement}
 use Rattle.convolution.proofs.two_pairs.Tie as tie
 

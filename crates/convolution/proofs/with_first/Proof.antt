@@ -2,7 +2,7 @@
 -- (`first-added`). Assumes nothing.
 use native.Mathlib.Omega.{arith}
 use borrow.Author.Needs.{needs}
-use Rattle.convolution.specs.Terms.{pair-small, first-left, first-plus, first-added}
+use Rattle.convolution.specs.Steps.{pair-small, first-left, first-plus, first-added}
 use Rattle.convolution.proofs.with_first.Statement.{statement}
 use Rattle.convolution.proofs.with_first.Tie as tie
 
@@ -13,7 +13,9 @@ returns : tie.Need-returns
 returns c = first-left (c .before .before .before .before .before .pre .0) (c .if1 .taken)
 
 pair-requires : tie.Need-pair-requires
-pair-requires c κs = let pre = c .before .before .before .before .before .before .before .before .before .pre .0 in pair-small (pre .first) (pre .second) _ _
+pair-requires c κs =
+    let pre = c .before .before .before .before .before .before .before .before .before .pre .0 in
+    pair-small (pre .first) (pre .second) _ _
 
 plus-requires : tie.Need-plus-requires
 plus-requires c κs = first-plus (start c .pre .0) (c .pair .ensures)

@@ -3,7 +3,7 @@
 use Prim.Native.Nat.{_-_}
 use native.Mathlib.Omega.{arith}
 use borrow.Author.Needs.{needs}
-use Rattle.convolution.specs.Terms.{Pairs, pairs-first, pairs-start, pairs-reach, pairs-plus, pairs-next, pairs-end}
+use Rattle.convolution.specs.Steps.{Pairs, pairs-first, pairs-start, pairs-reach, pairs-plus, pairs-next, pairs-end}
 use Rattle.convolution.proofs.with_pairs.Statement.{statement}
 use Rattle.convolution.proofs.with_pairs.Tie as tie
 

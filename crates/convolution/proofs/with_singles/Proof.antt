@@ -4,7 +4,7 @@ use Prim.Native.Nat.{_-_}
 use native.Mathlib.Omega.{arith}
 use borrow.Author.Needs.{needs}
 use Rattle.convolution.specs.Totals.{Totalling, amount}
-use Rattle.convolution.specs.Terms.{transposedTerm, singles-start, single-small, singles-plus, singles-next, singles-end}
+use Rattle.convolution.specs.Steps.{transposedTerm, singles-start, single-small, singles-plus, singles-next, singles-end}
 use Rattle.convolution.proofs.with_singles.Statement.{statement}
 use Rattle.convolution.proofs.with_singles.Tie as tie
 
@@ -54,7 +54,8 @@ loop-less c = omega arith
 loop-again : tie.Need-loop-again Inv-loop μ-loop
 loop-again c =
     let loop = c .before .before .before .before .before in
-    singles-next _ _ _ _ _ _ _ (start loop .pre) (loop .loop .inv) (c .before .before .before .before .loop-test .taken) (c .before .pair .ensures) (c .plus .ensures)
+    singles-next _ _ _ _ _ _ _ (start loop .pre) (loop .loop .inv) (c .before .before .before .before .loop-test .taken)
+    (c .before .pair .ensures) (c .plus .ensures)
 
 returns : tie.Need-returns Inv-loop μ-loop
 returns c = singles-end _ _ _ _ _ _ _ (start (c .before) .pre) (c .before .loop .inv) (c .loop-test .left)

@@ -74,5 +74,6 @@ pub add-products-spec : {M : Type 1} → statement M
 add-products-spec =
     tie.close
     (tie.spec
-    Inv-loop μ-loop reciprocal-requires used-length-requires used-length-requires-2 loop-holds entry-requires coefficient-or-start-requires add-place mul-w
+    Inv-loop μ-loop reciprocal-requires used-length-requires used-length-requires-2 loop-holds entry-requires
+    coefficient-or-start-requires add-place mul-w
     slice-write-w add-k loop-less loop-again same-length returns)

@@ -68,5 +68,6 @@ pub transposed-spec : {M : Type 1} → statement M
 transposed-spec =
     tie.close
     (tie.spec
-    Inv-loop μ-loop reciprocal-requires used-length-requires used-length-requires-2 loop-holds term-requires add-place mul-w slice-write-w add-i loop-less
+    Inv-loop μ-loop reciprocal-requires used-length-requires used-length-requires-2 loop-holds term-requires add-place mul-w
+    slice-write-w add-i loop-less
     loop-again same-length returns)
