@@ -32,6 +32,7 @@ struct Total {
     wraps: u64,
 }
 
+// The sum, and x besides.
 fn plus(total: Total, x: u64) -> Total
     requires { ⌜ PlusInput (total .low) (total .wraps) x ⌝ }
     ensures { λ r. ⌜ Added (total .low) (total .wraps) 1 x (r .low) (r .wraps) ⌝ }
