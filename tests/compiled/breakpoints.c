@@ -28,7 +28,7 @@ void watch(uintptr_t address, unsigned kind) {
     uintptr_t page = (uintptr_t)sysconf(_SC_PAGESIZE);
     uint8_t *at = (uint8_t *)address, *first = at - address % page;
     if (known == MOST_PLACES || kind >= MOST_KINDS) no_count("there are more places or kinds than it has room for");
-    if (mprotect(first, (size_t)page, PROT_READ | PROT_WRITE | PROT_EXEC)) no_count("an address is none of this program's");
+    if (mprotect(first, (size_t)page, PROT_READ | PROT_WRITE | PROT_EXEC)) no_count("an address cannot be written to");
     places[known++] = (struct place){at, *at, kind};
 }
 
@@ -43,7 +43,8 @@ static void on_trap(int number, siginfo_t *info, void *context) {
     }
     registers[REG_EFL] |= TRAP_FLAG;
     registers[REG_RIP]--;
-    for (stepped = places; stepped->at != (uint8_t *)registers[REG_RIP];) stepped++;
+    for (stepped = places; stepped < places + known && stepped->at != (uint8_t *)registers[REG_RIP];) stepped++;
+    if (stepped == places + known) _exit(1); /* a breakpoint of the program's own */
     *stepped->at = stepped->first_byte;
     passed[stepped->kind]++;
 }

@@ -5,7 +5,7 @@
 
 #include <stdint.h>
 
-/* One place more to be counted, the first byte of an instruction. Ends the program with 1 if it is none of this program's. */
+/* One place more to be counted, the first byte of an instruction, each of another. Ends the program with 1 if it cannot be written to. */
 void watch(uintptr_t address, unsigned kind);
 
 /* How often the places of each kind were run through since the count began. */

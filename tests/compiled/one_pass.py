@@ -4,19 +4,19 @@ usage: tests/compiled/one_pass.py ARCHIVE
        tests/compiled/one_pass.py --places PROGRAM FUNCTION..
 
 Prints a line for each thing that is read from its instructions:
-- it calls nothing and goes on in no other function, so that no array is had from elsewhere, and names nothing outside but constants,
-  in sections that cannot be written;
+- it calls nothing and goes on in no other function, and names nothing outside itself, so that no array is had from elsewhere;
 - it takes little stack, takes no address of it and reads it at no place that is found while it runs: single numbers, and no array;
-- one instruction writes elsewhere than to the stack, and stands in one loop, which is over the wanted terms: each is written once,
-  and no product is kept. Where the compiler has made two loops or two ways of one, there may be more, but none runs after another: not in
-  one round of a loop, and not in a loop after another;
-- every loop that multiplies stands in such a loop and in no other, and goes on or ends by one jump: its end is found before it;
+- one instruction writes elsewhere than to the stack, a number of 32 bits, and stands in one loop, so that no product is kept. Where the
+  compiler has made two loops or two ways of one, there may be more, but none runs after another: not in one round of a loop, and not
+  in a loop after another;
+- every innermost loop that multiplies stands in such a loop and in no other, and goes on or ends by one jump: nothing else is tested in it;
 - it divides in no loop: remainders are taken by the reciprocal.
 
 Fails if one of these is not so, and if there is no such function.
 
 With --places it prints where each FUNCTION of a program writes elsewhere than to the stack, and where it multiplies, for
-tests/compiled/steps.c: what the instructions do not show, such as coefficients that are formed and thrown away, is counted there.
+tests/compiled/steps.c: what the instructions do not show, such as coefficients that are formed and thrown away, or terms that are written in
+two rounds of one loop, is counted there.
 """
 
 import re
@@ -36,31 +36,27 @@ MULTIPLY = re.compile(r"(i?mul|mulx|pmul\w*)[bwlq]?\s")
 HIDDEN_WRITE = re.compile(r"(v?maskmov\w*|movdir\w*|enqcmd\w*|stos[bwlq]?|movs[bwlq]|xsave\w*|fxsave\w*)$")
 # Names that end in a memory operand and do not write it. Of mul and div those with one operand, which is read.
 READS = re.compile(r"((cmp|test|bt|push|call|jmp|nop|mul|imul|div|idiv)[bwlq]?|prefetch\w*|u?comis[sd]|ptest)")
-RELOCATION = re.compile(r"\s*([0-9a-f]+): R_X86_64_\w+\s+(\S+)")
-CONSTANTS = (".LC", ".rodata")
-READ_ONLY = "READONLY"
+RELOCATION = re.compile(r"\s*[0-9a-f]+: R_X86_64_\w+\s+(.+)")
+# What multiplies in another way, which is neither read nor counted.
+OTHER_MULTIPLY = re.compile(r"\w*(mul|madd)")
+# Registers of 32 bits: what a store of one number has for its source.
+NUMBER = re.compile(r"%(e[a-z]{2}|r\d+d)")
+# What stands above the place to return to: the arguments that no register has.
+ARGUMENTS = 8 + 8 * 4
 
 
 class Fault(Exception):
     """What the function does that it may not."""
 
 
-def writable(archive):
-    """The sections of the archive that can be written."""
-    rows = re.findall(r"^ *\d+ (\S+) .*\n +(.*)$", disassembled(archive, "--section-headers"), re.MULTILINE)
-    return {name for name, flags in rows if READ_ONLY not in flags}
-
-
 def outside(archive):
-    """What the function names outside itself, constants left out: what the linker has to fill in."""
-    names, within, may_change = [], False, writable(archive)
+    """What the function names outside itself: what the linker has to fill in."""
+    names, within = [], False
     for line in disassembled(archive, "--reloc").splitlines():
         if match := re.fullmatch(r"[0-9a-f]+ <(.*)>:", line):
             within = match[1] == NAME
         elif within and (match := RELOCATION.fullmatch(line)):
-            name = re.sub(r"[+-]0x[0-9a-f]+$", "", match[2])
-            if not name.startswith(CONSTANTS) or name in may_change:
-                names.append(name)
+            names.append(re.sub(r"[+-]0x[0-9a-f]+$", "", match[1]))
     return names
 
 
@@ -121,7 +117,10 @@ def stack(body, successors):
             if match := re.fullmatch(r"(-?)(?:(0x[0-9a-f]+))?\(%rsp(,.*)?\)", operand):
                 if match[3]:
                     raise Fault(f"reads or writes its stack at {address:x} at a place that is found while it runs: an array")
-                most = max(most, down[address] - int(match[1] + (match[2] or "0"), 16))
+                place = int(match[1] + (match[2] or "0"), 16) - down[address]
+                if place >= ARGUMENTS:
+                    raise Fault(f"reads or writes the stack of its caller at {address:x}")
+                most = max(most, -place)
             elif "%rsp" in operand and operand != "%rsp":
                 raise Fault(f"reads or writes its stack at {address:x} in a way that is not read")
         for target in successors[address]:
@@ -146,9 +145,11 @@ def alone(archive, body):
             raise Fault(f"calls the system at {address:x}")
         if HIDDEN_WRITE.match(parts(words)[0]):
             raise Fault(f"writes at {address:x} in a way that is not read")
+        if OTHER_MULTIPLY.match(words) and not MULTIPLY.match(words):
+            raise Fault(f"multiplies at {address:x} in a way that is not read")
     if not any(END.match(words) for words in body.values()):
         raise Fault("does not return")
-    return "calls nothing, goes on in no other function and names nothing outside but constants"
+    return "calls nothing, goes on in no other function and names nothing outside itself"
 
 
 def little_stack(body, successors):
@@ -170,6 +171,9 @@ def written_once(body, successors, ways):
         if len(standing) != 1:
             raise Fault(f"writes at {store:x} in {len(standing)} loops, and not in one alone")
         around[store] = standing[0]
+        name, operands = parts(body[store])
+        if name != "movl" and not NUMBER.fullmatch(operands[0]):
+            raise Fault(f"writes at {store:x} something else than a number of 32 bits")
     for store in stores:
         loop = around[store]
         if len(entries(loop, set(body), successors)) != 1:
@@ -177,9 +181,9 @@ def written_once(body, successors, ways):
         later = reached(store, one_round(loop, set(body), successors))
         later |= {a for a in reached(store, successors) if a not in loop}
         if again := [a for a in stores if a != store and a in later]:
-            raise Fault(f"writes at {store:x} and after that at {again[0]:x}: not each wanted term once")
+            raise Fault(f"writes at {store:x}, and after that it may at {again[0]:x}")
     instructions = "one instruction" if len(stores) == 1 else f"one of {len(stores)} instructions"
-    return list(around.values()), f"writes by {instructions}, in one loop: each wanted term once"
+    return list(around.values()), f"writes by {instructions}, in one loop"
 
 
 def product_loops(body, ways, wanted):
@@ -215,8 +219,8 @@ def print_places(program, names):
         body = found[name]
         for address in sorted(reached(min(body), graph(name, body))):
             words = PREFIX.sub("", body[address])
-            if words.startswith(("pmul", "vpmul")):
-                sys.exit(f"one_pass: {name} multiplies several at once at {address:x}, which is not counted")
+            if OTHER_MULTIPLY.match(words) and not words.startswith(("mul", "imul")):
+                sys.exit(f"one_pass: {name} multiplies at {address:x} in a way that is not counted")
             if MULTIPLY.match(words) and "$" not in words:
                 print(f"{name} multiply {address:x}")
             if (place := written(words)) and "(%rsp" not in place:
@@ -229,7 +233,7 @@ def main():
         return print_places(sys.argv[2], sys.argv[3:])
     if len(sys.argv) != 2:
         sys.exit(__doc__)
-    body = functions(sys.argv[1]).get(NAME)
+    body = {address: PREFIX.sub("", words) for address, words in functions(sys.argv[1]).get(NAME, {}).items()}
     if not body:
         sys.exit(f"one_pass: {sys.argv[1]} has no function {NAME}: the compiler has put it in line, or it has another name")
     try:
@@ -237,6 +241,8 @@ def main():
         successors = graph(NAME, body)
         found = reached(min(body), successors)
         body = {address: body[address] for address in sorted(found)}
+        if open_end := [address for address in found if not successors[address] and not END.match(body[address])]:
+            raise Fault(f"goes on at {open_end[0]:x} past its end")
         ways = list(loops(found, successors))
         print(f"{NAME} {little_stack(body, successors)}")
         wanted, line = written_once(body, successors, ways)

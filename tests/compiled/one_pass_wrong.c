@@ -154,6 +154,15 @@ VERSION(hidden_write) {
     }
 }
 
+/* It writes two places at a time, the second with the number that stands there. */
+VERSION(wide_store) {
+    EACH_TERM {
+        FIRST_PRODUCT;
+        uint64_t both = rest(low, wraps, m, reciprocal) | (uint64_t)w[target + i + 1] << 32;
+        memcpy(w + target + i, &both, sizeof both);
+    }
+}
+
 /* It writes each term twice, the first product and then the sum. */
 VERSION(two_stores) {
     RECIPROCAL;
