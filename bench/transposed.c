@@ -1,9 +1,10 @@
 /* The library's transposed multiplication, and what one has without it: C that forms the whole product and cuts it.
  *
- * The C adds up as the library does: two products a step in one sum, which is its low 64 bits and a count of its wraps, and one remainder
- * by the reciprocal for each coefficient. It is handed the reciprocal, and the library finds it. It is the quickest of that kind that we
- * know: it reads multiplier and list forwards, and so takes the multiplier as it is. With the multiplier turned round, one of the two is read
- * backwards, and that takes up to half as long again.
+ * The C adds up as the library does: products in one sum, which is its low 64 bits and a count of its wraps, and one remainder by the
+ * reciprocal for each coefficient. It is handed the reciprocal, and the library finds it. It is the quickest of that kind that we know: two
+ * products a step and eight steps a turn, since with four a step, as the library has them, it takes up to a sixth longer. It reads
+ * multiplier and list forwards, and so takes the multiplier as it is: with the multiplier turned round, one of the two is read backwards, and
+ * that takes up to half as long again.
  */
 #include <inttypes.h>
 #include <stdio.h>
