@@ -212,8 +212,8 @@ static bool takes_legendre(uint32_t m, size_t r) {
 
 static void make_legendre(struct job *x) {
     for (uint32_t i = 1; i <= x->r; i++) {
-        uint32_t over_i;
-        if (zahupnik_invert(x->m, i, &over_i) != ZAHUPNIK_FINISHED) fail("invert", "refuses a row of Legendre's", x);
+        uint32_t over_i, factor;
+        if (zahupnik_invert(x->m, i, &over_i, &factor) != ZAHUPNIK_FINISHED) fail("invert", "refuses a row of Legendre's", x);
         x->a[i - 1] = (uint32_t)((2 * i - 1) * (uint64_t)over_i % x->m);
         x->b[i - 1] = 0;
         x->c[i - 1] = (uint32_t)((x->m + 1 - i) * (uint64_t)over_i % x->m);

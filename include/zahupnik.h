@@ -6,10 +6,11 @@
  * c_1 multiplies F_{-1} = 0 only: it may be any number below m, 0 too, as in Legendre's recurrence, and no converted list depends on it.
  *
  * What a function returns: ZAHUPNIK_FINISHED, and then the result that its comment states is written; or the number of a
- * refusal, and then nothing is written, so that the output is what it was: look at the number before you use the output. The changes of a
- * prepared family return such a number and a record. A function tests all that it is lent, so no number and no length is asked of the
+ * refusal, and then nothing is written, so that the output is what it was: look at the number before you use the output. One function
+ * writes with a refusal: zahupnik_invert the factor, with 13. The changes of a prepared family return such a number and a record. A function tests all that it is lent, so no number and no length is asked of the
  * caller. Its comment lists the refusals that it tests, in this order, each over all rows or entries before the next; the first that is
- * the case is returned.
+ * the case is returned. So where some a have no inverse modulo m, the lowest row of these decides: 17 if its a is zero, a fault of the
+ * family; 10 if it is not and shares a factor with m, which another m may mend. Likewise 18 and 11 for the c from row 2 on.
  *
  * Which way to take: the plain way is the quicker one at every size that bench/run measures, and the tree way gives the same list. A
  * prepared family saves Norms much of its time, Decompose and Moments of many rows a little, and costs Expand, Adjoint and families of few
@@ -20,8 +21,8 @@
  * ZAHUPNIK_LEAST_WORK numbers of it are zero, and what lies beyond is untouched.
  *
  * What the caller owes: behind a pointer there are as many initialised numbers as the length beside it says, the one number
- * behind `inverse` and `length`, and every number of a record that is handed in; a list of length 0 may have any pointer, NULL too.
- * What a call writes (the inverse, the length, the output, the working list) overlaps nothing else that it is lent, and nobody else
+ * behind `inverse`, `factor` and `length`, and every number of a record that is handed in; a list of length 0 may have any pointer, NULL too.
+ * What a call writes (the inverse, the factor, the length, the output, the working list) overlaps nothing else that it is lent, and nobody else
  * touches what is lent while the call runs.
  *
  * Nothing is allocated and nothing is kept, so calls from several threads do not disturb one another.
@@ -93,55 +94,58 @@ extern "C" {
                                    * answer text, than ZAHUPNIK_LEAST_JOB_OUTPUT for a job text */
 #define ZAHUPNIK_WORK_TOO_SHORT 8 /* the working list is shorter than ZAHUPNIK_LEAST_WORK */
 #define ZAHUPNIK_ENTRY 9          /* an entry of a, b or c is not below m */
-#define ZAHUPNIK_A_INVERSE 10     /* some a has no inverse modulo m */
-#define ZAHUPNIK_C_INVERSE 11     /* some c from row 2 on has no inverse modulo m */
+#define ZAHUPNIK_A_INVERSE 10     /* some a has no inverse modulo m: that of the lowest such row shares a factor with m, and is not zero */
+#define ZAHUPNIK_C_INVERSE 11     /* some c from row 2 on has no inverse modulo m: that of the lowest such row shares a factor with m */
 #define ZAHUPNIK_CURVE_ENTRY 12   /* a curve entry, a coefficient or the number to invert is not below m */
 #define ZAHUPNIK_NO_INVERSE 13    /* the number to invert has no inverse modulo m */
 #define ZAHUPNIK_RECORD 14        /* the prepared family is not the record of its own rows, or these are not accepted */
 #define ZAHUPNIK_NO_ROWS 15       /* there is no row to drop */
 #define ZAHUPNIK_ABSENT_ROW 16    /* there is no such row to replace */
+#define ZAHUPNIK_A_ZERO 17        /* some a has no inverse modulo m: that of the lowest such row is zero */
+#define ZAHUPNIK_C_ZERO 18        /* some c from row 2 on has no inverse modulo m: that of the lowest such row is zero */
 
-/* Inverse: *inverse becomes the one number below m that times x leaves 1 modulo m.
- * Refuses with 3 12 13. */
-uint32_t zahupnik_invert(uint32_t m, uint32_t x, uint32_t *inverse);
+/* Inverse: *inverse becomes the one number below m that times x leaves 1 modulo m, and *factor the greatest common factor of x and m, which
+ * is then 1. Refuses with 3 12 13. With 13 *inverse is what it was, and *factor becomes the greatest common factor: above 1 and below m where
+ * x is not zero, m where it is. With 3 and 12 both are what they were. */
+uint32_t zahupnik_invert(uint32_t m, uint32_t x, uint32_t *inverse, uint32_t *factor);
 
 /* Expand: output[k] becomes the coefficient of x^k in the sum over i of curve[i] F_i, for k and i from 0 to n - 1.
- * Row by row. Lengths: a, b, c r; curve n; output n. Refuses with 3 4 5 6 7 9 10 11 12. */
+ * Row by row. Lengths: a, b, c r; curve n; output n. Refuses with 3 4 5 6 7 9 17 10 18 11 12. */
 uint32_t zahupnik_plain_expand(uint32_t m, const uint32_t *a, size_t a_length, const uint32_t *b, size_t b_length,
                                const uint32_t *c, size_t c_length, const uint32_t *curve, size_t curve_length,
                                uint32_t *output, size_t output_length);
 
 /* Adjoint (transposed expand): output[j] becomes the sum over i of curve[i] times the coefficient of x^i in F_j, for i and j
- * from 0 to n - 1. Row by row. Lengths: a, b, c r; curve n; output n. Refuses with 3 4 5 6 7 9 10 11 12. */
+ * from 0 to n - 1. Row by row. Lengths: a, b, c r; curve n; output n. Refuses with 3 4 5 6 7 9 17 10 18 11 12. */
 uint32_t zahupnik_plain_adjoint(uint32_t m, const uint32_t *a, size_t a_length, const uint32_t *b, size_t b_length,
                                 const uint32_t *c, size_t c_length, const uint32_t *curve, size_t curve_length,
                                 uint32_t *output, size_t output_length);
 
 /* Decompose: output becomes the one curve that Expand turns into the coefficients. From the top power.
- * Lengths: a, b, c r; coefficients n; output n. Refuses with 3 4 5 6 7 9 10 11 12. */
+ * Lengths: a, b, c r; coefficients n; output n. Refuses with 3 4 5 6 7 9 17 10 18 11 12. */
 uint32_t zahupnik_plain_decompose(uint32_t m, const uint32_t *a, size_t a_length, const uint32_t *b, size_t b_length,
                                   const uint32_t *c, size_t c_length, const uint32_t *coefficients,
                                   size_t coefficients_length, uint32_t *output, size_t output_length);
 
 /* Norms: output[i] becomes (-1)^i c_2 .. c_{i+1} / a_{i+1}, for i from 0 to n - 1, where row n, the closing row, is 1 1 1.
- * Lengths: a, b, c r; output n. Refuses with 3 4 5 7 9 10 11. */
+ * Lengths: a, b, c r; output n. Refuses with 3 4 5 7 9 17 10 18 11. */
 uint32_t zahupnik_norms(uint32_t m, const uint32_t *a, size_t a_length, const uint32_t *b, size_t b_length,
                         const uint32_t *c, size_t c_length, uint32_t *output, size_t output_length);
 
 /* Expand by the subproduct tree: output becomes what zahupnik_plain_expand makes it.
- * Lengths: a, b, c r; curve n; output n; work ZAHUPNIK_LEAST_WORK or more. Refuses with 3 4 5 6 7 8 9 10 11 12. */
+ * Lengths: a, b, c r; curve n; output n; work ZAHUPNIK_LEAST_WORK or more. Refuses with 3 4 5 6 7 8 9 17 10 18 11 12. */
 uint32_t zahupnik_tree_expand(uint32_t m, const uint32_t *a, size_t a_length, const uint32_t *b, size_t b_length,
                               const uint32_t *c, size_t c_length, const uint32_t *curve, size_t curve_length,
                               uint32_t *output, size_t output_length, uint32_t *work, size_t work_length);
 
 /* Adjoint by the subproduct tree: output becomes what zahupnik_plain_adjoint makes it.
- * Lengths: a, b, c r; curve n; output n; work ZAHUPNIK_LEAST_WORK or more. Refuses with 3 4 5 6 7 8 9 10 11 12. */
+ * Lengths: a, b, c r; curve n; output n; work ZAHUPNIK_LEAST_WORK or more. Refuses with 3 4 5 6 7 8 9 17 10 18 11 12. */
 uint32_t zahupnik_tree_adjoint(uint32_t m, const uint32_t *a, size_t a_length, const uint32_t *b, size_t b_length,
                                const uint32_t *c, size_t c_length, const uint32_t *curve, size_t curve_length,
                                uint32_t *output, size_t output_length, uint32_t *work, size_t work_length);
 
 /* Decompose by the subproduct tree: output becomes what zahupnik_plain_decompose makes it.
- * Lengths: a, b, c r; coefficients n; output n; work ZAHUPNIK_LEAST_WORK or more. Refuses with 3 4 5 6 7 8 9 10 11 12. */
+ * Lengths: a, b, c r; coefficients n; output n; work ZAHUPNIK_LEAST_WORK or more. Refuses with 3 4 5 6 7 8 9 17 10 18 11 12. */
 uint32_t zahupnik_tree_decompose(uint32_t m, const uint32_t *a, size_t a_length, const uint32_t *b, size_t b_length,
                                  const uint32_t *c, size_t c_length, const uint32_t *coefficients,
                                  size_t coefficients_length, uint32_t *output, size_t output_length, uint32_t *work,
@@ -152,7 +156,7 @@ uint32_t zahupnik_tree_decompose(uint32_t m, const uint32_t *a, size_t a_length,
  * G_i = (a_{i+1} x + b_{i+1}) G_{i-1} + c_{i+1} G_{i-2}.
  * The product law: if Expand turns the curves u and v into s and t, then modulo m the sum over k of output[k] times the
  * coefficient of x^k in the product of s and t is the sum over i of u[i] v[i] d[i], where d is what zahupnik_norms gives.
- * Lengths: a, b, c r; output 2n - 1; work ZAHUPNIK_LEAST_WORK or more. Refuses with 3 4 5 7 8 9 10 11. */
+ * Lengths: a, b, c r; output 2n - 1; work ZAHUPNIK_LEAST_WORK or more. Refuses with 3 4 5 7 8 9 17 10 18 11. */
 uint32_t zahupnik_moments(uint32_t m, const uint32_t *a, size_t a_length, const uint32_t *b, size_t b_length,
                           const uint32_t *c, size_t c_length, uint32_t *output, size_t output_length, uint32_t *work,
                           size_t work_length);
@@ -164,7 +168,7 @@ uint32_t zahupnik_moments(uint32_t m, const uint32_t *a, size_t a_length, const 
  * decimal, without a leading zero (0 itself excepted), at most 4294967295. Nothing else may follow.
  * An answer text is two lines: op= and the operation; out= and the result. It has no zero byte at its end.
  * Lengths: text ZAHUPNIK_MOST_TEXT or less; output ZAHUPNIK_LEAST_TEXT_OUTPUT or more; work ZAHUPNIK_LEAST_WORK or more.
- * Refuses with 1 2 3 4 5 6 7 8 9 10 11 12. */
+ * Refuses with 1 2 3 4 5 6 7 8 9 17 10 18 11 12. */
 uint32_t zahupnik_convert_text(const uint8_t *text, size_t text_length, uint8_t *output, size_t output_length, uint32_t *work,
                                size_t work_length, uint32_t *length);
 
@@ -174,7 +178,7 @@ uint32_t zahupnik_convert_text(const uint8_t *text, size_t text_length, uint8_t 
  * is carried out: on these *length bytes zahupnik_convert_text, lent what it asks for, finishes, and its answer is that operation's
  * result on these very lists.
  * Lengths: a, b, c r; curve n, and 0 for ZAHUPNIK_MOMENTS and ZAHUPNIK_NORMS; output ZAHUPNIK_LEAST_JOB_OUTPUT or more.
- * Refuses with 2 3 4 5 6 7 9 10 11 12. It is 2 if the operation is none of the five. */
+ * Refuses with 2 3 4 5 6 7 9 17 10 18 11 12. It is 2 if the operation is none of the five. */
 uint32_t zahupnik_write_job(uint32_t m, const uint32_t *a, size_t a_length, const uint32_t *b, size_t b_length,
                             const uint32_t *c, size_t c_length, uint32_t operation, const uint32_t *curve, size_t curve_length,
                             uint8_t *output, size_t output_length, uint32_t *length);
@@ -210,15 +214,15 @@ struct zahupnik_change {
 /* The record of the family without rows. Refuses with 3, and then the record is all zeros. */
 struct zahupnik_change zahupnik_prepared_empty(uint32_t m);
 
-/* The record with the row a, b, c behind its last. Refuses with 14 5 9 10 11; 5 to 11 are those of the new row, and 11 passes over it
- * where it is row 1. */
+/* The record with the row a, b, c behind its last. Refuses with 14 5 9 17 10 18 11; 5 and those after it are of the new row, and 18 and
+ * 11 pass over it where it is row 1. */
 struct zahupnik_change zahupnik_prepared_append(struct zahupnik_prepared family, uint32_t a, uint32_t b, uint32_t c);
 
 /* The record without its last row. After an append it is the record before it. Refuses with 14 15. */
 struct zahupnik_change zahupnik_prepared_drop_last(struct zahupnik_prepared family);
 
 /* The record with a, b, c in the place of a row, counted from 1. With the old row put back it is the old record. Refuses with
- * 14 16 9 10 11; 9 to 11 are those of the new row, and 11 passes over it where it is row 1. */
+ * 14 16 9 17 10 18 11; 9 and those after it are of the new row, and 18 and 11 pass over it where it is row 1. */
 struct zahupnik_change zahupnik_prepared_replace(struct zahupnik_prepared family, uint32_t row, uint32_t a, uint32_t b, uint32_t c);
 
 /* The conversions, Norms and Moments on a record: output and work become what the function of the same name without prepared_ makes them

@@ -13,7 +13,7 @@ ghost use Rattle.definitions.specs.Refusals.{outputTest, workTest, entriesTest,
 ghost use Rattle.definitions.specs.TextCall.{textLengthTest, textOutputTest};
 ghost use Rattle.lists.specs.Lent.{lent, Long};
 ghost use Rattle.checks.specs.Passes.{BelowAnswer, FactorAnswer};
-ghost use Rattle.checks.specs.RowTests.{LackAnswer};
+ghost use Rattle.checks.specs.Columns.{columnTests};
 use definitions::Answer;
 use definitions::FIRST_C;
 use residue::Inversion;
@@ -232,27 +232,42 @@ fn row_entries(
     Answer::Finished
 }
 
-// Whether a number of a column of rows has no inverse, of those from place first on up to row n: the entries of the list before place r,
-// then the closing number.
-fn lacks_inverse(m: u32, list: &[u32], first: usize, r: usize, close: u32) -> bool
+// The inverses of a column of rows, of its numbers from place first on up to row n: the entries of the list before place r, then the
+// closing number. The lowest without one decides: it is refused with the one number where it is zero, with the other where it is not.
+fn column(
+    m: u32,
+    list: &[u32],
+    first: usize,
+    r: usize,
+    close: u32,
+    zero: u32,
+    shared: u32,
+) -> Answer
     requires { ⌜ (0 < m) × (r ≤ length (now list)) ⌝ }
-    ensures { λ answer. ⌜ LackAnswer m first r (now (list .entry)) close answer ⌝ }
+    ensures { λ answer. ⌜ answered answer ≡ verdict (columnTests m first r (now (list .entry)) close zero shared) [] ⌝ }
 {
     let start = r - lists::excess(r, first);
-    let Factors::Invertible = invertible(m, &list[start..r]) else {
-        return true;
-    };
-    if r < first {
-        return false;
+    let factors = invertible(m, &list[start..r]);
+    if let Factors::Without(_, reason) = factors {
+        let Reason::Shared(_) = reason else {
+            return Answer::Refused(zero);
+        };
+        return Answer::Refused(shared);
     }
-    let Inversion::Found(_) = invert(m, close) else {
-        return true;
+    if r < first {
+        return Answer::Finished;
+    }
+    let Inversion::Absent(_) = invert(m, close) else {
+        return Answer::Finished;
     };
-    false
+    if close == 0 {
+        return Answer::Refused(zero);
+    }
+    Answer::Refused(shared)
 }
 
-// 10 and 11: the inverses of the a of all rows, then those of the c from place first on, whatever the b. One inverse settles both, that of
-// a product of all; only if it has none is it looked for whom to blame, among the a first.
+// 17 and 10, then 18 and 11: the inverses of the a of all rows, then those of the c from place first on, whatever the b. One inverse settles
+// all four, that of a product of all; only if it has none is it looked for whom to blame, among the a first.
 fn row_inverses(
     m: u32,
     a: &[u32],
@@ -273,16 +288,14 @@ fn row_inverses(
     let Inversion::Absent(_) = whole else {
         return Answer::Finished;
     };
-    if lacks_inverse(m, a, 0, r, close_a) {
-        return Answer::Refused(10);
-    }
-    if lacks_inverse(m, c, first, r, close_c) {
-        return Answer::Refused(11);
-    }
-    Answer::Finished
+    let blamed = column(m, a, 0, r, close_a, 17, 10);
+    let Answer::Finished = blamed else {
+        return blamed;
+    };
+    column(m, c, first, r, close_c, 18, 11)
 }
 
-// 9, 10 and 11 of the family of the first r rows and the closing row.
+// 9, 17, 10, 18 and 11 of the family of the first r rows and the closing row.
 pub fn family_rows(
     m: u32,
     a: &[u32],
@@ -304,7 +317,7 @@ pub fn family_rows(
     row_inverses(m, a, c, r, FIRST_C, close_a, close_c)
 }
 
-// 9, 10 and 11 of a new row, which is to stand at a place.
+// 9, 17, 10, 18 and 11 of a new row, which is to stand at a place.
 pub fn new_row(m: u32, place: usize, a: u32, b: u32, c: u32) -> Answer
     requires { ⌜ 0 < m ⌝ }
     ensures { λ r. ⌜ answered r ≡ verdict (rowTests m place (rowOf a b c)) [] ⌝ }
@@ -318,11 +331,17 @@ pub fn new_row(m: u32, place: usize, a: u32, b: u32, c: u32) -> Answer
     if m <= c {
         return Answer::Refused(9);
     }
+    if a == 0 {
+        return Answer::Refused(17);
+    }
     let Inversion::Found(_) = invert(m, a) else {
         return Answer::Refused(10);
     };
     if place < FIRST_C {
         return Answer::Finished;
+    }
+    if c == 0 {
+        return Answer::Refused(18);
     }
     let Inversion::Found(_) = invert(m, c) else {
         return Answer::Refused(11);

@@ -4,19 +4,23 @@
 --   figures   each call beside what it must hand out
 --   examples  the same of our own, for what the paper's figures leave untouched
 --   firstCs   families whose c_1 has no inverse, by every operation
--- figures-hold, examples-hold and first-cs-hold: every row of the tables is right, by computation from the definitions. Assumes nothing.
+--   reasons   families of which the lowest row without an inverse has a zero, or shares a factor with m
+-- figures-hold, examples-hold, first-cs-hold and reasons-hold: every row of the tables is right, by computation from the definitions.
+-- factors-told: the factor that Inverse tells beside P8 and P9 and of zero, and where it tells none. Assumes nothing.
 use mathlib.Core.Path.{_≡_, refl}
 use mathlib.Core.List.{List, [], _∷_, map}
 use Prim.Native.Nat.{ℕ}
-use Rattle.definitions.specs.Number.{sum, table, negative, inverseBelow, inverse}
+use Rattle.definitions.specs.Number.{sum, table, negative, inverseBelow, inverse, divides, factorUpTo, greatestFactor}
 use Rattle.definitions.specs.Family.{Family, family, size, rowAt, timesX, term, F, G}
 use Rattle.definitions.specs.Conversion.{expand, adjoint, top, lessTop, decomposeBelow, decompose}
 use Rattle.definitions.specs.Orthogonality.{reversal, nextQuotient, quotient, momentCount, moments, signedProduct}
 use Rattle.definitions.specs.Orthogonality.{norm, norms, product, momentTotal, normTotal}
-use Rattle.definitions.specs.Refusals.{Verdict, finished, refused, verdict, some, someFrom, someRow, differ, notBelow, noInverse}
+use Rattle.definitions.specs.Refusals.{Verdict, finished, refused, verdict, some, someFrom, lowestFrom, someRow, lowestRow}
+use Rattle.definitions.specs.Refusals.{differ, notBelow, noInverse}
 use Rattle.definitions.specs.Refusals.{workLength, modulusTest, equalLengthsTest, rowCountTest, curveLengthTest, outputTest, workTest}
-use Rattle.definitions.specs.Refusals.{entriesTest, aInverseTest, cInverseTest, curveEntriesTest, shapeTests, rowInverses}
+use Rattle.definitions.specs.Refusals.{entriesTest, aZeroTest, aInverseTest, cZeroTest, cInverseTest, curveEntriesTest, shapeTests, rowInverses}
 use Rattle.definitions.specs.Refusals.{familyRows, valueTests, numberTest, numberInverseTest, plainTests, momentsTests, normsTests, inverseTests}
+use Rattle.definitions.specs.Answers.{afterFactor}
 
 pub data Call : Type 0 where
   Expand : Family → List ℕ → Call
@@ -31,8 +35,8 @@ pub data Call : Type 0 where
 unfoldable pub handed : Call → Verdict
 unfolding sum table negative inverseBelow inverse rowAt timesX term F G expand adjoint top lessTop decomposeBelow decompose
     reversal nextQuotient quotient moments signedProduct norm norms product momentTotal normTotal verdict some differ notBelow
-    noInverse someFrom someRow modulusTest equalLengthsTest rowCountTest curveLengthTest outputTest workTest entriesTest aInverseTest
-    cInverseTest curveEntriesTest shapeTests rowInverses familyRows valueTests numberTest numberInverseTest plainTests momentsTests
+    noInverse someFrom someRow lowestFrom lowestRow modulusTest equalLengthsTest rowCountTest curveLengthTest outputTest workTest entriesTest
+    aZeroTest aInverseTest cZeroTest cInverseTest curveEntriesTest shapeTests rowInverses familyRows valueTests numberTest numberInverseTest plainTests momentsTests
     normsTests inverseTests
 handed (Expand f u) = verdict (plainTests f u (size f)) (expand f u)
 handed (Adjoint f u) = verdict (plainTests f u (size f)) (adjoint f u)
@@ -94,10 +98,10 @@ examples =
     ∷ Inverse 7 7 gives refused 12
     ∷ Inverse 1 0 gives refused 3
     ∷ Inverse 1 1 gives refused 3
-    ∷ Norms (family 7 (1 ∷ 0 ∷ []) (0 ∷ 0 ∷ []) (1 ∷ 1 ∷ [])) gives refused 10
+    ∷ Norms (family 7 (1 ∷ 0 ∷ []) (0 ∷ 0 ∷ []) (1 ∷ 1 ∷ [])) gives refused 17
     ∷ Norms (family 7 (1 ∷ 7 ∷ []) (0 ∷ 0 ∷ []) (1 ∷ 1 ∷ [])) gives refused 9
     ∷ Norms (family 15 (1 ∷ 1 ∷ []) (0 ∷ 0 ∷ []) (1 ∷ 6 ∷ [])) gives refused 11
-    ∷ Expand (family 15 (1 ∷ 1 ∷ []) (0 ∷ 0 ∷ []) (1 ∷ 0 ∷ [])) (15 ∷ 15 ∷ 15 ∷ []) gives refused 11
+    ∷ Expand (family 15 (1 ∷ 1 ∷ []) (0 ∷ 0 ∷ []) (1 ∷ 0 ∷ [])) (15 ∷ 15 ∷ 15 ∷ []) gives refused 18
     ∷ Expand (family 15 (1 ∷ []) (0 ∷ []) (1 ∷ [])) (15 ∷ 15 ∷ []) gives refused 12
     ∷ Expand (family 2147483647 [] [] []) [] gives refused 6
     ∷ Expand (family 2147483648 [] [] []) [] gives refused 3
@@ -136,7 +140,27 @@ firstCs =
     ∷ Totals onlyRow (1 ∷ 2 ∷ []) (3 ∷ 4 ∷ []) gives finished (1 ∷ 1 ∷ [])
     ∷ Norms (family 15 (2 ∷ []) (1 ∷ []) (15 ∷ [])) gives refused 9
     ∷ Norms (family 15 (6 ∷ []) (1 ∷ []) (0 ∷ [])) gives refused 10
-    ∷ Norms (family 35 (1 ∷ 3 ∷ []) (0 ∷ 0 ∷ []) (0 ∷ 0 ∷ [])) gives refused 11
+    ∷ Norms (family 35 (1 ∷ 3 ∷ []) (0 ∷ 0 ∷ []) (0 ∷ 0 ∷ [])) gives refused 18
+    ∷ []
+
+-- P10's family with a zero in the place of its a; three rows modulo 15, of which 3, 6 and 10 share a factor with 15
+abbrev pub three : List ℕ → List ℕ → Family
+three a c = family 15 a (0 ∷ 0 ∷ 0 ∷ []) c
+
+abbrev pub reasons : List Figure
+reasons =
+    Expand (family 15 (0 ∷ []) (0 ∷ []) (5 ∷ [])) (1 ∷ 1 ∷ []) gives refused 17
+    ∷ Norms (three (1 ∷ 3 ∷ 0 ∷ []) (1 ∷ 1 ∷ 1 ∷ [])) gives refused 10
+    ∷ Norms (three (1 ∷ 0 ∷ 3 ∷ []) (1 ∷ 1 ∷ 1 ∷ [])) gives refused 17
+    ∷ Norms (three (6 ∷ 0 ∷ 1 ∷ []) (1 ∷ 1 ∷ 1 ∷ [])) gives refused 10
+    ∷ Norms (three (0 ∷ 1 ∷ 10 ∷ []) (1 ∷ 1 ∷ 1 ∷ [])) gives refused 17
+    ∷ Norms (three (1 ∷ 1 ∷ 1 ∷ []) (1 ∷ 3 ∷ 0 ∷ [])) gives refused 11
+    ∷ Norms (three (1 ∷ 1 ∷ 1 ∷ []) (1 ∷ 0 ∷ 3 ∷ [])) gives refused 18
+    ∷ Norms (three (1 ∷ 1 ∷ 1 ∷ []) (0 ∷ 6 ∷ 1 ∷ [])) gives refused 11
+    ∷ Norms (three (1 ∷ 1 ∷ 1 ∷ []) (6 ∷ 1 ∷ 0 ∷ [])) gives refused 18
+    ∷ Norms (three (1 ∷ 1 ∷ 10 ∷ []) (1 ∷ 0 ∷ 1 ∷ [])) gives refused 10
+    ∷ Norms (three (1 ∷ 1 ∷ 0 ∷ []) (1 ∷ 6 ∷ 1 ∷ [])) gives refused 17
+    ∷ Norms (three (1 ∷ 0 ∷ 15 ∷ []) (1 ∷ 1 ∷ 1 ∷ [])) gives refused 9
     ∷ []
 
 -- a table holds: each call hands out what stands beside it
@@ -154,6 +178,18 @@ examples-hold = refl
 pub first-cs-hold : Hold firstCs
 unfolding handed
 first-cs-hold = refl
+
+pub reasons-hold : Hold reasons
+unfolding handed
+reasons-hold = refl
+
+abbrev pub factorTold : ℕ × ℕ → List ℕ
+factorTold (m, x) = afterFactor (verdict (inverseTests m x) []) (greatestFactor m x ∷ []) []
+
+pub factors-told : map factorTold ((15, 4) ∷ (15, 6) ∷ (15, 0) ∷ (15, 10) ∷ (12, 8) ∷ (7, 0) ∷ (2, 1) ∷ (15, 15) ∷ (1, 0) ∷ [])
+    ≡ (1 ∷ []) ∷ (3 ∷ []) ∷ (15 ∷ []) ∷ (5 ∷ []) ∷ (4 ∷ []) ∷ (7 ∷ []) ∷ (1 ∷ []) ∷ [] ∷ [] ∷ []
+unfolding handed divides factorUpTo greatestFactor
+factors-told = refl
 
 pub greatest-expanded : expand (family 2147483647 [] [] []) (2147483646 ∷ []) ≡ 2147483646 ∷ []
 unfolding handed

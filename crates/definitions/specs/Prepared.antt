@@ -9,7 +9,7 @@
 --   emptyTests, appendTests, dropTests, replaceTests   the tests of the changes, in their order
 --   Changed       the promise of a change: its answer, and the record that it hands out
 --   EmptyCall, AppendCall, DropCall, ReplaceCall       of each change
--- Item 3 of the change requests. Assumes nothing.
+-- Items 3 and 5 of the change requests. Assumes nothing.
 use mathlib.Core.Path.{_≡_}
 use mathlib.Core.Bool.{Bool, true, false, _||_, _&&_}
 use mathlib.Core.List.{List, [], _∷_, _++_}
@@ -102,11 +102,13 @@ noRowsTest p = test 15 (eqb (p .rows) 0)
 unfoldable pub absentRowTest : Prepared → ℕ → Test
 absentRowTest p i = test 16 (eqb i 0 || ltb (p .rows) i)
 
--- 9 10 11 of a new row, for the place where it is to stand
+-- 9 17 10 18 11 of a new row, for the place where it is to stand
 unfoldable pub rowTests : ℕ → ℕ → Row → List Test
 rowTests m place row =
     test 9 (notBelow m (row .a) || notBelow m (row .b) || notBelow m (row .c))
+    ∷ test 17 (eqb (row .a) 0)
     ∷ test 10 (noInverse m (row .a))
+    ∷ test 18 (leb firstC place && eqb (row .c) 0)
     ∷ test 11 (leb firstC place && noInverse m (row .c))
     ∷ []
 

@@ -1,6 +1,6 @@
 -- The operations on a prepared family: the record stands in the place of m, a, b and c.
 --   preparedPlainTests, preparedTreeTests, preparedNormsTests, preparedMomentsTests
---                 the tests in their order: 14 in the place of 3, 4, 5, 9, 10 and 11, and then those of the lists that are lent
+--                 the tests in their order: 14 in the place of 3, 4, 5, 9, 17, 10, 18 and 11, and then those of the lists that are lent
 --   PreparedPlainCall, PreparedTreeCall, PreparedNormsCall, PreparedMomentsCall
 --                 the promises: what the operation on the record's own rows hands out
 -- Item 3 of the change requests. Assumes nothing.

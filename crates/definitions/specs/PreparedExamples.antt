@@ -135,20 +135,28 @@ wrong = holding 7 2 a b c x z (set d 0 2)
 abbrev full : Prepared
 full = holding 2 127 (replicate 127 1) (replicate 127 0) (replicate 127 1) (replicate 127 1) (0 ∷ replicate 126 1) (replicate 128 1)
 
--- 11 passes over a new row 1
+-- the record of one row 1 0 1 modulo 15
+abbrev ofFifteen : Prepared
+ofFifteen = prepared (family 15 (1 ∷ []) (0 ∷ []) (1 ∷ []))
+
+-- 18 and 11 pass over a new row 1
 pub append-refusals : map told (
     Append wrong (rowOf 7 7 7) ∷ Append full (rowOf 2 2 2) ∷ Append recordOfR (rowOf 0 7 0) ∷ Append recordOfR (rowOf 0 0 0)
-    ∷ Append recordOfR (rowOf 1 0 0) ∷ Append recordOfR (rowOf 1 0 1) ∷ Append noRows (rowOf 1 0 0) ∷ []
-    ) ≡ refused 14 ∷ refused 5 ∷ refused 9 ∷ refused 10 ∷ refused 11 ∷ finished [] ∷ finished [] ∷ []
+    ∷ Append recordOfR (rowOf 1 0 0) ∷ Append recordOfR (rowOf 1 0 1) ∷ Append noRows (rowOf 0 0 0) ∷ Append noRows (rowOf 1 0 0)
+    ∷ Append ofFifteen (rowOf 0 0 3) ∷ Append ofFifteen (rowOf 3 0 0) ∷ Append ofFifteen (rowOf 1 0 0) ∷ Append ofFifteen (rowOf 1 0 3) ∷ []
+    ) ≡ refused 14 ∷ refused 5 ∷ refused 9 ∷ refused 17 ∷ refused 18 ∷ finished [] ∷ refused 17 ∷ finished []
+    ∷ refused 17 ∷ refused 10 ∷ refused 18 ∷ refused 11 ∷ []
 unfolding told
 append-refusals = refl
 
--- rows are counted from 1, and 11 passes over row 1
+-- rows are counted from 1, and 18 and 11 pass over row 1
 pub replace-refusals : map told (
     Replace wrong 0 (rowOf 7 7 7) ∷ Replace recordOfR 0 (rowOf 7 7 7) ∷ Replace recordOfR 3 (rowOf 7 7 7)
     ∷ Replace recordOfR 2 (rowOf 0 0 7) ∷ Replace recordOfR 2 (rowOf 0 0 0) ∷ Replace recordOfR 2 (rowOf 1 0 0)
-    ∷ Replace recordOfR 2 (rowOf 1 0 1) ∷ Replace recordOfR 1 (rowOf 1 0 0) ∷ []
-    ) ≡ refused 14 ∷ refused 16 ∷ refused 16 ∷ refused 9 ∷ refused 10 ∷ refused 11 ∷ finished [] ∷ finished [] ∷ []
+    ∷ Replace recordOfR 2 (rowOf 1 0 1) ∷ Replace recordOfR 1 (rowOf 1 0 0)
+    ∷ Replace ofFifteen 1 (rowOf 0 0 3) ∷ Replace ofFifteen 1 (rowOf 3 0 0) ∷ Replace ofFifteen 1 (rowOf 1 0 3) ∷ []
+    ) ≡ refused 14 ∷ refused 16 ∷ refused 16 ∷ refused 9 ∷ refused 17 ∷ refused 18 ∷ finished [] ∷ finished []
+    ∷ refused 17 ∷ refused 10 ∷ finished [] ∷ []
 unfolding told
 replace-refusals = refl
 
@@ -216,6 +224,6 @@ pub replace-outcome : ReplaceCall recordOfR 2 (rowOf 3 0 1) (finished []) change
 unfolding told
 replace-outcome = record { answer = refl; handed = refl }
 
-pub replace-refusal : ReplaceCall recordOfR 2 (rowOf 0 0 1) (refused 10) recordOfR
+pub replace-refusal : ReplaceCall recordOfR 2 (rowOf 0 0 1) (refused 17) recordOfR
 unfolding told
 replace-refusal = record { answer = refl; handed = refl }

@@ -1,16 +1,19 @@
 -- What the promises of the calls say of the paper's R and of its job, by computation: the one outcome that each allows.
 -- plain-outcome, tree-outcome, norms-outcome, moments-outcome, text-outcome and job-outcome: the answer, the list or the text with what the
 -- output held after it, and of a working list 16,384 zeros and then what it held. plain-refusal, tree-refusal, text-refusal and job-refusal:
--- the number, and every list as it was. Each is allowed, and the claims that end in -only say that there is no other.
+-- the number, and every list as it was. inverse-outcome, inverse-without and inverse-refusal: of Inverse, what two lent numbers hold after it
+-- finishes, after 13 and after 12. Each is allowed, and the claims that end in -only say that there is no other.
 -- Assumes nothing.
 use mathlib.Core.Path.{_≡_, refl, _∙_, ap}
 use mathlib.Core.List.{List, [], _∷_, _++_}
 use Prim.Native.Nat.{ℕ}
 use lib.ListN.{length, drop, replicate}
+use Rattle.definitions.specs.Number.{inverse, divides, factorUpTo, greatestFactor}
 use Rattle.definitions.specs.Conversion.{expand}
 use Rattle.definitions.specs.Orthogonality.{moments, norms}
-use Rattle.definitions.specs.Refusals.{finished, refused, treeTests}
-use Rattle.definitions.specs.Answers.{answered, valued, after, cleared, PlainCall, TreeCall, NormsCall, MomentsCall}
+use Rattle.definitions.specs.Refusals.{Verdict, finished, refused, treeTests}
+use Rattle.definitions.specs.Answers.{answered, valued, inverseAnswered, inverseHanded, factorHanded, after, afterFactor, cleared}
+use Rattle.definitions.specs.Answers.{InverseCall, PlainCall, TreeCall, NormsCall, MomentsCall}
 use Rattle.definitions.specs.Figures.{handed, R}
 use Rattle.definitions.specs.Text.{bytes, jobText}
 use Rattle.definitions.specs.TextCall.{reply, TextConverted}
@@ -18,6 +21,7 @@ use Rattle.definitions.specs.JobWriting.{writingTests, JobWritten}
 use Rattle.definitions.specs.TextExamples.{verdictOn, paperJob, paperJobWith, paperText}
 use Rattle.definitions.specs.declared.Operation.{Operation}
 use Rattle.definitions.specs.declared.Answer.{Answer}
+use Rattle.definitions.specs.declared.InverseAnswer.{InverseAnswer}
 use Rattle.definitions.specs.declared.Valued.{Valued}
 
 -- P1's curve, and one with an entry that is not below 7
@@ -89,6 +93,43 @@ pub norms-outcome-only : (r : Answer) (output′ : List ℕ) → NormsCall R (an
     → (answered r ≡ finished []) × (output′ ≡ 1 ∷ 1 ∷ 5 ∷ [])
 unfolding handed
 norms-outcome-only r output′ p = (p .answer, p .written ∙ ap (λ v. after v (norms R) output) (p .answer))
+
+-- ---- Inverse: P8, P9 and a number that is not below m; 21 and 22 are what the lent numbers held
+pub inverse-outcome : InverseCall 15 4 (finished []) (21 ∷ []) (4 ∷ []) (22 ∷ []) (1 ∷ [])
+unfolding handed divides factorUpTo greatestFactor
+inverse-outcome = record { answer = refl; written = refl; factor = refl }
+
+pub inverse-without : InverseCall 15 6 (refused 13) (21 ∷ []) (21 ∷ []) (22 ∷ []) (3 ∷ [])
+unfolding handed divides factorUpTo greatestFactor
+inverse-without = record { answer = refl; written = refl; factor = refl }
+
+pub inverse-refusal : InverseCall 15 15 (refused 12) (21 ∷ []) (21 ∷ []) (22 ∷ []) (22 ∷ [])
+unfolding handed divides factorUpTo greatestFactor
+inverse-refusal = record { answer = refl; written = refl; factor = refl }
+
+-- of the answer itself, which is lent nothing
+abbrev pub Answers : ℕ → ℕ → InverseAnswer → Type 0
+Answers m x r = InverseCall m x (inverseAnswered r) [] (inverseHanded r) [] (factorHanded r)
+
+pub inverse-answers : Answers 15 4 (InverseAnswer.Found 4 1) × Answers 15 6 (InverseAnswer.NoInverse 3) × Answers 15 0 (InverseAnswer.NoInverse 15)
+    × Answers 15 15 (InverseAnswer.Refused 12) × Answers 1 0 (InverseAnswer.Refused 3)
+unfolding handed divides factorUpTo greatestFactor
+inverse-answers = (
+  record { answer = refl; written = refl; factor = refl },
+  record { answer = refl; written = refl; factor = refl },
+  record { answer = refl; written = refl; factor = refl },
+  record { answer = refl; written = refl; factor = refl },
+  record { answer = refl; written = refl; factor = refl },
+)
+
+pub inverse-without-only : (v : Verdict) (inverses′ factors′ : List ℕ) → InverseCall 15 6 v (21 ∷ []) inverses′ (22 ∷ []) factors′
+    → (v ≡ refused 13) × (inverses′ ≡ 21 ∷ []) × (factors′ ≡ 3 ∷ [])
+unfolding handed divides factorUpTo greatestFactor
+inverse-without-only v inverses′ factors′ p = (
+  p .answer,
+  p .written ∙ ap (λ w. after w (inverse 15 6 ∷ []) (21 ∷ [])) (p .answer),
+  p .factor ∙ ap (λ w. afterFactor w (greatestFactor 15 6 ∷ []) (22 ∷ [])) (p .answer),
+)
 
 -- an output for the moments
 abbrev pub five : List ℕ

@@ -4,8 +4,8 @@
 --   number v        the number of a verdict, and 0 for a finished one
 -- plain-order, tree-order, moments-order, norms-order, text-order and writing-order: the number that each input gives. So no test of a call is left out,
 -- none stands before one of a lower number, and each condition holds where it must; a test that a call skips gives way to the next.
--- first-order and closing-order: the tests on rows look at row 1, but for 11, and at the closing row. c-from: from which row on 11 looks
--- at the c.
+-- first-order and closing-order: the tests on rows look at row 1, but for 18 and 11, and at the closing row. c-from: from which row on these
+-- two look at the c.
 -- curves-asked: which operations of a job take a curve, and which none. greatest-written: the greatest modulus in a text, and one more.
 -- outputs-asked: the outputs that the call that writes a job takes.
 -- Assumes nothing.
@@ -16,7 +16,7 @@ use Prim.Native.Nat.{ℕ, suc}
 use Prim.Native.String.{String}
 use lib.ListN.{replicate}
 use Rattle.definitions.specs.Family.{Row, Family, family, rowOf}
-use Rattle.definitions.specs.Refusals.{Test, Verdict, finished, refused, verdict, workLength, cInverseTest, familyRows}
+use Rattle.definitions.specs.Refusals.{Test, Verdict, finished, refused, verdict, workLength, cZeroTest, cInverseTest, familyRows}
 use Rattle.definitions.specs.Refusals.{plainTests, treeTests, momentsTests, normsTests}
 use Rattle.definitions.specs.Figures.{handed, R}
 use Rattle.definitions.specs.Text.{bytes, WrittenJob, meant, jobText}
@@ -38,7 +38,7 @@ lend family curve output work = record { family = family; curve = curve; output 
 abbrev pub second : ℕ → ℕ → ℕ → Family
 second a b c = family 15 (1 ∷ a ∷ []) (0 ∷ b ∷ []) (0 ∷ c ∷ [])
 
--- 15 is not below 15 and has no inverse; nor has 0
+-- 15 is not below 15 and has no inverse; nor has 0, nor 3
 abbrev pub many : List ℕ
 many = replicate 128 15
 
@@ -58,7 +58,9 @@ mended output =
     ∷ lend (second 0 15 0) (15 ∷ 15 ∷ 15 ∷ []) output 16384
     ∷ lend (second 0 0 15) (15 ∷ 15 ∷ 15 ∷ []) output 16384
     ∷ lend (second 0 0 0) (15 ∷ 15 ∷ 15 ∷ []) output 16384
+    ∷ lend (second 3 0 0) (15 ∷ 15 ∷ 15 ∷ []) output 16384
     ∷ lend (second 1 0 0) (15 ∷ 15 ∷ 15 ∷ []) output 16384
+    ∷ lend (second 1 0 3) (15 ∷ 15 ∷ 15 ∷ []) output 16384
     ∷ lend (second 1 0 1) (0 ∷ 0 ∷ 15 ∷ []) output 16384
     ∷ lend (second 1 0 1) (0 ∷ 0 ∷ 14 ∷ []) output 16385
     ∷ []
@@ -71,31 +73,31 @@ abbrev pub numbers : (Lent → List Test) → ℕ → List ℕ
 numbers tests output = map (λ x. number (verdict (tests x) [])) (mended output)
 
 pub plain-order : numbers (λ x. plainTests (x .family) (x .curve) (x .output)) 3
-    ≡ 3 ∷ 4 ∷ 4 ∷ 4 ∷ 5 ∷ 6 ∷ 6 ∷ 7 ∷ 7 ∷ 9 ∷ 9 ∷ 9 ∷ 9 ∷ 10 ∷ 11 ∷ 12 ∷ 0 ∷ []
+    ≡ 3 ∷ 4 ∷ 4 ∷ 4 ∷ 5 ∷ 6 ∷ 6 ∷ 7 ∷ 7 ∷ 9 ∷ 9 ∷ 9 ∷ 9 ∷ 17 ∷ 10 ∷ 18 ∷ 11 ∷ 12 ∷ 0 ∷ []
 unfolding handed
 plain-order = refl
 
 pub tree-order : numbers (λ x. treeTests (x .family) (x .curve) (x .output) (x .work)) 3
-    ≡ 3 ∷ 4 ∷ 4 ∷ 4 ∷ 5 ∷ 6 ∷ 6 ∷ 7 ∷ 7 ∷ 8 ∷ 9 ∷ 9 ∷ 9 ∷ 10 ∷ 11 ∷ 12 ∷ 0 ∷ []
+    ≡ 3 ∷ 4 ∷ 4 ∷ 4 ∷ 5 ∷ 6 ∷ 6 ∷ 7 ∷ 7 ∷ 8 ∷ 9 ∷ 9 ∷ 9 ∷ 17 ∷ 10 ∷ 18 ∷ 11 ∷ 12 ∷ 0 ∷ []
 unfolding handed treeTests
 tree-order = refl
 
 pub moments-order : numbers (λ x. momentsTests (x .family) (x .output) (x .work)) 5
-    ≡ 3 ∷ 4 ∷ 4 ∷ 4 ∷ 5 ∷ 7 ∷ 7 ∷ 7 ∷ 7 ∷ 8 ∷ 9 ∷ 9 ∷ 9 ∷ 10 ∷ 11 ∷ 0 ∷ 0 ∷ []
+    ≡ 3 ∷ 4 ∷ 4 ∷ 4 ∷ 5 ∷ 7 ∷ 7 ∷ 7 ∷ 7 ∷ 8 ∷ 9 ∷ 9 ∷ 9 ∷ 17 ∷ 10 ∷ 18 ∷ 11 ∷ 0 ∷ 0 ∷ []
 unfolding handed
 moments-order = refl
 
 pub norms-order : numbers (λ x. normsTests (x .family) (x .output)) 3
-    ≡ 3 ∷ 4 ∷ 4 ∷ 4 ∷ 5 ∷ 7 ∷ 7 ∷ 7 ∷ 7 ∷ 9 ∷ 9 ∷ 9 ∷ 9 ∷ 10 ∷ 11 ∷ 0 ∷ 0 ∷ []
+    ≡ 3 ∷ 4 ∷ 4 ∷ 4 ∷ 5 ∷ 7 ∷ 7 ∷ 7 ∷ 7 ∷ 9 ∷ 9 ∷ 9 ∷ 9 ∷ 17 ∷ 10 ∷ 18 ∷ 11 ∷ 0 ∷ 0 ∷ []
 unfolding handed
 norms-order = refl
 
--- row 1 modulo 15, alone, with every fault and then one fault after another mended: the last, a c that is 0, is none
+-- row 1 modulo 15, alone, with every fault and then one fault after another mended: the last two, a c that is 0 and one that is 3, are none
 abbrev pub row : ℕ → ℕ → ℕ → Family
 row a b c = family 15 (a ∷ []) (b ∷ []) (c ∷ [])
 
 pub first-order : map (λ f. number (verdict (familyRows f) []))
-    (row 15 0 0 ∷ row 0 15 0 ∷ row 0 0 15 ∷ row 0 0 0 ∷ row 1 0 0 ∷ []) ≡ 9 ∷ 9 ∷ 9 ∷ 10 ∷ 0 ∷ []
+    (row 15 0 0 ∷ row 0 15 0 ∷ row 0 0 15 ∷ row 0 0 0 ∷ row 3 0 0 ∷ row 1 0 0 ∷ row 1 0 3 ∷ []) ≡ 9 ∷ 9 ∷ 9 ∷ 17 ∷ 10 ∷ 0 ∷ 0 ∷ []
 unfolding handed
 first-order = refl
 
@@ -104,27 +106,29 @@ abbrev pub closedBy : Row → Family
 closedBy row = record { m = 15; a = 1 ∷ []; b = 0 ∷ []; c = 1 ∷ []; close = row }
 
 pub closing-order : map (λ row. number (verdict (familyRows (closedBy row)) []))
-    (rowOf 15 0 0 ∷ rowOf 0 15 0 ∷ rowOf 0 0 15 ∷ rowOf 0 0 0 ∷ rowOf 1 0 0 ∷ rowOf 1 0 1 ∷ []) ≡ 9 ∷ 9 ∷ 9 ∷ 10 ∷ 11 ∷ 0 ∷ []
+    (rowOf 15 0 0 ∷ rowOf 0 15 0 ∷ rowOf 0 0 15 ∷ rowOf 0 0 0 ∷ rowOf 3 0 0 ∷ rowOf 1 0 0 ∷ rowOf 1 0 3 ∷ rowOf 1 0 1 ∷ [])
+    ≡ 9 ∷ 9 ∷ 9 ∷ 17 ∷ 10 ∷ 18 ∷ 11 ∷ 0 ∷ []
 unfolding handed
 closing-order = refl
 
--- 11 from the first row on, from the second on and from the closing row on, where the c are 0 0 1
-pub c-from : map (λ first. cInverseTest first (second 1 0 0) .holds) (0 ∷ 1 ∷ 2 ∷ []) ≡ true ∷ true ∷ false ∷ []
+-- 11 and 18 from the first row on, from the second on and from the closing row on, where the c are 0 3 1
+pub c-from : (map (λ first. cInverseTest first (second 1 0 3) .holds) (0 ∷ 1 ∷ 2 ∷ []) ≡ true ∷ true ∷ false ∷ [])
+    × (map (λ first. cZeroTest first (second 1 0 3) .holds) (0 ∷ 1 ∷ 2 ∷ []) ≡ true ∷ false ∷ false ∷ [])
 unfolding handed
-c-from = refl
+c-from = (refl, refl)
 
 abbrev pub written : Operation → Family → List ℕ → WrittenJob
 written operation f u = writtenJob (f .m) (f .a) (f .b) (f .c) operation u
 
 -- a longer output is taken
 pub text-order : numbers (λ x. textTests (jobText (written Operation.Expand (x .family) (x .curve))) (x .output) (x .work)) textOutputLength
-    ≡ 3 ∷ 4 ∷ 4 ∷ 4 ∷ 5 ∷ 6 ∷ 6 ∷ 7 ∷ 8 ∷ 8 ∷ 9 ∷ 9 ∷ 9 ∷ 10 ∷ 11 ∷ 12 ∷ 0 ∷ []
+    ≡ 3 ∷ 4 ∷ 4 ∷ 4 ∷ 5 ∷ 6 ∷ 6 ∷ 7 ∷ 8 ∷ 8 ∷ 9 ∷ 9 ∷ 9 ∷ 17 ∷ 10 ∷ 18 ∷ 11 ∷ 12 ∷ 0 ∷ []
 unfolding verdictOn jobText
 text-order = refl
 
 -- the same of the call that writes the job
 pub writing-order : numbers (λ x. writingTests (meant (written Operation.Expand (x .family) (x .curve))) (x .output)) jobOutputLength
-    ≡ 3 ∷ 4 ∷ 4 ∷ 4 ∷ 5 ∷ 6 ∷ 6 ∷ 7 ∷ 9 ∷ 9 ∷ 9 ∷ 9 ∷ 9 ∷ 10 ∷ 11 ∷ 12 ∷ 0 ∷ []
+    ≡ 3 ∷ 4 ∷ 4 ∷ 4 ∷ 5 ∷ 6 ∷ 6 ∷ 7 ∷ 9 ∷ 9 ∷ 9 ∷ 9 ∷ 9 ∷ 17 ∷ 10 ∷ 18 ∷ 11 ∷ 12 ∷ 0 ∷ []
 unfolding verdictOn writingTests
 writing-order = refl
 

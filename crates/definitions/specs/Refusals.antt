@@ -1,14 +1,14 @@
 -- Who causes which refusal: for each call one list of tests, in the order in which they are tested.
 --   Test             a refusal number, and whether its condition holds
 --   verdict ts vs    refused with the number of the first test that holds; finished with the values vs if none does
---   familyShape f    the tests 3 4 5 of a family, and familyRows f its tests 9 10 11: each call on a family makes both
---   valueTests f u   the rows, and then 12 of the curve's entries: 9 10 11 12
+--   familyShape f    the tests 3 4 5 of a family, and familyRows f its tests 9 17 10 18 11: each call on a family makes both
+--   valueTests f u   the rows, and then 12 of the curve's entries: 9 17 10 18 11 12
 --   plainTests       of Expand, Adjoint and Decompose by the plain way;  treeTests  by the tree way
 --   momentsTests, normsTests, inverseTests
 -- So a number is given if its condition holds and none before it does, and otherwise not. A test on
 -- lengths is one of numbers; a call is given its family and its curve, and the lengths of the other lists. It skips the tests on things that
 -- it is not lent.
--- The scope paper, 'Who causes which refusal'. Assumes nothing.
+-- The scope paper, 'Who causes which refusal', and items 2 and 5 of the change requests. Assumes nothing.
 use mathlib.Core.Bool.{Bool, true, false, not, _||_}
 use mathlib.Core.List.{List, [], _∷_, _++_}
 use Prim.Native.Nat.{ℕ, zero, suc, _*_, _-_, _%_}
@@ -40,9 +40,18 @@ unfoldable pub someFrom : (ℕ → Bool) → ℕ → ℕ → Bool
 someFrom passes first zero = false
 someFrom passes first (suc count) = elim (passes first) [ true ↦ true | false ↦ someFrom passes (suc first) count ]
 
+-- the lowest of the count numbers from first on that passes is also so; if none passes, it is not
+unfoldable pub lowestFrom : (ℕ → Bool) → (ℕ → Bool) → ℕ → ℕ → Bool
+lowestFrom passes also first zero = false
+lowestFrom passes also first (suc count) = elim (passes first) [ true ↦ also first | false ↦ lowestFrom passes also (suc first) count ]
+
 -- a row passes, of those from place first on up to row n, the closing row
 unfoldable pub someRow : Family → ℕ → (Row → Bool) → Bool
 someRow f first passes = someFrom (λ i. passes (rowAt f i)) first (size f - first)
+
+-- the lowest of these rows that passes is also so
+unfoldable pub lowestRow : Family → ℕ → (Row → Bool) → (Row → Bool) → Bool
+lowestRow f first passes also = lowestFrom (λ i. passes (rowAt f i)) (λ i. also (rowAt f i)) first (size f - first)
 
 unfoldable pub differ : ℕ → ℕ → Bool
 differ x y = not (eqb x y)
@@ -82,10 +91,17 @@ workTest work = test 8 (ltb work workLength)
 unfoldable pub entriesTest : Family → Test
 entriesTest f = test 9 (someRow f 0 (λ row. notBelow (f .m) (row .a) || notBelow (f .m) (row .b) || notBelow (f .m) (row .c)))
 
+-- the lowest row whose a has no inverse has a zero there
+unfoldable pub aZeroTest : Family → Test
+aZeroTest f = test 17 (lowestRow f 0 (λ row. noInverse (f .m) (row .a)) (λ row. eqb (row .a) 0))
+
 unfoldable pub aInverseTest : Family → Test
 aInverseTest f = test 10 (someRow f 0 (λ row. noInverse (f .m) (row .a)))
 
--- the c from place first on
+-- the same of the c from place first on
+unfoldable pub cZeroTest : ℕ → Family → Test
+cZeroTest first f = test 18 (lowestRow f first (λ row. noInverse (f .m) (row .c)) (λ row. eqb (row .c) 0))
+
 unfoldable pub cInverseTest : ℕ → Family → Test
 cInverseTest first f = test 11 (someRow f first (λ row. noInverse (f .m) (row .c)))
 
@@ -106,9 +122,9 @@ shapeTests m a b c = modulusTest m ∷ equalLengthsTest a b c ∷ rowCountTest a
 abbrev pub familyShape : Family → List Test
 familyShape f = shapeTests (f .m) (length (f .a)) (length (f .b)) (length (f .c))
 
--- and its rows, 9 10 11; of the c those from place first on
+-- and its rows, 9 17 10 18 11; of the c those from place first on
 unfoldable pub rowInverses : ℕ → Family → List Test
-rowInverses first f = aInverseTest f ∷ cInverseTest first f ∷ []
+rowInverses first f = aZeroTest f ∷ aInverseTest f ∷ cZeroTest first f ∷ cInverseTest first f ∷ []
 
 unfoldable pub familyRows : Family → List Test
 familyRows f = entriesTest f ∷ rowInverses firstC f

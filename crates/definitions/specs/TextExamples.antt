@@ -107,7 +107,9 @@ samples =
     ∷ "mod=7\na=1 2\nb=0 9\nc=1 5\nop=norms\nv=9\n" gives refused 6
     ∷ "mod=7\na=1 2\nb=0 9\nc=1 5\nop=expand\nv=9\n" gives refused 6
     ∷ "mod=7\na=1 0\nb=0 9\nc=1 5\nop=norms\nv=\n" gives refused 9
-    ∷ "mod=7\na=1 0\nb=0 0\nc=1 0\nop=norms\nv=\n" gives refused 10
+    ∷ "mod=7\na=1 0\nb=0 0\nc=1 0\nop=norms\nv=\n" gives refused 17
+    ∷ "mod=15\na=1 6\nb=0 0\nc=1 0\nop=norms\nv=\n" gives refused 10
+    ∷ "mod=7\na=1 2\nb=0 3\nc=1 0\nop=expand\nv=3 0 7\n" gives refused 18
     ∷ "mod=15\na=1 1\nb=0 0\nc=1 6\nop=expand\nv=15 0 0\n" gives refused 11
     ∷ record { text = paperText; output = 4095; work = 16383; hands = refused 7 }
     ∷ record { text = paperText; output = 4096; work = 16383; hands = refused 8 }
@@ -151,7 +153,9 @@ printouts =
     ∷ jobText (jobOfRows 128) prints "refused=5\n"
     ∷ bytes "mod=7\na=1 2\nb=0 9\nc=1 5\nop=expand\nv=9\n" prints "refused=6\n"
     ∷ bytes "mod=7\na=1 0\nb=0 9\nc=1 5\nop=norms\nv=\n" prints "refused=9\n"
-    ∷ bytes "mod=7\na=1 0\nb=0 0\nc=1 0\nop=norms\nv=\n" prints "refused=10\n"
+    ∷ bytes "mod=7\na=1 0\nb=0 0\nc=1 0\nop=norms\nv=\n" prints "refused=17\n"
+    ∷ bytes "mod=15\na=1 6\nb=0 0\nc=1 0\nop=norms\nv=\n" prints "refused=10\n"
+    ∷ bytes "mod=7\na=1 2\nb=0 3\nc=1 0\nop=expand\nv=3 0 7\n" prints "refused=18\n"
     ∷ bytes "mod=15\na=1 1\nb=0 0\nc=1 6\nop=expand\nv=15 0 0\n" prints "refused=11\n"
     ∷ bytes "mod=7\na=\nb=\nc=\nop=expand\nv=4294967295\n" prints "refused=12\n"
     ∷ []

@@ -11,7 +11,15 @@ pub enum Answer {
     Refused(u32),
 }
 
-// The answer of a call whose result is a number: an inverse, or the length of a text.
+// The answer of Inverse: the inverse and the greatest common factor of the number and the modulus; that there is no inverse (13), with
+// that factor; or another refusal.
+pub enum InverseAnswer {
+    Found(u32, u32),
+    NoInverse(u32),
+    Refused(u32),
+}
+
+// The answer of a call whose result is the length of a text.
 pub enum Valued {
     Value(u32),
     Refused(u32),

@@ -2,7 +2,7 @@
 // output is lent full of fours, so that a refusal is seen to leave it. A figure is a function of its own: the more lists a function makes, the longer its
 // proof is sought.
 use definitions::Answer;
-use definitions::Valued;
+use definitions::InverseAnswer;
 
 fn text(bytes: &[u8]) {
     io::write_all(libc::STDOUT_FILENO, bytes);
@@ -35,14 +35,20 @@ fn show(label: &[u8], answer: Answer, output: &[u32]) {
     text(b"\n");
 }
 
-fn show_value(label: &[u8], answer: Valued) {
+fn show_inverse(label: &[u8], answer: InverseAnswer) {
     text(label);
     match answer {
-        Valued::Value(x) => {
+        InverseAnswer::Found(y, g) => {
             text(b" value:");
-            number(x);
+            number(y);
+            text(b", factor");
+            number(g);
         }
-        Valued::Refused(k) => {
+        InverseAnswer::NoInverse(g) => {
+            text(b" refused 13, factor");
+            number(g);
+        }
+        InverseAnswer::Refused(k) => {
             text(b" refused");
             number(k);
         }
@@ -132,6 +138,10 @@ fn p10() {
     expand(b"P10", 15, &[3], &[0], &[5], &[1, 1], &mut [4; 2]);
 }
 
+fn p10_zero() {
+    expand(b"P10 with a = 0", 15, &[0], &[0], &[5], &[1, 1], &mut [4; 2]);
+}
+
 fn p11() {
     norms(b"P11", 7, &[], &[], &[], &mut [4; 1]);
 }
@@ -144,13 +154,16 @@ fn on_small_families() {
     p6();
     p7();
     p10();
+    p10_zero();
     p11();
     p12();
 }
 
 fn on_inverses() {
-    show_value(b"P8", plain_calls::invert(15, 4));
-    show_value(b"P9", plain_calls::invert(15, 6));
+    show_inverse(b"P8", plain_calls::invert(15, 4));
+    show_inverse(b"P9", plain_calls::invert(15, 6));
+    show_inverse(b"0, m = 15", plain_calls::invert(15, 0));
+    show_inverse(b"15, m = 15", plain_calls::invert(15, 15));
 }
 
 // The limits of the modulus, of the number of rows and of an entry.
@@ -246,6 +259,18 @@ fn a_1_6() {
     );
 }
 
+fn a_6_0() {
+    decompose(
+        b"a = 6 0",
+        15,
+        &[6, 0],
+        &[0, 3],
+        &[1, 4],
+        &[1, 2, 3],
+        &mut [4; 3],
+    );
+}
+
 fn a_1_15() {
     decompose(
         b"a = 1 15",
@@ -282,6 +307,18 @@ fn c_1_10() {
     );
 }
 
+fn c_1_0() {
+    decompose(
+        b"c = 1 0",
+        15,
+        &[1, 2],
+        &[0, 3],
+        &[1, 0],
+        &[1, 2, 3],
+        &mut [4; 3],
+    );
+}
+
 fn c_15_4() {
     decompose(
         b"c = 15 4",
@@ -297,9 +334,11 @@ fn c_15_4() {
 fn on_row_factors() {
     a_0_2();
     a_1_6();
+    a_6_0();
     a_1_15();
     c_0_4();
     c_1_10();
+    c_1_0();
     c_15_4();
 }
 

@@ -65,8 +65,8 @@ fn answer(
 // The text call: the answer text of a job text, and its length. After an accepted call the first 16,384 numbers of the working list
 // are zero, whichever the operation.
 // Refused with 1 and 2 (the sender of the text); with 3 to 6 (the same, or the station's program), 7: the output has less than 4,096
-// bytes, and 8: the working list is too short (the station's program); with 9 to 11 (the maker of the element); with 12 (the sender
-// of the curve).
+// bytes, and 8: the working list is too short (the station's program); with 9, 17, 10, 18 and 11 (the maker of the element); with 12
+// (the sender of the curve).
 pub fn convert_text(text: &[u8], output: &mut [u8], work: &mut [u32]) -> Valued
     ensures { λ r. ⌜ TextConverted (now (text .entry)) r (now (output .entry)) (now (output .exit)) (now (work .entry)) (now (work .exit)) ⌝ }
 {
@@ -109,8 +109,8 @@ pub fn convert_text(text: &[u8], output: &mut [u8], work: &mut [u32]) -> Valued
 
 // Writes the text of a job from a modulus, the lists of a family, an operation and a curve, with the text's length as the answer: only a
 // job that the text call carries out, in the one form that it takes. What the output holds past the text stays.
-// Refused with 3 to 6 and 7: the output has less than 8,192 bytes (the station's program); with 9 to 11 (the maker of the element); with
-// 12 (the sender of the curve).
+// Refused with 3 to 6 and 7: the output has less than 8,192 bytes (the station's program); with 9, 17, 10, 18 and 11 (the maker of the
+// element); with 12 (the sender of the curve).
 pub fn write_job(
     m: u32,
     a: &[u32],

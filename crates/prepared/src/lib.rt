@@ -71,7 +71,7 @@ fn prepare(m: u32, rows: u32, a: [u32; 127], b: [u32; 127], c: [u32; 127]) -> Pr
     }
 }
 
-// 14, 5, 9, 10 and 11.
+// 14, 5, 9, 17, 10, 18 and 11.
 fn append_verdict(p: Prepared, a: u32, b: u32, c: u32) -> Answer
     ensures { λ r. ⌜ answered r ≡ verdict (appendTests (held p) (rowOf a b c)) [] ⌝ }
 {
@@ -99,7 +99,7 @@ fn drop_verdict(p: Prepared) -> Answer
     Answer::Finished
 }
 
-// 14, 16, 9, 10 and 11.
+// 14, 16, 9, 17, 10, 18 and 11.
 fn replace_verdict(p: Prepared, row: u32, a: u32, b: u32, c: u32) -> Answer
     ensures { λ r. ⌜ answered r ≡ verdict (replaceTests (held p) row (rowOf a b c)) [] ⌝ }
 {
@@ -149,7 +149,7 @@ impl Prepared {
     }
 
     // The record with one row more at its end. Refused with 14: the record is not right; with 5: it has all the rows that it can have; with
-    // 9 to 11: a number of the row is not below m, or its a, or its c if it is not row 1, has no inverse.
+    // 9, 17, 10, 18 and 11: a number of the row is not below m, or its a, or its c if it is not row 1, is zero or has no inverse.
     pub fn append(self, a: u32, b: u32, c: u32) -> Change
         ensures { λ r. ⌜ AppendCall (held self) (rowOf a b c) (answered (r .answer)) (held (r .family)) ⌝ }
     {
@@ -199,7 +199,7 @@ impl Prepared {
     }
 
     // The record with another row in the place of one, counted from 1. Refused with 14: the record is not right; with 16: there is no such
-    // row; with 9 to 11 as append is.
+    // row; with 9, 17, 10, 18 and 11 as append is.
     pub fn replace(self, row: u32, a: u32, b: u32, c: u32) -> Change
         ensures { λ r. ⌜ ReplaceCall (held self) row (rowOf a b c) (answered (r .answer)) (held (r .family)) ⌝ }
     {

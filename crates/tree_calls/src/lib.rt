@@ -93,7 +93,7 @@ pub fn tree_decompose(
 
 // Moments: the 2n - 1 first coefficients of rev(G_{n-1}, n) / rev(F_n, n + 1), with the closing row 1 1 1 as row n. The working list is
 // as for tree_expand.
-// Refused with 3, 4, 5, 7 and 8 (the station's program), and with 9 to 11 (the maker of the element).
+// Refused with 3, 4, 5, 7 and 8 (the station's program), and with 9, 17, 10, 18 and 11 (the maker of the element).
 pub fn moments(
     m: u32,
     a: &[u32],

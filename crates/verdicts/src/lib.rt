@@ -3,21 +3,19 @@ ghost use mathlib.Core.Path.{_≡_};
 ghost use mathlib.Core.List.{[], _∷_};
 ghost use Prim.Native.Nat.{_≤_};
 ghost use lib.ListN.{length};
-ghost use Rattle.definitions.specs.Answers.{answered, valued};
+ghost use Rattle.definitions.specs.Answers.{answered, inverseAnswered, inverseHanded, factorHanded, InverseCall};
 ghost use Rattle.definitions.specs.Family.{family};
-ghost use Rattle.definitions.specs.Number as Number;
 ghost use Rattle.definitions.specs.Refusals.{verdict, familyRows, valueTests, plainTests, treeTests, momentsTests, normsTests};
-ghost use Rattle.definitions.specs.Refusals.{inverseTests};
 ghost use Rattle.definitions.specs.Text.{meant};
 ghost use Rattle.definitions.specs.TextCall.{curveCount, lengthTests, sizeTests};
 ghost use Rattle.definitions.specs.JobWriting.{writtenJob, writingTests};
 ghost use Rattle.checks.specs.Shape.{Shaped};
 use definitions::Answer;
+use definitions::InverseAnswer;
 use definitions::Operation;
-use definitions::Valued;
 use residue::Inversion;
 
-// 9, 10 and 11 of the rows of three lists, closed by 1 1 1.
+// 9, 17, 10, 18 and 11 of the rows of three lists, closed by 1 1 1.
 fn rows(m: u32, a: &[u32], b: &[u32], c: &[u32]) -> Answer
     requires { ⌜ Shaped m (length (now a)) (length (now b)) (length (now c)) ⌝ }
     ensures { λ r. ⌜ answered r ≡ verdict (familyRows (family m (now (a .entry)) (now (b .entry)) (now (c .entry)))) [] ⌝ }
@@ -38,7 +36,7 @@ fn values(m: u32, a: &[u32], b: &[u32], c: &[u32], curve: &[u32]) -> Answer
     checks::curve_entries(m, curve)
 }
 
-// Expand, Adjoint and Decompose by the plain way: 3 4 5 6 7 9 10 11 12.
+// Expand, Adjoint and Decompose by the plain way: 3 4 5 6 7 9 17 10 18 11 12.
 pub fn plain(m: u32, a: &[u32], b: &[u32], c: &[u32], curve: &[u32], output: usize) -> Answer
     ensures { λ r. ⌜ answered r ≡ verdict
         (plainTests (family m (now (a .entry)) (now (b .entry)) (now (c .entry))) (now (curve .entry)) output) [] ⌝ }
@@ -90,7 +88,7 @@ pub fn tree(
     values(m, a, b, c, curve)
 }
 
-// Norms: 3 4 5 7 9 10 11.
+// Norms: 3 4 5 7 9 17 10 18 11.
 pub fn norms(m: u32, a: &[u32], b: &[u32], c: &[u32], output: usize) -> Answer
     ensures { λ r. ⌜ answered r ≡ verdict
         (normsTests (family m (now (a .entry)) (now (b .entry)) (now (c .entry))) output) [] ⌝ }
@@ -106,7 +104,7 @@ pub fn norms(m: u32, a: &[u32], b: &[u32], c: &[u32], output: usize) -> Answer
     rows(m, a, b, c)
 }
 
-// Moments: 3 4 5 7 8 9 10 11.
+// Moments: 3 4 5 7 8 9 17 10 18 11.
 pub fn moments(m: u32, a: &[u32], b: &[u32], c: &[u32], output: usize, work: usize) -> Answer
     ensures { λ r. ⌜ answered r ≡ verdict
         (momentsTests (family m (now (a .entry)) (now (b .entry)) (now (c .entry))) output work) [] ⌝ }
@@ -184,7 +182,7 @@ pub fn sizes(
     checks::work_length(work)
 }
 
-// The call that writes a job: 3 4 5 6 7 9 10 11 12.
+// The call that writes a job: 3 4 5 6 7 9 17 10 18 11 12.
 pub fn writing(
     m: u32,
     a: &[u32],
@@ -213,20 +211,20 @@ pub fn writing(
     values(m, a, b, c, curve)
 }
 
-// Inverse: 3 12 13, with the inverse where none of them holds.
-pub fn inverse(m: u32, x: u32) -> Valued
-    ensures { λ r. ⌜ valued r ≡ verdict (inverseTests m x) (Number.inverse m x ∷ []) ⌝ }
+// Inverse: 3 12 13, with the inverse where none of them holds, and the greatest common factor there and with 13.
+pub fn inverse(m: u32, x: u32) -> InverseAnswer
+    ensures { λ r. ⌜ InverseCall m x (inverseAnswered r) [] (inverseHanded r) [] (factorHanded r) ⌝ }
 {
     let range = checks::modulus(m);
     if let Answer::Refused(k) = range {
-        return Valued::Refused(k);
+        return InverseAnswer::Refused(k);
     }
     let below = checks::number_below(m, x);
     if let Answer::Refused(k) = below {
-        return Valued::Refused(k);
+        return InverseAnswer::Refused(k);
     }
-    let Inversion::Found(y) = residue::invert(m, x) else {
-        return Valued::Refused(13);
-    };
-    Valued::Value(y)
+    match residue::invert(m, x) {
+        Inversion::Found(y) => InverseAnswer::Found(y, 1),
+        Inversion::Absent(g) => InverseAnswer::NoInverse(g),
+    }
 }

@@ -2,16 +2,15 @@
 // refusal number, a change with the record after it. None has a 'requires', and each has one 'ensures' that settles the number and what is lent on every input.
 ghost use mathlib.Core.Path.{_≡_};
 ghost use mathlib.Core.List.{[], _∷_};
-ghost use Rattle.definitions.specs.Answers.{answered, Converted, PlainCall, TreeCall, NormsCall, MomentsCall};
+ghost use Rattle.definitions.specs.Answers.{answered, InverseCall, PlainCall, TreeCall, NormsCall, MomentsCall};
 ghost use Rattle.definitions.specs.Conversion.{expand, adjoint, decompose};
 ghost use Rattle.definitions.specs.Family.{family, rowOf};
-ghost use Rattle.definitions.specs.Number as Number;
 ghost use Rattle.definitions.specs.Prepared.{EmptyCall, AppendCall, DropCall, ReplaceCall};
 ghost use Rattle.definitions.specs.PreparedCalls.{PreparedPlainCall, PreparedTreeCall, PreparedNormsCall, PreparedMomentsCall};
-ghost use Rattle.definitions.specs.Refusals.{inverseTests};
 ghost use Rattle.prepared.specs.Held.{held};
 ghost use Rattle.zahupnik.specs.Returned.{returned, number, TextReturned, choice, jobFor, JobReturned};
 use definitions::Answer;
+use definitions::InverseAnswer;
 use definitions::Operation;
 use definitions::Valued;
 use prepared::Change;
@@ -40,18 +39,23 @@ fn number(answer: Answer) -> u32
     }
 }
 
-// Inverse, written to the lent number. Refused as plain_calls::invert is.
+// Inverse and the greatest common factor, written to the lent numbers. Refused as plain_calls::invert is, with 13 after the factor is written.
 #[no_mangle]
-pub extern "C" fn zahupnik_invert(m: u32, x: u32, inverse: &mut u32) -> u32
-    ensures { λ r. ⌜ Converted (inverseTests m x) (Number.inverse m x ∷ []) (returned r)
-        (now (inverse .entry) ∷ []) (now (inverse .exit) ∷ []) ⌝ }
+pub extern "C" fn zahupnik_invert(m: u32, x: u32, inverse: &mut u32, factor: &mut u32) -> u32
+    ensures { λ r. ⌜ InverseCall m x (returned r) (now (inverse .entry) ∷ []) (now (inverse .exit) ∷ [])
+        (now (factor .entry) ∷ []) (now (factor .exit) ∷ []) ⌝ }
 {
     match plain_calls::invert(m, x) {
-        Valued::Value(y) => {
+        InverseAnswer::Found(y, g) => {
             *inverse = y;
+            *factor = g;
             0
         }
-        Valued::Refused(k) => k,
+        InverseAnswer::NoInverse(g) => {
+            *factor = g;
+            13
+        }
+        InverseAnswer::Refused(k) => k,
     }
 }
 
