@@ -19,7 +19,7 @@ use Rattle.definitions.specs.Refusals.{workTest, curveEntriesTest, shapeTests, 
 use Rattle.definitions.specs.Refusals.{plainTests, treeTests, momentsTests, normsTests, inverseTests}
 use Rattle.numbers.specs.Inverse.{one-has-inverse}
 use Rattle.acceptance.specs.Verdicts.{None, none-append, verdict-finished, modulus-passes, equal-lengths-pass, row-count-passes}
-use Rattle.acceptance.specs.Verdicts.{entries-pass, a-inverses-pass, c-inverses-pass, curve-length-passes}
+use Rattle.acceptance.specs.Verdicts.{entries-pass, a-inverses-pass, c-inverses-pass, a-zeros-pass, c-zeros-pass, curve-length-passes}
 use Rattle.acceptance.specs.Verdicts.{curve-entries-pass, output-passes, work-passes, number-passes, number-inverse-passes}
 
 pub accepted-convertible : (f : Family) → Accepted f → Convertible f
@@ -69,7 +69,7 @@ module _ (f : Family) where
   family-passes = (to, from)
     where
       to : None (familyShape f) × None (familyRows f) → Accepted f
-      to ((e3, (e4, (e5, done))), (e9, (e10, (e11, done′)))) =
+      to ((e3, (e4, (e5, done))), (e9, (e17, (e10, (e18, (e11, done′)))))) =
           let modulus : Modulus (f .m) = modulus-passes (f .m) .0 e3 in
           let lengths = equal-lengths-pass (rows f) (length (f .b)) (length (f .c)) .0 e4 in
           let two : 2 ≤ f .m = modulus .least in
@@ -96,8 +96,14 @@ module _ (f : Family) where
             (
               entries-pass f .1 (acc .below),
               (
-                a-inverses-pass f (omega arith) .1 (acc .aInverse),
-                (c-inverses-pass f (omega arith) firstC .1 (acc .cInverse), tt),
+                a-zeros-pass f (omega arith) (acc .aInverse),
+                (
+                  a-inverses-pass f (omega arith) .1 (acc .aInverse),
+                  (
+                    c-zeros-pass f (omega arith) firstC (acc .cInverse),
+                    (c-inverses-pass f (omega arith) firstC .1 (acc .cInverse), tt),
+                  ),
+                ),
               ),
             ),
           )

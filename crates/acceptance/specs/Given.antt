@@ -10,7 +10,7 @@ use mathlib.Core.List.{List, [], _∷_, _++_}
 use Prim.Native.Nat.{ℕ}
 use Rattle.definitions.specs.Family.{Family}
 use Rattle.definitions.specs.Refusals.{Test, Verdict, finished, refused, verdict}
-use Rattle.definitions.specs.Refusals.{modulusTest, equalLengthsTest, rowCountTest, curveLengthTest, entriesTest, aInverseTest, cInverseTest}
+use Rattle.definitions.specs.Refusals.{modulusTest, equalLengthsTest, rowCountTest, curveLengthTest, entriesTest, aZeroTest, aInverseTest, cZeroTest, cInverseTest}
 use Rattle.definitions.specs.Refusals.{curveEntriesTest, shapeTests, rowInverses, familyRows, valueTests}
 use Rattle.definitions.specs.TextCall.{textOutputTest, lengthTests}
 use Rattle.definitions.specs.declared.Operation.{Operation}
@@ -50,13 +50,14 @@ module _ (P : ℕ → Type 0) where
   unfolding shapeTests modulusTest equalLengthsTest rowCountTest
   shape-given m a b c three four five = (λ e. three, (λ e. four, (λ e. five, tt)))
 
-  pub rows-given : (f : Family) → P 9 → P 10 → P 11 → Given P (familyRows f)
-  unfolding rowInverses familyRows entriesTest aInverseTest cInverseTest
-  rows-given f nine ten eleven = (λ e. nine, (λ e. ten, (λ e. eleven, tt)))
+  pub rows-given : (f : Family) → P 9 → P 17 → P 10 → P 18 → P 11 → Given P (familyRows f)
+  unfolding rowInverses familyRows entriesTest aZeroTest aInverseTest cZeroTest cInverseTest
+  rows-given f nine seventeen ten eighteen eleven = (λ e. nine, (λ e. seventeen, (λ e. ten, (λ e. eighteen, (λ e. eleven, tt)))))
 
-  pub values-given : (f : Family) (u : List ℕ) → P 9 → P 10 → P 11 → P 12 → Given P (valueTests f u)
+  pub values-given : (f : Family) (u : List ℕ) → P 9 → P 17 → P 10 → P 18 → P 11 → P 12 → Given P (valueTests f u)
   unfolding valueTests curveEntriesTest
-  values-given f u nine ten eleven twelve = given-append (familyRows f) _ (rows-given f nine ten eleven) (λ e. twelve, tt)
+  values-given f u nine seventeen ten eighteen eleven twelve =
+      given-append (familyRows f) _ (rows-given f nine seventeen ten eighteen eleven) (λ e. twelve, tt)
 
   pub lengths-given : (m : ℕ) (operation : Operation) (a b c u least output : ℕ) → P 3 → P 4 → P 5 → P 6
       → (textOutputTest least output .holds ≡ true → P 7) → Given P (lengthTests m operation a b c u least output)

@@ -1,11 +1,11 @@
--- From which row on 11 looks at the c.
---   callFrom first f   the tests of a call on a family, with 11 from place first on
---   CallOf f ts        ts are the tests of a call on f, with 11 as it is: before the family's shape, between it and the rows, and after these
---                      stand whatever tests
+-- From which row on 18 and 11 look at the c.
+--   callFrom first f   the tests of a call on a family, with 18 and 11 from place first on
+--   CallOf f ts        ts are the tests of a call on f, with 18 and 11 as they are: before the family's shape, between it and the rows, and after
+--                      these stand whatever tests
 -- Proved: the tests of each call are of that form (plain-call and so on), and where every c has an inverse, their verdict is the same with
--- 11 from any place on, whatever the modulus. So such a family gets the answers that it would get with 11 from row 1 on. Item 2 of the
--- change requests. Assumes nothing.
-use mathlib.Core.Path.{_≡_, refl, sym, _∙_, ap}
+-- 18 and 11 from any place on, whatever the modulus. So such a family gets the answers that it would get with them from row 1 on. Item 2 of
+-- the change requests. Assumes nothing.
+use mathlib.Core.Path.{_≡_, refl, sym, _∙_, ap, ap₂}
 use mathlib.Core.Bool.{false}
 use mathlib.Core.List.{List, [], _∷_, _++_}
 use Prim.Native.Nat.{ℕ, zero, suc, _<_}
@@ -15,13 +15,13 @@ use Rattle.definitions.specs.Number.{HasInverse}
 use Rattle.definitions.specs.Family.{Family, firstC, rows, size, rowAt}
 use Rattle.definitions.specs.JobWriting.{jobOutputLength, writingTests}
 use Rattle.definitions.specs.Orthogonality.{momentCount}
-use Rattle.definitions.specs.Refusals.{Test, refused, verdict, test, modulusTest, entriesTest, aInverseTest, cInverseTest, shapeTests}
+use Rattle.definitions.specs.Refusals.{Test, refused, verdict, test, modulusTest, entriesTest, aZeroTest, aInverseTest, cZeroTest, cInverseTest, shapeTests}
 use Rattle.definitions.specs.Refusals.{curveLengthTest, outputTest, workTest, curveEntriesTest, familyShape, rowInverses, familyRows, valueTests}
 use Rattle.definitions.specs.Refusals.{plainTests, treeTests, momentsTests, normsTests}
 use Rattle.definitions.specs.Reading.{found}
 use Rattle.definitions.specs.Text.{WrittenJob, Job, meant}
 use Rattle.definitions.specs.TextCall.{textOutputLength, textLengthTest, curveCount, textOutputTest, lengthTests, sizeTests, jobTests, formTests}
-use Rattle.acceptance.specs.Verdicts.{verdict-here, verdict-behind, c-inverses-pass}
+use Rattle.acceptance.specs.Verdicts.{verdict-here, verdict-behind, c-inverses-pass, c-zeros-pass}
 
 abbrev pub callFrom : ℕ → Family → List Test → List Test → List Test → List Test
 callFrom first f before between after = before ++ (familyShape f ++ (between ++ ((entriesTest f ∷ rowInverses first f) ++ after)))
@@ -91,6 +91,11 @@ module _ (f : Family) (all : (i : ℕ) → i < size f → HasInverse (f .m) (row
   c-from-any-row pos first later =
       ap (test 11) (c-inverses-pass f pos first .1 (λ i l h. all i h) ∙ sym (c-inverses-pass f pos later .1 (λ i l h. all i h)))
 
+  zeros-from-any-row : 0 < f .m → (first later : ℕ) → cZeroTest first f ≡ cZeroTest later f
+  unfolding cZeroTest
+  zeros-from-any-row pos first later =
+      ap (test 18) (c-zeros-pass f pos first (λ i l h. all i h) ∙ sym (c-zeros-pass f pos later (λ i l h. all i h)))
+
   module _ (between after : List Test) (values : List ℕ) where
     -- no call takes the modulus 0
     zero-stops : f .m ≡ 0 → (first : ℕ) → verdict (callFrom first f [] between after) values ≡ refused 3
@@ -105,8 +110,9 @@ module _ (f : Family) (all : (i : ℕ) → i < size f → HasInverse (f .m) (row
         split : (m : ℕ) → f .m ≡ m
             → verdict (callFrom first f [] between after) values ≡ verdict (callFrom later f [] between after) values
         split zero e = zero-stops e first ∙ sym (zero-stops e later)
-        split (suc m) e = ap (λ t. verdict (familyShape f ++ (between ++ ((entriesTest f ∷ aInverseTest f ∷ t ∷ []) ++ after))) values)
-            (c-from-any-row (omega arith) first later)
+        split (suc m) e = ap₂ (λ s t. verdict
+            (familyShape f ++ (between ++ ((entriesTest f ∷ aZeroTest f ∷ aInverseTest f ∷ s ∷ t ∷ []) ++ after))) values)
+            (zeros-from-any-row (omega arith) first later) (c-from-any-row (omega arith) first later)
 
   pub verdict-from-any-row : (ts : List Test) (call : CallOf f ts) (first : ℕ) (values : List ℕ)
       → verdict (callFrom first f (call .before) (call .between) (call .after)) values ≡ verdict ts values

@@ -15,12 +15,13 @@ use native.Mathlib.Nat.{le-of-suc-le-suc, eq-or-lt-of-le}
 use native.Mathlib.Omega.{arith}
 use lib.Dec.{eqb, ltb, leb}
 use lib.ListN.{length, getD}
-use borrow.Author.Tests.{eq-eqb, eqb-true, le-leb, le-ltb, leb-false, lt-leb, ltb-false, not-false}
+use borrow.Author.Tests.{eq-eqb, eqb-true, eqb-false, ne-eqb, le-leb, le-ltb, leb-false, lt-leb, ltb-false, not-false}
 use Rattle.definitions.specs.Number.{HasInverse, inverse}
 use Rattle.definitions.specs.Family.{Row, Family, Modulus, RowBelow, mostRows, size, rowAt}
-use Rattle.definitions.specs.Refusals.{Test, Verdict, finished, refused, verdict, some, someFrom, someRow, differ, notBelow, noInverse}
+use Rattle.definitions.specs.Refusals.{Test, Verdict, finished, refused, verdict, some, someFrom, lowestFrom, someRow, lowestRow}
+use Rattle.definitions.specs.Refusals.{differ, notBelow, noInverse}
 use Rattle.definitions.specs.Refusals.{workLength, modulusTest, equalLengthsTest, rowCountTest, curveLengthTest, outputTest, workTest}
-use Rattle.definitions.specs.Refusals.{entriesTest, aInverseTest, cInverseTest, curveEntriesTest, numberTest, numberInverseTest}
+use Rattle.definitions.specs.Refusals.{entriesTest, aZeroTest, aInverseTest, cZeroTest, cInverseTest, curveEntriesTest, numberTest, numberInverseTest}
 use Rattle.definitions.specs.TextCall.{mostBytes, textLengthTest, textOutputTest}
 use Rattle.numbers.specs.Inverse.{inverse-right}
 use Rattle.numbers.specs.Lists.{Each}
@@ -108,6 +109,9 @@ pub notBelow-false : (m x : ℕ) → (notBelow m x ≡ false) ↔ (x < m)
 unfolding notBelow
 notBelow-false m x = (leb-false m x, lt-leb m x)
 
+pub zero-false : (x : ℕ) → (eqb x 0 ≡ false) ↔ (0 < x)
+zero-false x = (λ e. let other : x ≡ 0 → ⊥ = eqb-false x 0 e in omega arith, λ h. ne-eqb x 0 (λ e. omega arith))
+
 ltb-fails : (x y : ℕ) → (ltb x y ≡ false) ↔ (y ≤ x)
 ltb-fails x y = (ltb-false x y, le-ltb x y)
 
@@ -179,6 +183,43 @@ someFrom-false passes first (suc count) = split (passes first) refl (someFrom-fa
         to e i l h = ⊎-elim (λ (same : first ≡ i). subst (λ k. passes k ≡ false) same q)
             (λ (more : first < i). rest .0 e i (omega arith) (omega arith)) (eq-or-lt-of-le {n = first} {m = i} l)
 
+-- the lowest that passes
+lowest-here : (passes also : ℕ → Bool) (first count : ℕ) → passes first ≡ true → lowestFrom passes also first (suc count) ≡ also first
+unfolding lowestFrom
+lowest-here passes also first count e = rw (e, lowestFrom)
+
+lowest-next : (passes also : ℕ → Bool) (first count : ℕ) → passes first ≡ false
+    → lowestFrom passes also first (suc count) ≡ lowestFrom passes also (suc first) count
+unfolding lowestFrom
+lowest-next passes also first count e = rw (e, lowestFrom)
+
+pub lowest-none : (passes also : ℕ → Bool) (first count : ℕ) → Within passes first count → lowestFrom passes also first count ≡ false
+unfolding lowestFrom
+lowest-none passes also first zero none = refl
+lowest-none passes also first (suc count) none =
+    lowest-next passes also first count (none first (omega arith) (omega arith))
+    ∙ lowest-none passes also (suc first) count (λ i l h. none i (omega arith) (omega arith))
+
+pub lowest-is : (passes also : ℕ → Bool) (first count i : ℕ) → first ≤ i → i < first + count → Within passes first (i - first)
+    → passes i ≡ true → lowestFrom passes also first count ≡ also i
+lowest-is passes also first zero i l h none e = absurd (omega arith)
+lowest-is passes also first (suc count) i l h none e = ⊎-elim
+    (λ (same : first ≡ i). lowest-here passes also first count (subst (λ k. passes k ≡ true) (sym same) e) ∙ ap also same)
+    (λ (more : first < i).
+    lowest-next passes also first count (none first (omega arith) (omega arith))
+    ∙ lowest-is passes also (suc first) count i (omega arith) (omega arith) (λ j k g. none j (omega arith) (omega arith)) e)
+    (eq-or-lt-of-le {n = first} {m = i} l)
+
+pub lowest-equal : (passes passes′ also also′ : ℕ → Bool) (first count : ℕ) → ((i : ℕ) → first ≤ i → passes i ≡ passes′ i)
+    → ((i : ℕ) → first ≤ i → also i ≡ also′ i) → lowestFrom passes also first count ≡ lowestFrom passes′ also′ first count
+unfolding lowestFrom
+lowest-equal passes passes′ also also′ first zero same so = refl
+lowest-equal passes passes′ also also′ first (suc count) same so =
+    let further = lowest-equal passes passes′ also also′ (suc first) count (λ i l. same i (omega arith)) (λ i l. so i (omega arith)) in
+    ap₂ (λ (here : Bool) (this : Bool). elim here [ true ↦ this | false ↦ lowestFrom passes also (suc first) count ])
+    (same first (omega arith)) (so first (omega arith))
+    ∙ ap (λ (rest : Bool). elim (passes′ first) [ true ↦ also′ first | false ↦ rest ]) further
+
 pub someFrom-equal : (passes passes′ : ℕ → Bool) (first count : ℕ) → ((i : ℕ) → first ≤ i → passes i ≡ passes′ i)
     → someFrom passes first count ≡ someFrom passes′ first count
 unfolding someFrom
@@ -192,6 +233,11 @@ pub someRow-false : (f : Family) (first : ℕ) (passes : Row → Bool)
 unfolding someRow
 someRow-false f first passes = Iff·trans (someFrom-false (λ i. passes (rowAt f i)) first (size f - first))
     (λ all i l h. all i l (omega arith), λ all i l h. all i l (omega arith))
+
+lowestRow-none : (f : Family) (first : ℕ) (passes also : Row → Bool)
+    → ((i : ℕ) → first ≤ i → i < size f → passes (rowAt f i) ≡ false) → lowestRow f first passes also ≡ false
+unfolding lowestRow
+lowestRow-none f first passes also none = lowest-none _ _ first (size f - first) (λ i l h. none i l (omega arith))
 
 module _ (m : ℕ) (xs : List ℕ) (d : ℕ) where
   pub some-notBelow-false : (some (notBelow m) xs ≡ false) ↔ Each (λ x. x < m) xs d
@@ -285,3 +331,12 @@ module _ (f : Family) where
       λ all i l h. noInverse-false (f .m) (rowAt f i .c) pos .0 (all i l h),
       λ all i l h. noInverse-false (f .m) (rowAt f i .c) pos .1 (all i l h),
     )
+
+    -- where all have inverses there is no lowest without one
+    pub a-zeros-pass : ((i : ℕ) → i < size f → HasInverse (f .m) (rowAt f i .a)) → aZeroTest f .holds ≡ false
+    unfolding aZeroTest
+    a-zeros-pass all = lowestRow-none f 0 _ _ (λ i l h. noInverse-false (f .m) (rowAt f i .a) pos .1 (all i h))
+
+    pub c-zeros-pass : (first : ℕ) → ((i : ℕ) → first ≤ i → i < size f → HasInverse (f .m) (rowAt f i .c)) → cZeroTest first f .holds ≡ false
+    unfolding cZeroTest
+    c-zeros-pass first all = lowestRow-none f first _ _ (λ i l h. noInverse-false (f .m) (rowAt f i .c) pos .1 (all i l h))

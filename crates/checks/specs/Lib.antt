@@ -3,4 +3,5 @@ pub mod Passes
 pub mod Settling
 pub mod Shape
 pub mod RowTests
+pub mod Columns
 pub mod NewRow

@@ -1,17 +1,17 @@
--- The tests 9, 10 and 11 of one row, settled one after another.
--- Proved: what they come to where a number of the row is not below m, where its a or its c has no inverse, and where they pass.
+-- The tests 9, 17, 10, 18 and 11 of one row, settled one after another.
+-- Proved: what they come to where a number of the row is not below m, where its a or its c is zero or has no inverse, and where they pass.
 -- Assumes nothing.
 use mathlib.Core.Path.{_≡_, _∙_}
 use mathlib.Core.Bool.{false, _||_, _&&_}
 use mathlib.Core.List.{[], _∷_}
 use mathlib.Core.Logic.{_↔_, Iff·trans}
 use Prim.Native.Nat.{ℕ, _<_, _≤_}
-use lib.Dec.{leb}
+use lib.Dec.{eqb, leb}
 use Rattle.definitions.specs.Family.{Row, RowBelow, rowOf, firstC}
 use Rattle.definitions.specs.Number.{HasInverse}
 use Rattle.definitions.specs.Prepared.{rowTests}
 use Rattle.definitions.specs.Refusals.{Test, Verdict, finished, refused, verdict, test, notBelow, noInverse}
-use Rattle.acceptance.specs.Verdicts.{row-below-false, noInverse-false, from-false}
+use Rattle.acceptance.specs.Verdicts.{row-below-false, zero-false, noInverse-false, from-false}
 use Rattle.checks.specs.Settling.{refuses, goes-on, refuses-alone, finishes}
 
 pub all-below : {m a b c : ℕ} → a < m → b < m → c < m → RowBelow m (rowOf a b c)
@@ -21,8 +21,14 @@ module _ (m place : ℕ) (row : Row) (pos : 0 < m) where
   abbrev nine : Test
   nine = test 9 (notBelow m (row .a) || notBelow m (row .b) || notBelow m (row .c))
 
+  abbrev seventeen : Test
+  seventeen = test 17 (eqb (row .a) 0)
+
   abbrev ten : Test
   ten = test 10 (noInverse m (row .a))
+
+  abbrev eighteen : Test
+  eighteen = test 18 (leb firstC place && eqb (row .c) 0)
 
   abbrev eleven : Test
   eleven = test 11 (leb firstC place && noInverse m (row .c))
@@ -30,7 +36,14 @@ module _ (m place : ℕ) (row : Row) (pos : 0 < m) where
   abbrev whole : Verdict
   whole = verdict (rowTests m place row) []
 
-  c-passes : (eleven .holds ≡ false) ↔ (firstC ≤ place → HasInverse m (row .c))
+  -- what is asked of the c
+  abbrev Asked : Type 0 → Type 0
+  Asked P = firstC ≤ place → P
+
+  c-some : (eighteen .holds ≡ false) ↔ Asked (0 < row .c)
+  c-some = Iff·trans (from-false firstC place (eqb (row .c) 0)) (λ h l. zero-false (row .c) .0 (h l), λ h l. zero-false (row .c) .1 (h l))
+
+  c-passes : (eleven .holds ≡ false) ↔ Asked (HasInverse m (row .c))
   c-passes = Iff·trans (from-false firstC place (noInverse m (row .c))) (
     λ h l. noInverse-false m (row .c) pos .0 (h l),
     λ h l. noInverse-false m (row .c) pos .1 (h l),
@@ -41,19 +54,33 @@ module _ (m place : ℕ) (row : Row) (pos : 0 < m) where
   row-outside n = refuses nine (row-below-false m row) _ [] n
 
   module _ (below : RowBelow m row) where
-    past-nine : verdict (ten ∷ eleven ∷ []) [] ≡ whole
+    past-nine : verdict (seventeen ∷ ten ∷ eighteen ∷ eleven ∷ []) [] ≡ whole
     unfolding rowTests
     past-nine = goes-on nine (row-below-false m row) _ [] below
 
-    pub row-a-lacks : (HasInverse m (row .a) → ⊥) → refused 10 ≡ whole
-    row-a-lacks n = refuses ten (noInverse-false m (row .a) pos) _ [] n ∙ past-nine
+    pub row-a-zero : (0 < row .a → ⊥) → refused 17 ≡ whole
+    row-a-zero n = refuses seventeen (zero-false (row .a)) _ [] n ∙ past-nine
 
-    module _ (aHas : HasInverse m (row .a)) where
-      past-ten : verdict (eleven ∷ []) [] ≡ whole
-      past-ten = goes-on ten (noInverse-false m (row .a) pos) _ [] aHas ∙ past-nine
+    module _ (aSome : 0 < row .a) where
+      past-seventeen : verdict (ten ∷ eighteen ∷ eleven ∷ []) [] ≡ whole
+      past-seventeen = goes-on seventeen (zero-false (row .a)) _ [] aSome ∙ past-nine
 
-      pub row-c-lacks : ((firstC ≤ place → HasInverse m (row .c)) → ⊥) → refused 11 ≡ whole
-      row-c-lacks n = refuses-alone eleven c-passes n ∙ past-ten
+      pub row-a-lacks : (HasInverse m (row .a) → ⊥) → refused 10 ≡ whole
+      row-a-lacks n = refuses ten (noInverse-false m (row .a) pos) _ [] n ∙ past-seventeen
 
-      pub row-passes : (firstC ≤ place → HasInverse m (row .c)) → finished [] ≡ whole
-      row-passes h = finishes eleven c-passes h ∙ past-ten
+      module _ (aHas : HasInverse m (row .a)) where
+        past-ten : verdict (eighteen ∷ eleven ∷ []) [] ≡ whole
+        past-ten = goes-on ten (noInverse-false m (row .a) pos) _ [] aHas ∙ past-seventeen
+
+        pub row-c-zero : (Asked (0 < row .c) → ⊥) → refused 18 ≡ whole
+        row-c-zero n = refuses eighteen c-some _ [] n ∙ past-ten
+
+        module _ (cSome : Asked (0 < row .c)) where
+          past-eighteen : verdict (eleven ∷ []) [] ≡ whole
+          past-eighteen = goes-on eighteen c-some _ [] cSome ∙ past-ten
+
+          pub row-c-lacks : (Asked (HasInverse m (row .c)) → ⊥) → refused 11 ≡ whole
+          row-c-lacks n = refuses-alone eleven c-passes n ∙ past-eighteen
+
+          pub row-passes : Asked (HasInverse m (row .c)) → finished [] ≡ whole
+          row-passes h = finishes eleven c-passes h ∙ past-eighteen

@@ -1,6 +1,6 @@
 -- Inverses modulo m, for general m.
 -- Proved: the search of `definitions` finds an inverse where there is one, below m, and answers 0 where there is none; there is at
--- most one below m; whether x has one, and which, depends on the remainder of x only; a product has one if and only if both
+-- most one below m; zero has none; whether x has one, and which, depends on the remainder of x only; a product has one if and only if both
 -- factors have.
 -- Assumes nothing.
 use mathlib.Core.Path.{_≡_, refl, sym, _∙_, ap, ap₂}
@@ -8,7 +8,7 @@ use mathlib.Core.Bool.{true, false}
 use mathlib.Core.Logic.{_↔_, _⊎_, inl, inr, ⊎-elim}
 use Prim.Native.Nat.{ℕ, zero, suc, _*_, _-_, _%_, _<_, _≤_}
 use native.Mathlib.Decide.{ℕ-discrete}
-use native.Mathlib.Nat.{mod-eq-of-lt, mod-lt, mul-assoc, mul-comm, mul-left-comm, mul-mul-mul-comm, mul-one, one-mul}
+use native.Mathlib.Nat.{mod-eq-of-lt, mod-lt, mul-assoc, mul-comm, mul-left-comm, mul-mul-mul-comm, mul-one, one-mul, zero-mod, zero-mul}
 use native.Mathlib.Omega.{arith}
 use lib.Dec.{eqb}
 use borrow.Author.Tests.{eq-eqb, ne-eqb}
@@ -69,6 +69,11 @@ module _ (m x : ℕ) where
   inverse-unique y h l e =
       let p : 0 < m = omega arith in
       sym (mod-eq-of-lt l) ∙ inverses-agree y (inverse m x) e (inverse-right p (y, e)) ∙ mod-eq-of-lt (inverse-below p)
+
+pub has-inverse-positive : (m x : ℕ) → HasInverse m x → 0 < x
+unfolding HasInverse
+has-inverse-positive m zero (y, e) = absurd (omega (arith, sym (ap (λ t. t % m) (zero-mul y) ∙ zero-mod m) ∙ e))
+has-inverse-positive m (suc x) has = omega arith
 
 pub one-has-inverse : (m : ℕ) → 1 < m → HasInverse m 1
 unfolding HasInverse

@@ -1,7 +1,7 @@
 -- Lists of numbers and numbers modulo m, before any family:
 --   lists by their entries, tables, sums: Lists, Sums
 --   parts of a list, and what is written into one: Regions
---   inverses, running products, residues as a ring, the greatest common factor: Inverse, RunningProduct, Residue, Euclid
+--   inverses, running products, residues as a ring, the greatest common factor: Inverse, RunningProduct, Residue, Euclid, Factor
 --   products of polynomials and transposed products, on lists: Products
 -- Assumes nothing.
 pub mod Lists
@@ -11,4 +11,5 @@ pub mod Inverse
 pub mod RunningProduct
 pub mod Residue
 pub mod Euclid
+pub mod Factor
 pub mod Products

@@ -2,15 +2,17 @@
 --   IsInverse m x y      y is the inverse of x modulo m
 --   SharesFactor m x g   no number below m is an inverse of x, and g is the greatest common factor of x and m
 --   InversionAnswer m x r       what the answer r says of x and m: the one or the other
--- Proved: this settles the answer; and which of the two it is says whether `definitions`' test for an inverse holds.
+-- Proved: this settles the answer; which of the two it is says whether `definitions`' test for an inverse holds; and what is told, or 1 where
+-- there is an inverse, is the greatest common factor of `definitions`.
 -- Assumes nothing.
 use mathlib.Core.Path.{_≡_, sym, _∙_, ap, subst}
 use mathlib.Core.Bool.{true, false}
-use Prim.Native.Nat.{ℕ, _*_, _%_, _<_}
+use Prim.Native.Nat.{ℕ, _*_, _%_, _<_, _≤_}
 use native.Mathlib.Omega.{arith}
-use Rattle.definitions.specs.Number.{HasInverse, inverse}
+use Rattle.definitions.specs.Number.{HasInverse, inverse, greatestFactor}
 use Rattle.definitions.specs.Refusals.{noInverse}
 use Rattle.numbers.specs.Euclid.{GreatestFactor, greatest-factor-unique}
+use Rattle.numbers.specs.Factor.{factor-is, factor-one}
 use Rattle.numbers.specs.Inverse.{inverse-right, inverse-below}
 use Rattle.acceptance.specs.Verdicts.{noInverse-false, noInverse-true}
 use Rattle.residue.specs.declared.Inversion.{Inversion}
@@ -55,3 +57,9 @@ module _ (m x : ℕ) where
   pub absent-fails : (g : ℕ) → 0 < m → SharesFactor m x g → noInverse m x ≡ true
   absent-fails g pos absent =
       noInverse-true m x pos .1 (λ i. absent .none (inverse m x) (inverse-below m x pos) (inverse-right m x pos i))
+
+  pub found-factor : (y : ℕ) → 2 ≤ m → IsInverse m x y → 1 ≡ greatestFactor m x
+  found-factor y two found = sym (factor-one m x two .0 (found-has y found))
+
+  pub absent-factor : (g : ℕ) → 0 < m → SharesFactor m x g → g ≡ greatestFactor m x
+  absent-factor g pos absent = factor-is m x pos g (absent .factor)
