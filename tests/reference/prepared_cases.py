@@ -428,7 +428,7 @@ def new_rows_with_reasons(source):
 
 
 def records_with_reasons(source):
-    """14: consistent records of families with zeros and shared factors, and new rows with a zero."""
+    """Consistent records of families with zeros and shared factors: 14, but for those in c_1."""
     for family, _, verdict in reasons.families(source, ((7, 2, 1), (15, 3, 1))):
         if verdict != 12:
             steps = [("append", 0, 0, 0), ("replace", 1, 0, 1, 0), ("replace", 2, 1, 1, 0)]

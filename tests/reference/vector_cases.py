@@ -235,11 +235,11 @@ def inverse_cases():
 
 
 def cases_of_call(call):
-    """The cases of a call, always the same ones in the same order."""
+    """The cases of a call but reasons_of_call, always the same ones in the same order."""
     return list(inverse_cases() if call == cases.INVERSE else family_cases(call))
 
 
-def further_cases_of_call(call):
-    """Those about zeros, shared factors and the factor that is told; always the same."""
+def reasons_of_call(call):
+    """The cases about zero and shared factors, of the inverse those about the factor it tells."""
     source = SplitMix64(SEED + 5)
     return list(factor_cases(source) if call == cases.INVERSE else reason_cases(source, call))

@@ -26,7 +26,7 @@ import tempfile
 from itertools import zip_longest
 
 import cases
-from vector_cases import cases_of_call, further_cases_of_call
+from vector_cases import cases_of_call, reasons_of_call
 
 SUM_MODULUS = 4294967291
 
@@ -88,7 +88,7 @@ def vectors(selection):
     """
     chosen = [
         case
-        for cases_of in (cases_of_call, further_cases_of_call)
+        for cases_of in (cases_of_call, reasons_of_call)
         for call in selection
         for case in cases_of(call)
     ]
