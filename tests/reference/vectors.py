@@ -9,9 +9,11 @@ ended by byte 10, every list preceded by its length. A line of IN is
 
 with the call's number, the lists before the call and v as cases.py says. A
 line of OUT is the answer (0 or the refusal number), the output after the call
-preceded by its length (for the inverse: the one inverse, or nothing) and, for
-a call that is lent a working list, two numbers more: how many of its numbers
-are zero after the call, and their sum modulo 4294967291.
+preceded by its length (for the inverse: the one inverse, or nothing) and then,
+for the inverse, the greatest common factor in the same way (one number, or
+nothing where none is told) or, for a call that is lent a working list, two
+numbers more: how many of its numbers are zero after the call, and their sum
+modulo 4294967291.
 
 Without --check both files are written, or neither. With it they are compared
 byte for byte: exit 1 if they differ. Bad arguments exit with 2.
@@ -24,7 +26,7 @@ import tempfile
 from itertools import zip_longest
 
 import cases
-from vector_cases import cases_of_call
+from vector_cases import cases_of_call, reasons_of_call
 
 SUM_MODULUS = 4294967291
 
@@ -62,6 +64,8 @@ def input_line(case):
 def outcome_line(outcome):
     """The line of OUT for what a call leaves."""
     numbers = [outcome.verdict, *with_length(outcome.output)]
+    if outcome.factor is not None:
+        numbers += with_length(outcome.factor)
     if outcome.working is not None:
         numbers += [outcome.working.count(0), sum(outcome.working) % SUM_MODULUS]
     return line(numbers)
@@ -78,8 +82,16 @@ def contents_of(found, *lines):
 
 
 def vectors(selection):
-    """The bytes of IN and of OUT for the selected calls, in order of number."""
-    chosen = [case for call in selection for case in cases_of_call(call)]
+    """The bytes of IN and of OUT for the selected calls, in order of number.
+
+    Zeros and shared factors stand behind all else.
+    """
+    chosen = [
+        case
+        for cases_of in (cases_of_call, reasons_of_call)
+        for call in selection
+        for case in cases_of(call)
+    ]
     return contents_of(chosen, input_line, expected_line)
 
 

@@ -11,6 +11,7 @@ import calls
 import faults
 import first_c
 import jobs
+import reasons
 from check_figures import NO_ROWS_7, P10_FAMILY, P12_FAMILY, R, ones
 from check_texts import OUTPUT_BEFORE
 from curves import Family
@@ -115,7 +116,7 @@ def writing_faults(case, number):
 
 def refusals(operation):
     """The numbers that a job of this operation can be refused with: 12 needs a curve."""
-    return (2, 3, 4, 5, 6, 7, 9, 10, 11) + ((12,) if takes_curve(operation) else ())
+    return (2, 3, 4, 5, 6, 7, 9, 17, 10, 18, 11) + ((12,) if takes_curve(operation) else ())
 
 
 def figures(operation):
@@ -190,19 +191,28 @@ def long_lists(operation):
 
 
 def with_faults(source, operation):
-    """Every fault alone, and with a random one of each higher number.
+    """Every fault alone, and with a random one of each later place.
 
     Two faults with too many rows are long and come on the first family only.
     """
-    numbers = refusals(operation)
-    listed = faults.with_c_of_every_row(writing_faults)
+    numbers = faults.by_place(refusals(operation))
+    listed = faults.of_both_reasons(writing_faults)
     for base in FAULT_BASES:
         case = random_case(source, operation, *base)
         for number in numbers:
             yield from listed(case, number)
-        for lower, higher in combinations(numbers, 2):
-            if 5 not in (lower, higher) or base == FAULT_BASES[0]:
-                yield from listed(source.choice(listed(case, higher)), lower)
+        for first, later in combinations(numbers, 2):
+            if 5 not in (first, later) or base == FAULT_BASES[0]:
+                yield from listed(source.choice(listed(case, later)), first)
+
+
+def with_reasons(source, operation):
+    """Zeros and shared factors in a and c, and either beside a fault of every other number."""
+    for family, curve, _ in reasons.families(source, reasons.FEWER_BASES):
+        yield job_case(operation, family, curve)
+    case = random_case(source, operation, *FAULT_BASES[0])
+    for pair in faults.pairs_with_a_reason(refusals(operation)):
+        yield faults.two_faults(source, case, *pair, writing_faults)
 
 
 def written_cases():
@@ -220,4 +230,6 @@ def written_cases():
     for operation in OPERATIONS:
         pairs = first_c.fewer_pairs(SplitMix64(SEED + 1))
         found += (job_case(operation, *pair) for pair in pairs)
+    for operation in OPERATIONS:
+        found += with_reasons(SplitMix64(SEED + 2), operation)
     return list(dict.fromkeys(found))
