@@ -40,11 +40,11 @@ module _ (f : Family) (u : List ℕ) where
   abbrev curveEntries : List Test
   curveEntries = curveEntriesTest (f .m) u ∷ []
 
-  pub plain-call : (output : ℕ) → CallOf f (plainTests f u output)
+  unfoldable pub plain-call : (output : ℕ) → CallOf f (plainTests f u output)
   unfolding plainTests valueTests familyRows
   plain-call output = record { before = []; between = curveLength ∷ outputTest (size f) output ∷ []; after = curveEntries; tests = refl }
 
-  pub tree-call : (output work : ℕ) → CallOf f (treeTests f u output work)
+  unfoldable pub tree-call : (output work : ℕ) → CallOf f (treeTests f u output work)
   unfolding treeTests valueTests familyRows
   tree-call output work = record {
     before = [];
@@ -53,12 +53,12 @@ module _ (f : Family) (u : List ℕ) where
     tests = refl;
   }
 
-pub moments-call : (f : Family) (output work : ℕ) → CallOf f (momentsTests f output work)
+unfoldable pub moments-call : (f : Family) (output work : ℕ) → CallOf f (momentsTests f output work)
 unfolding momentsTests familyRows rowInverses
 moments-call f output work =
     record { before = []; between = outputTest (momentCount f) output ∷ workTest work ∷ []; after = []; tests = refl }
 
-pub norms-call : (f : Family) (output : ℕ) → CallOf f (normsTests f output)
+unfoldable pub norms-call : (f : Family) (output : ℕ) → CallOf f (normsTests f output)
 unfolding normsTests familyRows rowInverses
 norms-call f output = record { before = []; between = outputTest (size f) output ∷ []; after = []; tests = refl }
 
@@ -69,12 +69,12 @@ module _ (j : Job) (output : ℕ) where
   abbrev jobEntries : List Test
   jobEntries = curveEntriesTest (j .family .m) (j .curve) ∷ []
 
-  pub writing-call : CallOf (j .family) (writingTests j output)
+  unfoldable pub writing-call : CallOf (j .family) (writingTests j output)
   unfolding writingTests lengthTests shapeTests valueTests familyRows
   writing-call = record { before = []; between = jobCurve ∷ textOutputTest jobOutputLength output ∷ []; after = jobEntries; tests = refl }
 
 -- a text of the form, in which the job w stands, behind 1 and 2
-pub text-call : (w : WrittenJob) (bytes output work : ℕ)
+unfoldable pub text-call : (w : WrittenJob) (bytes output work : ℕ)
     → CallOf (meant w .family) (textLengthTest bytes ∷ formTests (found w) output work)
 unfolding formTests jobTests sizeTests lengthTests shapeTests valueTests familyRows
 text-call w bytes output work = record {

@@ -16,7 +16,7 @@ use lib.Dec.{eqb}
 use lib.ListN.{length, getD, take, drop, length-drop}
 use lib.Seq.{getD-take, getD-drop, length-take-le}
 use borrow.Author.Tests.{eq-eqb, ne-eqb}
-use Rattle.definitions.specs.Family.{Family, rowOf, rowAt, size}
+use Rattle.definitions.specs.Family.{Family, rowOf, rowAt}
 use Rattle.definitions.specs.Number.{HasInverse}
 use Rattle.definitions.specs.Refusals.{Test, Verdict, finished, refused, verdict, test, some, someFrom, lowestFrom, someRow, lowestRow, noInverse}
 use Rattle.definitions.specs.Refusals.{aZeroTest, aInverseTest, cZeroTest, cInverseTest, rowInverses}
@@ -26,7 +26,7 @@ use Rattle.acceptance.specs.Verdicts.{lowest-none, lowest-is, noInverse-false, 
 use Rattle.lists.specs.Entries.{entry-inside, entry-past}
 use Rattle.lists.specs.Lent.{lent}
 use Rattle.inverses.specs.Joint.{Joint}
-use Rattle.checks.specs.Passes.{First, SharedFactor, FactorAnswer}
+use Rattle.checks.specs.Passes.{First, FactorAnswer}
 use Rattle.checks.specs.RowTests.{closed}
 use Rattle.checks.specs.declared.Factors.{Factors}
 use Rattle.checks.specs.declared.Reason.{Reason}

@@ -1,31 +1,24 @@
 -- 9 of the rows of a lent family, by passes over its lists and a look at the closing row.
 --   Entered   what 9 asks for: the entries of the three lists and those of the closing row are below m
 -- Proved: 9 passes if and only if the rows are so (entered-passes); what a pass over a list found. Assumes nothing.
-use mathlib.Core.Path.{_≡_, sym, _∙_, ap, subst}
+use mathlib.Core.Path.{_≡_, sym, _∙_, subst}
 use mathlib.Core.Bool.{Bool, true, false, true≢false}
-use mathlib.Core.List.{List, [], _∷_}
+use mathlib.Core.List.{List}
 use mathlib.Core.Logic.{_↔_, Iff·trans, by-cases}
-use Prim.Native.Nat.{ℕ, suc, _+_, _-_, _<_, _≤_}
+use Prim.Native.Nat.{ℕ, suc, _<_, _≤_}
 use native.Mathlib.Decide.{decLt}
 use native.Mathlib.Omega.{arith}
-use lib.ListN.{length, getD, take, drop, length-drop, List·getD-eq-default}
-use lib.Seq.{getD-take, getD-drop, length-take-le}
-use Rattle.definitions.specs.Family.{Row, Family, RowBelow, rowOf, rowAt, size}
+use lib.ListN.{length, getD, take, List·getD-eq-default}
+use lib.Seq.{length-take-le}
+use Rattle.definitions.specs.Family.{Row, Family, RowBelow, rowAt, size}
 use Rattle.definitions.specs.Number.{HasInverse}
-use Rattle.definitions.specs.Refusals.{Verdict, finished, refused, verdict, some, notBelow, noInverse}
-use Rattle.definitions.specs.Refusals.{entriesTest, aInverseTest, cInverseTest, rowInverses}
+use Rattle.definitions.specs.Refusals.{some, notBelow, entriesTest}
 use Rattle.numbers.specs.Lists.{Each}
-use Rattle.acceptance.specs.Verdicts.{some-true, some-notBelow-false, some-noInverse-false, noInverse-true}
-use Rattle.acceptance.specs.Verdicts.{entries-pass, a-inverses-pass, c-inverses-pass}
-use Rattle.lists.specs.Entries.{entry-inside, entry-past}
+use Rattle.acceptance.specs.Verdicts.{some-true, some-notBelow-false, noInverse-true, entries-pass}
 use Rattle.lists.specs.Lent.{lent, Long, lent-size, lent-past}
 use Rattle.residue.specs.Inversion.{SharesFactor, absent-fails}
-use Rattle.inverses.specs.Joint.{Joint}
-use Rattle.checks.specs.Settling.{refuses, goes-on, refuses-alone, finishes}
-use Rattle.checks.specs.Passes.{First, BelowAnswer, FactorAnswer}
+use Rattle.checks.specs.Passes.{First, BelowAnswer}
 use Rattle.checks.specs.declared.Entries.{Entries}
-use Rattle.checks.specs.declared.Factors.{Factors}
-use Rattle.checks.specs.declared.Reason.{Reason}
 
 -- ---- what a pass found
 first-some : (bad : ℕ → Bool) (xs : List ℕ) (i : ℕ) → First bad xs i → some bad xs ≡ false → ⊥
@@ -37,13 +30,6 @@ module _ (m : ℕ) (xs : List ℕ) where
 
   pub one-not-below : (r : Entries) (i : ℕ) → r ≡ Entries.NotBelow i → BelowAnswer m xs r → some (notBelow m) xs ≡ false → ⊥
   one-not-below r i e h = first-some (notBelow m) xs i (subst (BelowAnswer m xs) e h)
-
-  pub all-invertible : (r : Factors) → r ≡ Factors.Invertible → FactorAnswer m xs r → some (noInverse m) xs ≡ false
-  all-invertible r e h = subst (FactorAnswer m xs) e h
-
-  pub one-without : (r : Factors) (i : ℕ) (reason : Reason) → r ≡ Factors.Without i reason → FactorAnswer m xs r
-      → some (noInverse m) xs ≡ false → ⊥
-  one-without r i reason e h = first-some (noInverse m) xs i (subst (FactorAnswer m xs) e h .0)
 
 pub lacks : (m x g : ℕ) → 0 < m → SharesFactor m x g → HasInverse m x → ⊥
 lacks m x g pos absent = noInverse-true m x pos .0 (absent-fails m x g pos absent)

@@ -7,11 +7,13 @@ use mathlib.Core.Bool.{_||_}
 use mathlib.Core.List.{List}
 use Prim.Native.Nat.{ℕ, zero, suc, _<_, _≤_}
 use native.Mathlib.Omega.{arith}
+use lib.Dec.{eqb}
 use Rattle.definitions.specs.Answers.{PlainCall, TreeCall, NormsCall, MomentsCall}
 use Rattle.definitions.specs.Family.{Family, Row, firstC, rowAt}
-use Rattle.definitions.specs.Refusals.{Verdict, someRow, test, noInverse, notBelow, entriesTest, aInverseTest, cInverseTest}
+use Rattle.definitions.specs.Refusals.{Verdict, someRow, lowestRow, test, noInverse, notBelow}
+use Rattle.definitions.specs.Refusals.{entriesTest, aZeroTest, aInverseTest, cZeroTest, cInverseTest}
 use Rattle.definitions.specs.Refusals.{rowInverses, familyRows, valueTests, plainTests, treeTests, momentsTests, normsTests}
-use Rattle.acceptance.specs.Verdicts.{notBelow-false, someFrom-equal}
+use Rattle.acceptance.specs.Verdicts.{notBelow-false, someFrom-equal, lowest-equal}
 use Rattle.theory.specs.FirstC.{begun, moments-first, norms-first}
 
 module _ (m : ℕ) (a b c : List ℕ) (close : Row) (x y : ℕ) (xBelow : x < m) (yBelow : y < m) where
@@ -31,6 +33,10 @@ module _ (m : ℕ) (a b c : List ℕ) (close : Row) (x y : ℕ) (xBelow : x < m)
   same-entries = ap (test 9) (someFrom-equal _ _ 0 _
       (λ i l. ap (λ c. notBelow m (rowAt f i .a) || notBelow m (rowAt f i .b) || c) (below-first i)))
 
+  same-zero-a : aZeroTest f ≡ aZeroTest g
+  unfolding aZeroTest lowestRow rowAt
+  same-zero-a = refl
+
   same-a : aInverseTest f ≡ aInverseTest g
   unfolding aInverseTest someRow rowAt
   same-a = refl
@@ -40,13 +46,17 @@ module _ (m : ℕ) (a b c : List ℕ) (close : Row) (x y : ℕ) (xBelow : x < m)
   later-c zero l = absurd (omega arith)
   later-c (suc i) l = refl
 
+  same-zero-c : cZeroTest firstC f ≡ cZeroTest firstC g
+  unfolding cZeroTest lowestRow
+  same-zero-c = ap (test 18) (lowest-equal _ _ _ _ firstC _ (λ i l. ap (noInverse m) (later-c i l)) (λ i l. ap (λ c. eqb c 0) (later-c i l)))
+
   same-c : cInverseTest firstC f ≡ cInverseTest firstC g
   unfolding cInverseTest someRow
   same-c = ap (test 11) (someFrom-equal _ _ firstC _ (λ i l. ap (noInverse m) (later-c i l)))
 
   pub rows-first : familyRows f ≡ familyRows g
   unfolding familyRows rowInverses
-  rows-first = rw (same-entries, same-a, same-c)
+  rows-first = rw (same-entries, same-zero-a, same-a, same-zero-c, same-c)
 
   module _ (v : Verdict) (output output′ : List ℕ) where
     -- expand, adjoint and decompose are such conversions: expand-first, adjoint-first and decompose-first of theory

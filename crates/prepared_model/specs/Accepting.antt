@@ -11,14 +11,16 @@ use mathlib.Core.Logic.{_↔_, Iff·trans}
 use Prim.Native.Nat.{ℕ, _-_, _<_, _≤_}
 use native.Mathlib.Omega.{arith}
 use lib.Dec.{eqb}
-use borrow.Author.Tests.{ltb-false, le-ltb, eqb-false, ne-eqb}
+use borrow.Author.Tests.{ltb-false, le-ltb}
 use Rattle.definitions.specs.Family.{Row, Family, Modulus, mostRows, firstC}
+use Rattle.definitions.specs.Number.{HasInverse}
 use Rattle.definitions.specs.Refusals.{finished, verdict, noInverse}
 use Rattle.definitions.specs.Prepared.{Prepared, Right, ownRows, noRowsTest, absentRowTest, rowTests}
 use Rattle.definitions.specs.Prepared.{emptyTests, appendTests, dropTests, replaceTests}
 use Rattle.definitions.specs.PreparedCalls.{preparedPlainTests, preparedTreeTests, preparedNormsTests, preparedMomentsTests}
+use Rattle.numbers.specs.Inverse.{has-inverse-positive}
 use Rattle.acceptance.specs.Acceptance.{PlainInput, TreeInput, MomentsInput, NormsInput, curve-accepted}
-use Rattle.acceptance.specs.Verdicts.{None, verdict-finished, or-false, noInverse-false, row-below-false, from-false}
+use Rattle.acceptance.specs.Verdicts.{None, verdict-finished, or-false, zero-false, noInverse-false, row-below-false, from-false}
 use Rattle.acceptance.specs.Verdicts.{modulus-passes, row-count-passes, output-passes, work-passes}
 use Rattle.prepared_model.specs.Rows.{NewRow}
 use Rattle.prepared_model.specs.Rightness.{record-passes, right-positive}
@@ -97,14 +99,27 @@ unfolding rowTests
 new-row-passes m place row pos =
     let a = noInverse-false m (row .a) pos in
     let c = noInverse-false m (row .c) pos in
-    let from = from-false firstC place (noInverse m (row .c)) in (
+    let from = from-false firstC place (noInverse m (row .c)) in
+    let some : (x : ℕ) → HasInverse m x → eqb x 0 ≡ false = λ x has. zero-false x .1 (has-inverse-positive m x has) in (
       λ n.
           record {
             below = row-below-false m row .0 (n .0);
-            aInverse = a .0 (n .1 .0);
-            cInverse = λ l. c .0 (from .0 (n .1 .1 .0) l);
+            aInverse = a .0 (n .1 .1 .0);
+            cInverse = λ l. c .0 (from .0 (n .1 .1 .1 .1 .0) l);
           },
-      λ h. (row-below-false m row .1 (h .below), (a .1 (h .aInverse), (from .1 (λ l. c .1 (h .cInverse l)), tt))),
+      λ h. (
+        row-below-false m row .1 (h .below),
+        (
+          some (row .a) (h .aInverse),
+          (
+            a .1 (h .aInverse),
+            (
+              from-false firstC place (eqb (row .c) 0) .1 (λ l. some (row .c) (h .cInverse l)),
+              (from .1 (λ l. c .1 (h .cInverse l)), tt),
+            ),
+          ),
+        ),
+      ),
     )
 
 -- ---- the changes; a row is counted from 1
@@ -123,16 +138,13 @@ pub record ReplaceInput (p : Prepared) (i : ℕ) (row : Row) : Type 0 where
   pub last : i ≤ p .rows
   pub newRow : NewRow (p .modulus) (i - 1) row
 
-positive-passes : (n : ℕ) → (eqb n 0 ≡ false) ↔ (0 < n)
-positive-passes n = (λ e. let other : n ≡ 0 → ⊥ = eqb-false n 0 e in omega arith, λ h. ne-eqb n 0 (λ e. omega arith))
-
 pub no-rows-passes : (p : Prepared) → (noRowsTest p .holds ≡ false) ↔ (0 < p .rows)
 unfolding noRowsTest
-no-rows-passes p = positive-passes (p .rows)
+no-rows-passes p = zero-false (p .rows)
 
 pub absent-row-passes : (p : Prepared) (i : ℕ) → (absentRowTest p i .holds ≡ false) ↔ ((1 ≤ i) × (i ≤ p .rows))
 unfolding absentRowTest
-absent-row-passes p i = simp (or-false, positive-passes) (
+absent-row-passes p i = simp (or-false, zero-false) (
   λ e. (e .0, ltb-false (p .rows) i (e .1)),
   λ h. (h .0, le-ltb (p .rows) i (h .1)),
 )

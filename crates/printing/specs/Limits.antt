@@ -1,6 +1,6 @@
 -- What the lengths of the program's lists settle: an output of 4,096 bytes, a working list of 16,384 numbers, and 8,193 bytes for the text.
 --   lentTests t   the tests of the text call on t with these lengths
---   Causable k    a number that a job text can cause: 1 to 6, 9 to 12
+--   Causable k    a number that a job text can cause: 1 to 6, 9 to 12, 17 and 18
 -- Proved: a refusal through the program is causable, so 7 and 8 are never given (printed-never-7-or-8); whatever is printed fits the
 -- output (printed-fits); the first 8,193 bytes settle what is printed (printed-first-bytes). Assumes nothing.
 use mathlib.Core.Path.{_≡_, refl, sym, _∙_, ap}
@@ -35,15 +35,37 @@ lentTests t = textTests t textOutputLength workLength
 
 pub record Causable (k : ℕ) : Type 0 where
   pub least : 1 ≤ k
-  pub greatest : k ≤ 12
+  pub greatest : k ≤ 18
   pub not7 : k ≡ 7 → ⊥
   pub not8 : k ≡ 8 → ⊥
+  pub not13to16 : (13 ≤ k) × (k ≤ 16) → ⊥
 
 early : (k : ℕ) → (1 ≤ k) × (k ≤ 6) → Causable k
-early k h = record { least = h .0; greatest = omega (arith, h .1); not7 = λ e. omega (arith, h .1); not8 = λ e. omega (arith, h .1) }
+early k h = record {
+  least = h .0;
+  greatest = omega (arith, h .1);
+  not7 = λ e. omega (arith, h .1);
+  not8 = λ e. omega (arith, h .1);
+  not13to16 = λ between. omega (arith, h .1, between .0);
+}
 
 late : (k : ℕ) → (9 ≤ k) × (k ≤ 12) → Causable k
-late k h = record { least = omega (arith, h .0); greatest = h .1; not7 = λ e. omega (arith, h .0); not8 = λ e. omega (arith, h .0) }
+late k h = record {
+  least = omega (arith, h .0);
+  greatest = omega (arith, h .1);
+  not7 = λ e. omega (arith, h .0);
+  not8 = λ e. omega (arith, h .0);
+  not13to16 = λ between. omega (arith, h .1, between .0);
+}
+
+latest : (k : ℕ) → (17 ≤ k) × (k ≤ 18) → Causable k
+latest k h = record {
+  least = omega (arith, h .0);
+  greatest = h .1;
+  not7 = λ e. omega (arith, h .0);
+  not8 = λ e. omega (arith, h .0);
+  not13to16 = λ between. omega (arith, h .0, between .1);
+}
 
 -- the output is not under 4,096 bytes, and the working list not under 16,384 numbers
 job-given : (j : Job) → Given Causable (jobTests j textOutputLength workLength)
@@ -54,7 +76,8 @@ job-given j =
     (lengths-given Causable _ _ _ _ _ _ _ _ (early 3 (omega arith)) (early 4 (omega arith)) (early 5 (omega arith)) (early 6 (omega arith))
     (λ e. absurd (true≢false (sym e))))
     (λ e. absurd (true≢false (sym e)), tt))
-    (values-given Causable (j .family) (j .curve) (late 9 (omega arith)) (late 10 (omega arith)) (late 11 (omega arith)) (late 12 (omega arith)))
+    (values-given Causable (j .family) (j .curve) (late 9 (omega arith)) (latest 17 (omega arith)) (late 10 (omega arith))
+    (latest 18 (omega arith)) (late 11 (omega arith)) (late 12 (omega arith)))
 
 form-given : (r : Read) → Given Causable (formTests r textOutputLength workLength)
 unfolding formTests
@@ -97,7 +120,7 @@ reply-fits (found w) none =
     let accepted = carried-passes (meant w) textOutputLength workLength .0 (none .1) .job .accepted in
     result-fits (w .operation) (meant w .family) (accepted .modulus) (accepted .rowCount) (w .operation) (w .curve)
 
-refusal-fits : (k : ℕ) → k ≤ 12 → length (refusalText k) ≤ textOutputLength
+refusal-fits : (k : ℕ) → k ≤ 18 → length (refusalText k) ≤ textOutputLength
 unfolding refusalText
 refusal-fits k h = omega (arith, length-line refusalKey (decimal k) [], length-decimal k (omega arith))
 

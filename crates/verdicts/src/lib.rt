@@ -1,6 +1,6 @@
 // All tests of a call in their order, as its one verdict: the call goes on where the answer is Finished, and hands a refusal on.
 ghost use mathlib.Core.Path.{_≡_};
-ghost use mathlib.Core.List.{[], _∷_};
+ghost use mathlib.Core.List.{[]};
 ghost use Prim.Native.Nat.{_≤_};
 ghost use lib.ListN.{length};
 ghost use Rattle.definitions.specs.Answers.{answered, inverseAnswered, inverseHanded, factorHanded, InverseCall};

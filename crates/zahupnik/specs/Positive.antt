@@ -29,10 +29,10 @@ family-positive : (f : Family) (rest : List Test) → Positive rest → Positive
 family-positive f rest later = given-append _ (familyShape f) rest (shape-given _ _ _ _ _ (omega arith) (omega arith) (omega arith)) later
 
 rows-positive : (f : Family) → Positive (familyRows f)
-rows-positive f = rows-given _ f (omega arith) (omega arith) (omega arith)
+rows-positive f = rows-given _ f (omega arith) (omega arith) (omega arith) (omega arith) (omega arith)
 
 values-positive : (f : Family) (u : List ℕ) → Positive (valueTests f u)
-values-positive f u = values-given _ f u (omega arith) (omega arith) (omega arith) (omega arith)
+values-positive f u = values-given _ f u (omega arith) (omega arith) (omega arith) (omega arith) (omega arith) (omega arith)
 
 lengths-positive : (m : ℕ) (operation : Operation) (a b c u least output : ℕ) → Positive (lengthTests m operation a b c u least output)
 lengths-positive m operation a b c u least output =

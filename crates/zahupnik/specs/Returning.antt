@@ -1,25 +1,29 @@
 -- From the answer of a public call to what its exported function returns and leaves.
 -- Proved: the number of a verdict says what the verdict does, where no test has the number 0 (returned-is); so a call that writes a list
--- keeps its promise when its answer is turned into a number, with a working list or without, and so do a change of a record, Inverse, whether it finishes or
--- refuses, the text call, and the call that writes a job, whether its number names an operation or not. Assumes nothing.
+-- keeps its promise when its answer is turned into a number, with a working list or without, and so do a change of a record, Inverse, whether
+-- it finishes, finds no inverse or refuses before that, the text call, and the call that writes a job, whether its number names an operation
+-- or not. Assumes nothing.
 use mathlib.Core.Path.{_≡_, refl, sym, _∙_, ap, subst}
-use mathlib.Core.Bool.{false}
+use mathlib.Core.Bool.{Bool, true, false}
 use mathlib.Core.List.{List, [], _∷_, _++_}
 use Prim.Native.Nat.{ℕ, zero, suc, _<_, _≤_}
 use native.Mathlib.Omega.{arith}
+use lib.Dec.{eqb}
 use lib.ListN.{length, drop}
-use Rattle.definitions.specs.Answers.{valued, after, cleared, Converted, ConvertedIn}
+use Rattle.definitions.specs.Answers.{valued, inverseAnswered, inverseHanded, factorHanded, after, cleared, Converted, ConvertedIn, InverseCall}
+use Rattle.definitions.specs.Number.{greatestFactor}
 use Rattle.definitions.specs.Prepared.{Prepared, Changed, handedBack}
-use Rattle.definitions.specs.Refusals.{Test, Verdict, finished, refused, verdict, test}
+use Rattle.definitions.specs.Refusals.{Test, Verdict, finished, refused, verdict, test, inverseTests}
 use Rattle.definitions.specs.Text.{WrittenJob, meant, jobText}
 use Rattle.definitions.specs.TextCall.{textTests, reply, TextConverted}
 use Rattle.definitions.specs.JobWriting.{writingTests, JobWritten}
+use Rattle.definitions.specs.declared.InverseAnswer.{InverseAnswer}
 use Rattle.definitions.specs.declared.Operation.{Operation}
 use Rattle.definitions.specs.declared.Valued.{Valued}
 use Rattle.acceptance.specs.Given.{revalued, refused-given}
 use Rattle.acceptance.specs.Verdicts.{refused-not-finished, verdict-next, withValues, verdict-values}
 use Rattle.zahupnik.specs.Returned.{returned, number, operations, choiceOf, choice, chosenTests, chosenText, JobReturned}
-use Rattle.zahupnik.specs.Positive.{Positive, text-positive, chosen-positive}
+use Rattle.zahupnik.specs.Positive.{Positive, inverse-positive, text-positive, chosen-positive}
 use Rattle.zahupnik.specs.declared.Choice.{Choice}
 
 -- a number above 0 is that of a refusal
@@ -99,6 +103,33 @@ module _ (tests : List Test) (positive : Positive tests) where
         written = leaves result output output′ w;
         wiped = leaves (cleared work) work work′ q;
       }
+
+-- Inverse; inverse and factor: what the lent numbers held
+module _ (m x inverse factor : ℕ) (r : InverseAnswer) (call : InverseCall m x (inverseAnswered r) [] (inverseHanded r) [] (factorHanded r)) where
+  abbrev Kept : InverseAnswer → Type 0
+  Kept a = InverseCall m x (inverseAnswered a) [] (inverseHanded a) [] (factorHanded a)
+
+  pub found-returned : (y g : ℕ) → r ≡ InverseAnswer.Found y g
+      → InverseCall m x (returned 0) (inverse ∷ []) (y ∷ []) (factor ∷ []) (g ∷ [])
+  found-returned y g e =
+      let made = subst Kept e call in record { answer = made .answer; written = made .written; factor = made .factor }
+
+  pub without-returned : (g : ℕ) → r ≡ InverseAnswer.NoInverse g
+      → InverseCall m x (returned 13) (inverse ∷ []) (inverse ∷ []) (factor ∷ []) (g ∷ [])
+  without-returned g e = let made = subst Kept e call in record { answer = made .answer; written = refl; factor = made .factor }
+
+  pub early-returned : (k : ℕ) → r ≡ InverseAnswer.Refused k
+      → InverseCall m x (returned k) (inverse ∷ []) (inverse ∷ []) (factor ∷ []) (factor ∷ [])
+  early-returned k e =
+      let made = subst Kept e call in
+      let above = refused-given (λ j. 0 < j) [] k (inverseTests m x) (inverse-positive m x) (sym (made .answer)) in
+      rw (refusal-is k above) (record { answer = made .answer; written = refl; factor = untold (eqb k 13) (made .factor) })
+    where
+      -- it tells no factor, so it is not 13
+      untold : (told : Bool) → [] ≡ elim told as (λ b. List ℕ) [ true ↦ greatestFactor m x ∷ [] | false ↦ [] ]
+          → factor ∷ [] ≡ elim told as (λ b. List ℕ) [ true ↦ greatestFactor m x ∷ [] | false ↦ factor ∷ [] ]
+      untold true same = let none : _≡_ {A = ℕ} 0 1 = ap length same in absurd (omega arith)
+      untold false same = refl
 
 pub text-returned : (t output output′ work work′ : List ℕ) (r : Valued) → TextConverted t r output output′ work work′
     → (k : ℕ) → k ≡ number (valued r)

@@ -1,27 +1,20 @@
--- `zahupnik_invert` writes the inverse and returns 0, or returns the refusal's number and writes nothing. Assumes nothing.
-use mathlib.Core.Path.{sym, _∙_, ap}
-use Rattle.definitions.specs.Answers.{valued}
-use Rattle.zahupnik.specs.Positive.{inverse-positive}
-use Rattle.zahupnik.specs.Returning.{value-returned, refusal-returned}
+-- `zahupnik_invert` writes the inverse and the factor and returns 0, or writes the factor alone and returns 13, or writes nothing and returns the
+-- number of another refusal. Assumes nothing.
+use Rattle.zahupnik.specs.Returning.{found-returned, without-returned, early-returned}
 use borrow.Author.Needs.{needs}
 use Rattle.zahupnik.proofs.zahupnik_invert.Statement.{statement}
 use Rattle.zahupnik.proofs.zahupnik_invert.Tie as tie
 
-invert-requires : tie.Need-invert-requires
-invert-requires c κs = search needs
-
-enum-known-y : tie.Need-enum-known-y
-enum-known-y c = search needs
-
-enum-known-k : tie.Need-enum-known-k
-enum-known-k c = search needs
-
 returns : tie.Need-returns
-returns c = value-returned _ (inverse-positive _ _) _ _ _ (sym (ap valued (c .before .y .given .1)) ∙ c .before .before .before .invert .ensures)
+returns c = found-returned _ _ _ _ _ (c .before .before .before .invert .ensures) _ _ (c .before .y .given .1)
 
 returns-2 : tie.Need-returns-2
-returns-2 c = refusal-returned _ (inverse-positive _ _) _ _ _ (sym (ap valued (c .before .k .given .1)) ∙ c .before .before .before .invert .ensures)
+returns-2 c = without-returned _ _ _ _ _ (c .before .before .before .invert .ensures) _ (c .before .g .given .1)
+
+returns-3 : tie.Need-returns-3
+returns-3 c = early-returned _ _ _ _ _ (c .before .before .before .invert .ensures) _ (c .before .k .given .1)
 
 pub zahupnik-invert-spec : {M : Type 1} → statement M
 zahupnik-invert-spec =
-    tie.close (tie.spec invert-requires enum-known-y enum-known-k returns returns-2)
+    tie.close
+    (tie.spec (search needs) (search needs) (search needs) (search needs) returns returns-2 returns-3)
