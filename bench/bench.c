@@ -73,7 +73,8 @@ static void fail(const char *call, const char *what, const struct job *x) {
     static void name(const struct job *x, uint32_t *result) {                                       \
         if (zahupnik_##name(__VA_ARGS__) != ZAHUPNIK_FINISHED) fail(#name, "refuses the family", x); \
     }
-LIBRARY(invert, x->m, x->a[0], result)
+static uint32_t factor;
+LIBRARY(invert, x->m, x->a[0], result, &factor)
 LIBRARY(plain_expand, FAMILY, x->v, x->r + 1, result, x->r + 1)
 LIBRARY(plain_adjoint, FAMILY, x->v, x->r + 1, result, x->r + 1)
 LIBRARY(plain_decompose, FAMILY, x->v, x->r + 1, result, x->r + 1)
@@ -212,7 +213,7 @@ static bool takes_legendre(uint32_t m, size_t r) {
 
 static void make_legendre(struct job *x) {
     for (uint32_t i = 1; i <= x->r; i++) {
-        uint32_t over_i, factor;
+        uint32_t over_i;
         if (zahupnik_invert(x->m, i, &over_i, &factor) != ZAHUPNIK_FINISHED) fail("invert", "refuses a row of Legendre's", x);
         x->a[i - 1] = (uint32_t)((2 * i - 1) * (uint64_t)over_i % x->m);
         x->b[i - 1] = 0;

@@ -32,9 +32,11 @@ static const char *const refusals[] = {
     [ZAHUPNIK_ROWS] = "there are more than 127 rows: use a shorter family",
     [ZAHUPNIK_CURVE_LENGTH] = "v is too short or too long: give one number more than there are rows, or none for moments and norms",
     [ZAHUPNIK_ENTRY] = "a number of a, b or c is not below mod: correct it, or reduce the family modulo mod",
-    [ZAHUPNIK_A_INVERSE] = "a number of a has no inverse modulo mod: correct the family, or choose another channel number",
-    [ZAHUPNIK_C_INVERSE] = "a number of c, from the second on, has no inverse modulo mod: correct the family, or choose another channel number",
+    [ZAHUPNIK_A_INVERSE] = "a number of a shares a factor with mod: choose another channel number, or correct the family",
+    [ZAHUPNIK_C_INVERSE] = "a number of c, from the second on, shares a factor with mod: choose another channel number, or correct the family",
     [ZAHUPNIK_CURVE_ENTRY] = "a number of v is not below mod: correct it, or reduce the curve modulo mod",
+    [ZAHUPNIK_A_ZERO] = "a number of a is zero, and the first of them without an inverse: correct the family",
+    [ZAHUPNIK_C_ZERO] = "a number of c, from the second on, is zero, and the first of them without an inverse: correct the family",
 };
 
 static _Noreturn void misuse(const char *word, const char *why) {

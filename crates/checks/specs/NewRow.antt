@@ -11,6 +11,7 @@ use Rattle.definitions.specs.Family.{Row, RowBelow, rowOf, firstC}
 use Rattle.definitions.specs.Number.{HasInverse}
 use Rattle.definitions.specs.Prepared.{rowTests}
 use Rattle.definitions.specs.Refusals.{Test, Verdict, finished, refused, verdict, test, notBelow, noInverse}
+use Rattle.numbers.specs.Inverse.{has-inverse-positive}
 use Rattle.acceptance.specs.Verdicts.{row-below-false, zero-false, noInverse-false, from-false}
 use Rattle.checks.specs.Settling.{refuses, goes-on, refuses-alone, finishes}
 
@@ -61,26 +62,24 @@ module _ (m place : ℕ) (row : Row) (pos : 0 < m) where
     pub row-a-zero : (0 < row .a → ⊥) → refused 17 ≡ whole
     row-a-zero n = refuses seventeen (zero-false (row .a)) _ [] n ∙ past-nine
 
-    module _ (aSome : 0 < row .a) where
-      past-seventeen : verdict (ten ∷ eighteen ∷ eleven ∷ []) [] ≡ whole
-      past-seventeen = goes-on seventeen (zero-false (row .a)) _ [] aSome ∙ past-nine
+    past-seventeen : 0 < row .a → verdict (ten ∷ eighteen ∷ eleven ∷ []) [] ≡ whole
+    past-seventeen some = goes-on seventeen (zero-false (row .a)) _ [] some ∙ past-nine
 
-      pub row-a-lacks : (HasInverse m (row .a) → ⊥) → refused 10 ≡ whole
-      row-a-lacks n = refuses ten (noInverse-false m (row .a) pos) _ [] n ∙ past-seventeen
+    pub row-a-lacks : 0 < row .a → (HasInverse m (row .a) → ⊥) → refused 10 ≡ whole
+    row-a-lacks some n = refuses ten (noInverse-false m (row .a) pos) _ [] n ∙ past-seventeen some
 
-      module _ (aHas : HasInverse m (row .a)) where
-        past-ten : verdict (eighteen ∷ eleven ∷ []) [] ≡ whole
-        past-ten = goes-on ten (noInverse-false m (row .a) pos) _ [] aHas ∙ past-seventeen
+    module _ (aHas : HasInverse m (row .a)) where
+      past-ten : verdict (eighteen ∷ eleven ∷ []) [] ≡ whole
+      past-ten = goes-on ten (noInverse-false m (row .a) pos) _ [] aHas ∙ past-seventeen (has-inverse-positive m (row .a) aHas)
 
-        pub row-c-zero : (Asked (0 < row .c) → ⊥) → refused 18 ≡ whole
-        row-c-zero n = refuses eighteen c-some _ [] n ∙ past-ten
+      pub row-c-zero : (Asked (0 < row .c) → ⊥) → refused 18 ≡ whole
+      row-c-zero n = refuses eighteen c-some _ [] n ∙ past-ten
 
-        module _ (cSome : Asked (0 < row .c)) where
-          past-eighteen : verdict (eleven ∷ []) [] ≡ whole
-          past-eighteen = goes-on eighteen c-some _ [] cSome ∙ past-ten
+      past-eighteen : Asked (0 < row .c) → verdict (eleven ∷ []) [] ≡ whole
+      past-eighteen some = goes-on eighteen c-some _ [] some ∙ past-ten
 
-          pub row-c-lacks : (Asked (HasInverse m (row .c)) → ⊥) → refused 11 ≡ whole
-          row-c-lacks n = refuses-alone eleven c-passes n ∙ past-eighteen
+      pub row-c-lacks : Asked (0 < row .c) → (Asked (HasInverse m (row .c)) → ⊥) → refused 11 ≡ whole
+      row-c-lacks some n = refuses-alone eleven c-passes n ∙ past-eighteen some
 
-          pub row-passes : Asked (HasInverse m (row .c)) → finished [] ≡ whole
-          row-passes h = finishes eleven c-passes h ∙ past-eighteen
+      pub row-passes : Asked (HasInverse m (row .c)) → finished [] ≡ whole
+      row-passes h = finishes eleven c-passes h ∙ past-eighteen (λ l. has-inverse-positive m (row .c) (h l))

@@ -331,19 +331,19 @@ pub fn new_row(m: u32, place: usize, a: u32, b: u32, c: u32) -> Answer
     if m <= c {
         return Answer::Refused(9);
     }
-    if a == 0 {
-        return Answer::Refused(17);
-    }
     let Inversion::Found(_) = invert(m, a) else {
+        if a == 0 {
+            return Answer::Refused(17);
+        }
         return Answer::Refused(10);
     };
     if place < FIRST_C {
         return Answer::Finished;
     }
-    if c == 0 {
-        return Answer::Refused(18);
-    }
     let Inversion::Found(_) = invert(m, c) else {
+        if c == 0 {
+            return Answer::Refused(18);
+        }
         return Answer::Refused(11);
     };
     Answer::Finished
