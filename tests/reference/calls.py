@@ -3,10 +3,12 @@
 A call is given lists of any length and any modulus. It answers with an
 Outcome: verdict 0 or the refusal number, the output after the call, and the
 working list after the call (None for a call that is lent none). A refusal
-leaves both as they were. Lists that are handed in are never altered.
+leaves both as they were. Lists that are handed in are never altered. The
+inverse tells the greatest common factor of the number and the modulus besides.
 
-Tests run in the order of their numbers, each over all rows or entries before
-the next number. With r the length of a, and n = r + 1:
+Tests run in the order below, each over all rows or entries before the next:
+that of their numbers, with 17 at the place of 10 and 18 at that of 11, where
+they are given instead. With r the length of a, and n = r + 1:
 
 3   the modulus is below 2 or above 2147483647
 4   b or c is not as long as a
@@ -15,7 +17,9 @@ the next number. With r the length of a, and n = r + 1:
 7   the output is not n long (for moments: 2n - 1)
 8   the working list is under 16,384 numbers
 9   an entry of a, b or c is not below the modulus
+17  the lowest row without an inverse for a has a zero there
 10  some a has no inverse
+18  the lowest row from row 2 on without an inverse for c has a zero there
 11  some c from row 2 on has no inverse
 12  an entry of the curve, or the number to invert, is not below the modulus
 13  the number to invert has no inverse
@@ -38,10 +42,10 @@ OPERATIONS = {
 }
 WITHOUT_CURVE = ("moments", "norms")
 
-PLAIN_TESTS = (3, 4, 5, 6, 7, 9, 10, 11, 12)
-TREE_TESTS = (3, 4, 5, 6, 7, 8, 9, 10, 11, 12)
-MOMENTS_TESTS = (3, 4, 5, 7, 8, 9, 10, 11)
-NORMS_TESTS = (3, 4, 5, 7, 9, 10, 11)
+PLAIN_TESTS = (3, 4, 5, 6, 7, 9, 17, 10, 18, 11, 12)
+TREE_TESTS = (3, 4, 5, 6, 7, 8, 9, 17, 10, 18, 11, 12)
+MOMENTS_TESTS = (3, 4, 5, 7, 8, 9, 17, 10, 18, 11)
+NORMS_TESTS = (3, 4, 5, 7, 9, 17, 10, 18, 11)
 
 
 @dataclass(frozen=True)
@@ -76,11 +80,15 @@ class Lent:
 
 @dataclass(frozen=True)
 class Outcome:
-    """What a call leaves: verdict (0 is accepted), output, working list."""
+    """What a call leaves: verdict (0 is accepted), output, working list.
+
+    The factor is for the inverse alone: the one number, or empty if it tells none.
+    """
 
     verdict: int
     output: list
     working: list | None
+    factor: list | None = None
 
 
 def modulus_outside(modulus):
@@ -93,9 +101,19 @@ def some_reach(numbers, modulus):
     return any(number >= modulus for number in numbers)
 
 
+def lowest_without_inverse(numbers, modulus):
+    """The number of the lowest row that has no inverse, or None if every one has."""
+    return next((x for x in numbers if curves.inverse(x, modulus) is None), None)
+
+
 def some_without_inverse(numbers, modulus):
     """Whether some number has no inverse."""
-    return any(curves.inverse(number, modulus) is None for number in numbers)
+    return lowest_without_inverse(numbers, modulus) is not None
+
+
+def zero_is_lowest(numbers, modulus):
+    """Whether the lowest row that has no inverse has a zero."""
+    return lowest_without_inverse(numbers, modulus) == 0
 
 
 CONDITIONS = {
@@ -109,6 +127,8 @@ CONDITIONS = {
     10: lambda lent: some_without_inverse(lent.a, lent.modulus),
     11: lambda lent: some_without_inverse(lent.c[1:], lent.modulus),
     12: lambda lent: some_reach(lent.curve, lent.modulus),
+    17: lambda lent: zero_is_lowest(lent.a, lent.modulus),
+    18: lambda lent: zero_is_lowest(lent.c[1:], lent.modulus),
 }
 
 
@@ -178,10 +198,16 @@ def norms(modulus, a, b, c, output):
 
 
 def inverse(modulus, number):
-    """Inverse: the output is the one inverse, or empty on refusal 3, 12 or 13."""
+    """Inverse: the output is the one inverse, or empty on refusal 3, 12 or 13.
+
+    It tells the greatest common factor when it accepts and with 13.
+    """
     if modulus_outside(modulus):
-        return Outcome(3, [], None)
+        return Outcome(3, [], None, [])
     if number >= modulus:
-        return Outcome(12, [], None)
+        return Outcome(12, [], None, [])
+    factor = [curves.greatest_common_factor(number, modulus)]
     found = curves.inverse(number, modulus)
-    return Outcome(13, [], None) if found is None else Outcome(0, [found], None)
+    if found is None:
+        return Outcome(13, [], None, factor)
+    return Outcome(0, [found], None, factor)

@@ -5,7 +5,6 @@ byte away from it is read in two ways, which have to agree.
 """
 
 from dataclasses import replace
-from itertools import combinations
 
 import calls
 import cases
@@ -16,7 +15,7 @@ from check_figures import SHOWN_JOB, text_of_length
 from families import MODULI, SIZES, random_curve, random_family_any_first_c
 
 OPERATION_OF = {6: "expand", 7: "adjoint", 8: "decompose", 9: "moments", 4: "norms"}
-TEXT_REFUSALS = (3, 4, 5, 6, 7, 8, 9, 10, 11, 12)
+TEXT_REFUSALS = (3, 4, 5, 6, 7, 8, 9, 17, 10, 18, 11, 12)
 OUTPUT_BEFORE = bytes(255 - place % 251 for place in range(9000))
 INSERTED = b"\x00\t\n\r =+-,.0179abcmv\x7f\x80\xff"
 
@@ -99,6 +98,12 @@ def long_list_texts():
     )
 
 
+def refusals(call):
+    """The numbers from 3 on that a text can be refused with: 12 needs a curve."""
+    curveless = OPERATION_OF[call] in calls.WITHOUT_CURVE
+    return [number for number in TEXT_REFUSALS if number != 12 or not curveless]
+
+
 def job_text(case):
     """The text of a case's job."""
     return jobs.text_of(
@@ -161,9 +166,8 @@ def check_answer(tally, case):
 
 
 def check_text_refusals(tally, source, call):
-    """Numbers 3 to 12 by text, alone and in pairs; moments and norms lack 12."""
-    curveless = OPERATION_OF[call] in calls.WITHOUT_CURVE
-    numbers = [number for number in TEXT_REFUSALS if number != 12 or not curveless]
+    """Every number from 3 on by text, alone and in pairs."""
+    numbers = refusals(call)
     for modulus, row_count in ((15, 4), (2147483646, 3)):
         family = random_family_any_first_c(source, modulus, row_count)
         curve = random_curve(source, modulus, row_count + 1)
@@ -174,10 +178,10 @@ def check_text_refusals(tally, source, call):
             for spoiled in text_faults(case, number):
                 lengths = (spoiled.output_length, spoiled.working_length)
                 check_refused(tally, "text refusals", job_text(spoiled), *lengths, number)
-        for lower, higher in combinations(numbers, 2):
-            spoiled = faults.two_faults(source, case, lower, higher, text_faults)
+        for first, later in faults.pairs_of_places(numbers):
+            spoiled = faults.two_faults(source, case, first, later, text_faults)
             lengths = (spoiled.output_length, spoiled.working_length)
-            check_refused(tally, "text refusals", job_text(spoiled), *lengths, lower)
+            check_refused(tally, "text refusals", job_text(spoiled), *lengths, first)
 
 
 def near_texts(text):

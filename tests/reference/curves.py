@@ -10,6 +10,8 @@ done quickly here; each formula is the paper's, with one remainder at its end.
 """
 
 from dataclasses import dataclass
+from functools import lru_cache
+from math import isqrt
 
 CLOSING_ROW = (1, 1, 1)
 
@@ -48,6 +50,18 @@ def inverse(x, modulus):
         )
     candidate = older[1] % modulus
     return candidate if x * candidate % modulus == 1 else None
+
+
+@lru_cache(maxsize=1000)
+def divisors(number):
+    """All divisors of a number above zero: those up to its square root, and their cofactors."""
+    small = [divisor for divisor in range(1, isqrt(number) + 1) if number % divisor == 0]
+    return sorted({*small, *(number // divisor for divisor in small)})
+
+
+def greatest_common_factor(x, modulus):
+    """The greatest number that divides both; zero is divided by every number."""
+    return max(divisor for divisor in divisors(modulus) if x % divisor == 0)
 
 
 def divide(x, y, modulus):

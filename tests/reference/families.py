@@ -21,10 +21,15 @@ def random_unit(source, modulus):
             return number
 
 
+def sharing_numbers(modulus):
+    """The least number above zero that shares a factor, if there is one."""
+    shared = (x for x in range(2, min(modulus, 1000)) if gcd(x, modulus) > 1)
+    return [x for x in (next(shared, None),) if x is not None]
+
+
 def numbers_without_inverse(modulus):
     """Zero and, if there is one, the least number that shares a factor."""
-    shared = (x for x in range(2, min(modulus, 1000)) if gcd(x, modulus) > 1)
-    return [0, *[x for x in (next(shared, None),) if x is not None]]
+    return [0, *sharing_numbers(modulus)]
 
 
 def first_cs(source, modulus):

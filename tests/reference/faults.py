@@ -3,16 +3,23 @@
 `faults(case, number)` lists cases that differ from the given one by one fault
 each. The given case wants three rows or more, so that the first, a middle and
 the last row are three, and its own output and curve lengths to be right.
-`two_faults` puts a lower-numbered fault on top of another. Row 1's c needs no
-inverse, so without one it is no fault; `with_c_of_every_row` lists it as well.
+`two_faults` puts a fault on top of one that is tested later. A prime modulus
+shares a factor with no number below it, so 10 and 11 have no fault there.
+
+Zero and a shared factor stand at one place, 17 and 10 for a, 18 and 11 for c,
+where the lowest row decides. `by_place` names a place by 10 or 11 alone, and
+`of_both_reasons` lists for it numbers without an inverse of both kinds. Row 1's
+c needs no inverse, so without one it is no fault; there it is listed as well.
 """
 
 from dataclasses import replace
+from itertools import combinations
 
 import cases
-from families import numbers_without_inverse
+from families import numbers_without_inverse, sharing_numbers
 
 LARGEST_WORD = 4294967295
+PLACE_OF_ZERO = {17: 10, 18: 11}
 
 
 def outside_moduli(case):
@@ -116,14 +123,24 @@ def reaching_factors(case):
     ]
 
 
-def dead_a(case):
-    """10: some a has no inverse."""
-    return at_three_places(case, "a", numbers_without_inverse(case.modulus))
+def zero_a(case):
+    """17: some a is zero."""
+    return at_three_places(case, "a", [0])
 
 
-def dead_c(case):
-    """11: some c from row 2 on has no inverse."""
-    return at_three_places(case, "c", numbers_without_inverse(case.modulus), first=1)
+def sharing_a(case):
+    """10: some a shares a factor with the modulus."""
+    return at_three_places(case, "a", sharing_numbers(case.modulus))
+
+
+def zero_c(case):
+    """18: some c from row 2 on is zero."""
+    return at_three_places(case, "c", [0], first=1)
+
+
+def sharing_c(case):
+    """11: some c from row 2 on shares a factor with the modulus."""
+    return at_three_places(case, "c", sharing_numbers(case.modulus), first=1)
 
 
 def reaching_curves(case):
@@ -144,10 +161,12 @@ FAULTS = {
     7: wrong_outputs,
     8: short_workings,
     9: reaching_factors,
-    10: dead_a,
-    11: dead_c,
+    10: sharing_a,
+    11: sharing_c,
     12: reaching_curves,
     13: dead_numbers,
+    17: zero_a,
+    18: zero_c,
 }
 
 
@@ -156,21 +175,33 @@ def faults(case, number):
     return FAULTS[number](case)
 
 
-def with_c_of_every_row(listed):
-    """The faults as listed, but for 11 numbers without an inverse in c of every row.
+def by_place(numbers):
+    """The numbers without 17 and 18, which stand at the places of 10 and 11."""
+    return [number for number in numbers if number not in PLACE_OF_ZERO]
 
-    At the first, a middle and the last row: from row 2 on they are refused
-    with 11, in row 1 passed over.
+
+def of_both_reasons(listed):
+    """The faults as listed, but for 10 and 11 all numbers without an inverse, in every row.
+
+    Zero or a shared factor, at the first, a middle and the last row of a for 10
+    and of c for 11: refused with 17 or 10, with 18 or 11, and passed over as c_1.
     """
 
     def listing(case, number):
-        if number == 11:
-            return at_three_places(case, "c", numbers_without_inverse(case.modulus))
+        if number in (10, 11):
+            name = "a" if number == 10 else "c"
+            return at_three_places(case, name, numbers_without_inverse(case.modulus))
         return listed(case, number)
 
     return listing
 
 
-def two_faults(source, case, lower, higher, listed=faults):
-    """A case with one random fault of each number, as listed, the lower one put on last."""
-    return source.choice(listed(source.choice(listed(case, higher)), lower))
+def pairs_of_places(numbers):
+    """Every two of the numbers in their order that stand at two places."""
+    places = {number: PLACE_OF_ZERO.get(number, number) for number in numbers}
+    return [pair for pair in combinations(numbers, 2) if places[pair[0]] != places[pair[1]]]
+
+
+def two_faults(source, case, first, later, listed=faults):
+    """A case with one random fault of each number, as listed; that of the first is put on last."""
+    return source.choice(listed(source.choice(listed(case, later)), first))

@@ -36,7 +36,10 @@ def in_turn(source, moduli, row_count, step):
 
 
 def beside_a_fault(source, modulus, row_count):
-    """c_1 without an inverse, and a_1 (10), c_2 or the last c (11) or the curve (12) spoiled."""
+    """c_1 without an inverse, and a_1, c_2 or the last c like it, or the curve (12) spoiled.
+
+    That is 17 or 10 for a_1, and 18 or 11 for c from row 2 on.
+    """
     family = random_family(source, modulus, row_count)
     curve = random_curve(source, modulus, family.n)
     places = [("a", 0), *(("c", place) for place in sorted({1, row_count - 1}))]

@@ -1,10 +1,10 @@
 """The job text, the text call and the call that writes a job.
 
 A job is six lines, each ended by byte 10: mod, a, b, c, op, v. Both calls
-answer with a TextOutcome: verdict 0 or a refusal number from 1 to 12, the
-length of the text that was written (0 on refusal), the output bytes after the
-call and the working list after the call (None for the call that writes a job,
-which is lent none).
+answer with a TextOutcome: verdict 0 or a refusal number from 1 to 12, 17 or
+18, the length of the text that was written (0 on refusal), the output bytes
+after the call and the working list after the call (None for the call that
+writes a job, which is lent none).
 """
 
 from dataclasses import dataclass
@@ -16,11 +16,11 @@ SHORTEST_OUTPUT = 4096
 SHORTEST_JOB_OUTPUT = 8192
 LARGEST_NUMBER = 4294967295
 KEYS = (b"mod", b"a", b"b", b"c", b"op", b"v")
-TEXT_TESTS = (3, 4, 5, 6, 7, 8, 9, 10, 11, 12)
+TEXT_TESTS = (3, 4, 5, 6, 7, 8, 9, 17, 10, 18, 11, 12)
 TEXT_CONDITIONS = calls.CONDITIONS | {
     7: lambda lent: len(lent.output) < SHORTEST_OUTPUT,
 }
-WRITING_TESTS = (3, 4, 5, 6, 7, 9, 10, 11, 12)
+WRITING_TESTS = (3, 4, 5, 6, 7, 9, 17, 10, 18, 11, 12)
 WRITING_CONDITIONS = calls.CONDITIONS | {
     7: lambda lent: len(lent.output) < SHORTEST_JOB_OUTPUT,
 }

@@ -1,7 +1,7 @@
 """The prepared family: its record, the changes to it and the operations on it.
 
-From item 3 of the change requests; the order of a record's numbers is the C
-header's. A record may hold anything. With m its modulus and r its rows, its
+From items 3 and 5 of the change requests; the order of a record's numbers is
+the C header's. A record may hold anything. With m its modulus and r its rows, its
 family is the first r entries of its a, b and c, and it is right if that family
 is accepted and it is the record of it, in every place: the inverses of every a
 and of every c from row 2 on, zero for c_1, the n norms, and zeros past these.
@@ -15,8 +15,10 @@ operation answers with the Outcome that it gives on the lists.
 16  a replacement of row 0 or of one past the last
 5   there would be more than 127 rows
 9   an entry of the new row is not below the modulus
+17  its a is zero
 10  its a has no inverse
-11  its c has none, and it is not row 1
+18  its c is zero, and it is not row 1
+11  its c has no inverse, and it is not row 1
 
 An empty family is tested by 3 only; refused, its record is all zeros.
 """
@@ -42,10 +44,11 @@ WORD_COUNT = 2 + sum(LISTS.values())
 MODULUS, ROWS = 0, 1
 FIRST_PLACES = dict(zip(LISTS, accumulate(LISTS.values(), initial=2)))
 
+# 17 and 18 hold only where 10 and 11 do: for whether a family is accepted these are enough.
 FAMILY_TESTS = (3, 5, 9, 10, 11)
-APPEND_TESTS = (14, 5, 9, 10, 11)
+APPEND_TESTS = (14, 5, 9, 17, 10, 18, 11)
 DROP_TESTS = (14, 15)
-REPLACE_TESTS = (14, 16, 9, 10, 11)
+REPLACE_TESTS = (14, 16, 9, 17, 10, 18, 11)
 PLAIN_TESTS = (14, 6, 7, 12)
 TREE_TESTS = (14, 6, 7, 8, 12)
 MOMENTS_TESTS = (14, 7, 8)
@@ -165,6 +168,8 @@ CONDITIONS = {
     14: lambda change: not is_right(change.record),
     15: lambda change: change.record.rows == 0,
     16: lambda change: not 1 <= change.row <= change.record.rows,
+    17: lambda change: change.new[0] == 0,
+    18: lambda change: change.row > 1 and change.new[2] == 0,
 }
 
 

@@ -78,10 +78,9 @@ def accepted(source, call):
 
 
 def refused(source, call):
-    """Each number from 3 on alone, and each two of them at once."""
-    listed = faults.with_c_of_every_row(check_texts.text_faults)
-    curveless = call in (cases.NORMS, cases.MOMENTS)
-    numbers = [x for x in check_texts.TEXT_REFUSALS if x != 12 or not curveless]
+    """A fault of each place from 3 on alone, and of each two places at once."""
+    listed = faults.of_both_reasons(check_texts.text_faults)
+    numbers = faults.by_place(check_texts.refusals(call))
     for modulus, row_count in FAULT_BASES:
         family = random_family(source, modulus, row_count)
         curve = random_curve(source, modulus, row_count + 1)

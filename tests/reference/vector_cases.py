@@ -143,12 +143,12 @@ def accepted_case(source, call, modulus, row_count):
 
 
 def fault_cases(source, call):
-    """Every fault alone and every pair of numbers, on several families.
+    """Every fault alone and every pair of places, on several families.
 
     A pair with too many rows is long and comes on the first family only.
     """
-    numbers = cases.REFUSALS[call]
-    listed = faults.with_c_of_every_row(faults.faults)
+    numbers = faults.by_place(cases.REFUSALS[call])
+    listed = faults.of_both_reasons(faults.faults)
     bases = [accepted_case(source, call, *base) for base in FAULT_BASES]
     for case in bases:
         for number in numbers:

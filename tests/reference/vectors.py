@@ -9,9 +9,11 @@ ended by byte 10, every list preceded by its length. A line of IN is
 
 with the call's number, the lists before the call and v as cases.py says. A
 line of OUT is the answer (0 or the refusal number), the output after the call
-preceded by its length (for the inverse: the one inverse, or nothing) and, for
-a call that is lent a working list, two numbers more: how many of its numbers
-are zero after the call, and their sum modulo 4294967291.
+preceded by its length (for the inverse: the one inverse, or nothing) and then,
+for the inverse, the greatest common factor in the same way (one number, or
+nothing where none is told) or, for a call that is lent a working list, two
+numbers more: how many of its numbers are zero after the call, and their sum
+modulo 4294967291.
 
 Without --check both files are written, or neither. With it they are compared
 byte for byte: exit 1 if they differ. Bad arguments exit with 2.
@@ -62,6 +64,8 @@ def input_line(case):
 def outcome_line(outcome):
     """The line of OUT for what a call leaves."""
     numbers = [outcome.verdict, *with_length(outcome.output)]
+    if outcome.factor is not None:
+        numbers += with_length(outcome.factor)
     if outcome.working is not None:
         numbers += [outcome.working.count(0), sum(outcome.working) % SUM_MODULUS]
     return line(numbers)

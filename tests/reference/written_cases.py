@@ -115,7 +115,7 @@ def writing_faults(case, number):
 
 def refusals(operation):
     """The numbers that a job of this operation can be refused with: 12 needs a curve."""
-    return (2, 3, 4, 5, 6, 7, 9, 10, 11) + ((12,) if takes_curve(operation) else ())
+    return (2, 3, 4, 5, 6, 7, 9, 17, 10, 18, 11) + ((12,) if takes_curve(operation) else ())
 
 
 def figures(operation):
@@ -190,19 +190,19 @@ def long_lists(operation):
 
 
 def with_faults(source, operation):
-    """Every fault alone, and with a random one of each higher number.
+    """Every fault alone, and with a random one of each later place.
 
     Two faults with too many rows are long and come on the first family only.
     """
-    numbers = refusals(operation)
-    listed = faults.with_c_of_every_row(writing_faults)
+    numbers = faults.by_place(refusals(operation))
+    listed = faults.of_both_reasons(writing_faults)
     for base in FAULT_BASES:
         case = random_case(source, operation, *base)
         for number in numbers:
             yield from listed(case, number)
-        for lower, higher in combinations(numbers, 2):
-            if 5 not in (lower, higher) or base == FAULT_BASES[0]:
-                yield from listed(source.choice(listed(case, higher)), lower)
+        for first, later in combinations(numbers, 2):
+            if 5 not in (first, later) or base == FAULT_BASES[0]:
+                yield from listed(source.choice(listed(case, later)), first)
 
 
 def written_cases():
