@@ -17,7 +17,9 @@ import check_identities
 import check_prepared
 import check_refusals
 import check_texts
+import check_vectors
 import check_written
+import check_wrong_reasons
 import check_wrong_variants
 from splitmix import WORD, SplitMix64
 from tally import Mismatch, Tally
@@ -25,10 +27,12 @@ from tally import Mismatch, Tally
 PARTS = (
     check_figures,
     check_wrong_variants,
+    check_wrong_reasons,
     check_refusals,
     check_texts,
     check_written,
     check_prepared,
+    check_vectors,
     check_classical,
     check_identities,
 )

@@ -1,12 +1,13 @@
 """The scope paper's figures, P1 to P12 and those that are run only.
 
-Worked by hand beside them: a family whose c_1 is zero, by every call.
+Worked by hand beside them: a family whose c_1 is zero, by every call, families
+with zeros and shared factors, and the factors that the inverse tells.
 """
 
 import calls
 import curves
 import jobs
-from cases import Case, family_case, inverse_case, run
+from cases import MOMENTS, NORMS, ON_CURVES, Case, family_case, inverse_case, run
 from curves import Family
 
 R = Family(7, (1, 2), (0, 3), (1, 5))
@@ -37,6 +38,39 @@ PROVED = (
     ("P11 norms", family_case(4, NO_ROWS_7, ()), 0, [1]),
     ("P12 moments", family_case(9, P12_FAMILY, ()), 0, [8, 11, 13]),
     ("P12 norms", family_case(4, P12_FAMILY, ()), 0, [8, 14]),
+)
+
+# The inverse: verdict, output and the factor that is told.
+FACTORS = (
+    ("P8", inverse_case(15, 4), 0, [4], [1]),
+    ("P9", inverse_case(15, 6), 13, [], [3]),
+    ("m = 15, of 0", inverse_case(15, 0), 13, [], [15]),
+    ("m = 15, of 5", inverse_case(15, 5), 13, [], [5]),
+    ("m = 15, of 15", inverse_case(15, 15), 12, [], []),
+    ("m = 15, of 18", inverse_case(15, 18), 12, [], []),
+    ("m = 1", inverse_case(1, 0), 3, [], []),
+    ("m = 12, of 8", inverse_case(12, 8), 13, [], [4]),
+    ("m = 2, of 0", inverse_case(2, 0), 13, [], [2]),
+    ("m = 2, of 1", inverse_case(2, 1), 0, [1], [1]),
+    ("m = 2147483647, of 0", inverse_case(2147483647, 0), 13, [], [2147483647]),
+    ("m = 2147483646, of its half", inverse_case(2147483646, 1073741823), 13, [], [1073741823]),
+    ("m = 2147483648", inverse_case(2147483648, 0), 3, [], []),
+)
+
+# Rows of a family modulo 15, and the verdict of every call on families.
+REASONS = (
+    ("P10", P10_FAMILY, 10),
+    ("P10 with a = 0", Family(15, (0,), (0,), (5,)), 17),
+    ("P10 with a = 15", Family(15, (15,), (0,), (5,)), 9),
+    ("zero a above a shared one", Family(15, (2, 3, 0), (0, 0, 0), (1, 1, 1)), 10),
+    ("shared a above a zero one", Family(15, (2, 0, 3), (0, 0, 0), (1, 1, 1)), 17),
+    ("zero c above a shared one", Family(15, (2, 1, 1), (0, 0, 0), (1, 5, 0)), 11),
+    ("shared c above a zero one", Family(15, (2, 1, 1), (0, 0, 0), (1, 0, 5)), 18),
+    ("zero c_1, shared c_2", Family(15, (2, 1), (0, 0), (0, 5)), 11),
+    ("shared c_1, zero c_2", Family(15, (2, 1), (0, 0), (5, 0)), 18),
+    ("zero c_1 alone", Family(15, (2, 1), (0, 0), (0, 1)), 0),
+    ("zero a_3, shared c_2", Family(15, (2, 1, 0), (0, 0, 0), (1, 5, 1)), 17),
+    ("shared a_3, zero c_2", Family(15, (2, 1, 3), (0, 0, 0), (1, 0, 1)), 10),
 )
 
 WITH_ZERO_FIRST_C = (
@@ -102,6 +136,15 @@ def check(tally, _source):
     for name, case, output in WITH_ZERO_FIRST_C:
         outcome = run(case)
         tally.equal("figures", (name, case), (0, output), (outcome.verdict, outcome.output))
+    for name, case, *expected in FACTORS:
+        outcome = run(case)
+        got = [outcome.verdict, outcome.output, outcome.factor]
+        tally.equal("figures", (name, case), expected, got)
+    for name, family, verdict in REASONS:
+        for call in (*ON_CURVES, NORMS, MOMENTS):
+            case = family_case(call, family, (1,) * family.n)
+            outcome = run(case)
+            tally.equal("figures", (name, case), (verdict, None), (outcome.verdict, outcome.factor))
     totals = curves.product_law_totals(ZERO_FIRST_C, (1, 2, 3), (4, 5, 6))
     tally.equal("figures", ("product law", ZERO_FIRST_C), (22, 22), totals)
     for name, case, verdict in run_only_cases():

@@ -25,6 +25,7 @@ from families import (
 
 ROUNDS_SHORT, ROUNDS_LONG = 8, 2
 LARGE_PRIME = 2147483647
+GREAT_COMPOSITES = (46337**2, 46327 * 46337, 46340**2)
 FIRST_C_BASES = ((2, 1), (7, 2), (35, 2), (15, 3), (2**30, 8), (1001, 31), (LARGE_PRIME, 127))
 
 
@@ -33,12 +34,30 @@ def inner(left, right, modulus):
     return sum(x * y for x, y in zip(left, right, strict=True)) % modulus
 
 
+def check_factors(tally, source, modulus):
+    """The factor of zero, of m - 1, of any number and of multiples of a divisor, against gcd."""
+    divisor = source.choice(curves.divisors(modulus))
+    multiples = (divisor % modulus, divisor * source.below(modulus // divisor))
+    for x in (0, modulus - 1, source.below(modulus), *multiples):
+        factor = curves.greatest_common_factor(x, modulus)
+        tally.equal("factors", (modulus, x), gcd(x, modulus), factor)
+        has_inverse = curves.inverse(x, modulus) is not None
+        tally.equal("factors", (modulus, x), factor == 1, has_inverse)
+
+
 def check_inverse(tally, source):
-    """Inverse against search for small moduli, against gcd for great ones."""
+    """Inverse and factor against search for small moduli, against gcd for great ones."""
     for modulus in range(2, 41):
         for x in range(modulus):
             expected = second_ways.inverse_by_search(x, modulus)
             tally.equal("inverse", (modulus, x), expected, curves.inverse(x, modulus))
+            expected = second_ways.factor_by_search(x, modulus)
+            got = curves.greatest_common_factor(x, modulus)
+            tally.equal("factors", (modulus, x), expected, got)
+    for modulus in (*PRIMES, *COMPOSITES, *POWERS_OF_TWO, *GREAT_COMPOSITES):
+        check_factors(tally, source, modulus)
+    for _ in range(300):
+        check_factors(tally, source, 2 + source.below(LARGE_PRIME - 1))
     for _ in range(2000):
         modulus = 2 + source.below(LARGE_PRIME - 1)
         x = source.below(modulus)

@@ -1,4 +1,4 @@
-"""The prepared family: figures, changes and their way back, operations, damage, wrong keepers.
+"""The prepared family: figures, changes and their way back, operations, damage, wrong ones.
 
 The expected number is known by how a record or a change was spoiled. Whether a
 record is right is held against a second way, which looks at each place by
@@ -7,6 +7,7 @@ itself and works out neither an inverse nor a norm.
 
 from itertools import product
 
+import calls
 import cases
 import prepared
 import prepared_cases
@@ -19,6 +20,7 @@ from prepared import (
     LISTS,
     MODULUS,
     ZEROS,
+    Change,
     Changed,
     filled,
     is_right,
@@ -117,7 +119,11 @@ def row_fault(modulus, row, new):
     units = {x for x in range(modulus) for y in range(modulus) if x * y % modulus == 1}
     if max(new) >= modulus:
         return 9
-    return 10 if new[0] not in units else 11 if row > 1 and new[2] not in units else 0
+    if new[0] not in units:
+        return 10 if new[0] else 17
+    if row > 1 and new[2] not in units:
+        return 11 if new[2] else 18
+    return 0
 
 
 def check_new_rows(tally, source):
@@ -258,10 +264,45 @@ def check_wrong_keepers(tally):
             tally.equal("wrong keepers", record, verdict, right_by_places(record))
 
 
+def verdict_by(*numbers, conditions=prepared.CONDITIONS):
+    """The verdict, as a function of a change, of tests in this order."""
+
+    def verdict(change):
+        return calls.first_refusal(change, numbers, conditions)
+
+    return verdict
+
+
+def check_wrong_changes(tally):
+    """Changes that test a row in another order or look at c_1, each with a row it gets wrong."""
+    record, full = record_of(Family(15, (2, 1), (1, 0), (4, 1))), record_of(ones(4, 127))
+    damaged = prepared.with_word(record, FIRST_PLACES["norms"], 0)
+    of_every_row = prepared.CONDITIONS | {18: lambda change: change.new[2] == 0}
+    zeros_last = verdict_by(14, 16, 9, 10, 11, 17, 18)
+    for change, right, wrong in (
+        (Change(record, 2, (0, 0, 5)), 17, verdict_by(14, 16, 9, 18, 11, 17, 10)),
+        (Change(record, 2, (3, 0, 0)), 10, verdict_by(14, 16, 9, 17, 18, 10, 11)),
+        (Change(record, 2, (0, 15, 1)), 9, verdict_by(14, 16, 17, 9, 10, 18, 11)),
+        (Change(record, 2, (0, 0, 1)), 17, zeros_last),
+        (Change(record, 2, (1, 0, 0)), 18, zeros_last),
+        (Change(record, 1, (0, 0, 0)), 17, zeros_last),
+        (Change(record, 1, (1, 0, 0)), 0, verdict_by(14, 16, 9, 18, conditions=of_every_row)),
+        (Change(record, 3, (0, 0, 1)), 16, verdict_by(14, 9, 17, 10, 18, 11, 16)),
+        (Change(damaged, 2, (0, 0, 1)), 14, verdict_by(16, 9, 17, 10, 18, 11, 14)),
+    ):
+        changed = prepared.replace(change.record, change.row, *change.new)
+        tally.equal("wrong changes", change, right, changed.verdict)
+        tally.differ("wrong changes", change, right, wrong(change))
+    change = Change(full, 128, (0, 0, 0))
+    tally.equal("wrong changes", change, 5, prepared.append(full, *change.new).verdict)
+    tally.differ("wrong changes", change, 5, verdict_by(14, 9, 17, 10, 18, 11, 5)(change))
+
+
 def check(tally, source):
     """Figures, families of every size, rows of every kind, and damage."""
     check_figures(tally)
     check_wrong_keepers(tally)
+    check_wrong_changes(tally)
     for place, row_count in enumerate(SIZES):
         for modulus in (MODULI[place % len(MODULI)], source.choice(MODULI)):
             family = random_family_any_first_c(source, modulus, row_count)

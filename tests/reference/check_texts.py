@@ -10,6 +10,7 @@ import calls
 import cases
 import faults
 import jobs
+import reasons
 import second_ways
 from check_figures import SHOWN_JOB, text_of_length
 from families import MODULI, SIZES, random_curve, random_family_any_first_c
@@ -184,6 +185,16 @@ def check_text_refusals(tally, source, call):
             check_refused(tally, "text refusals", job_text(spoiled), *lengths, first)
 
 
+def check_reasons(tally, source, call):
+    """Zeros and shared factors in several rows, by text."""
+    for family, curve, verdict in reasons.families(source, reasons.FEWER_BASES):
+        case = cases.family_case(call, family, curve)
+        if verdict == 0 or (verdict == 12 and 12 not in refusals(call)):
+            check_answer(tally, case)
+        else:
+            check_refused(tally, "text refusals", job_text(case), 4096, 16384, verdict)
+
+
 def near_texts(text):
     """All texts one byte away: one byte left out, replaced or put in."""
     for place in range(len(text)):
@@ -236,6 +247,7 @@ def check(tally, source):
         check_refused(tally, "text refusals", text, 4096, 16384, verdict)
     for call in OPERATION_OF:
         check_text_refusals(tally, source, call)
+        check_reasons(tally, source, call)
         for row_count in SIZES:
             modulus = source.choice(MODULI)
             family = random_family_any_first_c(source, modulus, row_count)

@@ -6,12 +6,12 @@ exactly what it was written from, and the text call carries it out.
 """
 
 from dataclasses import replace
-from itertools import combinations
 
 import calls
 import cases
 import check_texts
 import jobs
+import reasons
 import second_ways
 from check_figures import (
     NO_ROWS_7,
@@ -24,6 +24,7 @@ from check_figures import (
 )
 from curves import Family
 from families import MODULI, SIZES, random_curve, random_family_any_first_c
+from faults import pairs_of_places
 from written_cases import (
     OPERATIONS,
     job_case,
@@ -67,6 +68,7 @@ def run_only(operation):
     case = job_case(operation, R, (3, 0, 1))
     found = (
         ("P10", job_case(operation, P10_FAMILY, (1, 1)), 10),
+        ("P10 with a = 0", job_case(operation, replace(P10_FAMILY, a=(0,)), (1, 1)), 17),
         ("m = 1", job_case(operation, ones(1, 0), (0,)), 3),
         ("m = 2147483647", job_case(operation, ones(2147483647, 1), (1, 1)), 0),
         ("m = 2147483648", job_case(operation, ones(2147483648, 1), (1, 1)), 3),
@@ -157,10 +159,23 @@ def check_refusals(tally, source, operation):
                     text = second_ways.written_by_template(*said(spoiled))
                     refused = b"refused=%d\n" % number
                     tally.equal(kind, text, refused, jobs.program_answer(text))
-        for lower, higher in combinations(numbers, 2):
-            for one in writing_faults(case, higher):
-                for both in writing_faults(one, lower):
-                    check_refused(tally, kind, both, lower)
+        for first, later in pairs_of_places(numbers):
+            for one in writing_faults(case, later):
+                for both in writing_faults(one, first):
+                    check_refused(tally, kind, both, first)
+
+
+def check_reasons(tally, source, operation):
+    """Zeros and shared factors in several rows; a reader of the job finds the same number."""
+    kind = "writing refusals"
+    for family, curve, verdict in reasons.families(source, reasons.FEWER_BASES):
+        case = job_case(operation, family, curve)
+        if verdict == 0 or (verdict == 12 and not takes_curve(operation)):
+            check_accepted(tally, case)
+        else:
+            check_refused(tally, kind, case, verdict)
+            text = second_ways.written_by_template(*said(case))
+            tally.equal(kind, text, b"refused=%d\n" % verdict, jobs.program_answer(text))
 
 
 def verdict_by(*numbers, conditions=jobs.WRITING_CONDITIONS):
@@ -176,7 +191,7 @@ def verdict_by(*numbers, conditions=jobs.WRITING_CONDITIONS):
 
 def row_by_row(case):
     """The verdict of a writer that ends its tests of a row before it looks at the next."""
-    verdict = verdict_by(9, 10, 11)
+    verdict = verdict_by(9, 17, 10, 18, 11)
     first_rows = (
         replace(case, a=case.a[:count], b=case.b[:count], c=case.c[:count])
         for count in range(1, len(case.a) + 1)
@@ -185,9 +200,18 @@ def row_by_row(case):
 
 
 def looking_at_row_1(case):
-    """The verdict of a writer whose 11 looks at the c of every row."""
-    every_c = {11: lambda lent: calls.some_without_inverse(lent.c, lent.modulus)}
+    """The verdict of a writer whose 18 and 11 look at the c of every row."""
+    every_c = {
+        11: lambda lent: calls.some_without_inverse(lent.c, lent.modulus),
+        18: lambda lent: calls.zero_is_lowest(lent.c, lent.modulus),
+    }
     return verdict_by(*jobs.WRITING_TESTS, conditions=jobs.WRITING_CONDITIONS | every_c)(case)
+
+
+def looking_for_zeros(case):
+    """The verdict of a writer whose 17 and 18 are any zero, in whatever row."""
+    zeros = {17: lambda lent: 0 in lent.a, 18: lambda lent: 0 in lent.c[1:]}
+    return verdict_by(*jobs.WRITING_TESTS, conditions=jobs.WRITING_CONDITIONS | zeros)(case)
 
 
 def check_wrong_writers(tally):
@@ -195,15 +219,22 @@ def check_wrong_writers(tally):
     job = job_case(EXPAND, R, (3, 0, 1))
     short = replace(job, output_length=8191)
     reaching = replace(job, a=(1, 7), curve=(3, 0, 7))
-    three_rows = job_case(EXPAND, Family(7, (1, 2, 0), (0, 3, 0), (1, 0, 5)), (3, 0, 1, 0))
+    three_rows = job_case(EXPAND, Family(15, (1, 2, 0), (0, 3, 0), (0, 5, 4)), (3, 0, 1, 0))
     for case, right, wrong in (
-        (short, 7, verdict_by(3, 4, 5, 6, 9, 10, 11, 12)),
+        (short, 7, verdict_by(3, 4, 5, 6, 9, 17, 10, 18, 11, 12)),
         (short, 7, verdict_by(*jobs.WRITING_TESTS, conditions=jobs.TEXT_CONDITIONS)),
-        (replace(job, operation=MOMENTS), 6, verdict_by(3, 4, 5, 7, 9, 10, 11)),
-        (replace(short, a=(1, 0)), 7, verdict_by(3, 4, 5, 6, 9, 10, 11, 7, 12)),
-        (reaching, 9, verdict_by(3, 4, 5, 6, 7, 12, 9, 10, 11)),
+        (replace(job, operation=MOMENTS), 6, verdict_by(3, 4, 5, 7, 9, 17, 10, 18, 11)),
+        (replace(short, a=(1, 0)), 7, verdict_by(3, 4, 5, 6, 9, 17, 10, 18, 11, 7, 12)),
+        (reaching, 9, verdict_by(3, 4, 5, 6, 7, 12, 9, 17, 10, 18, 11)),
+        (replace(job, a=(1, 0), curve=(3, 0, 7)), 17, verdict_by(3, 4, 5, 6, 7, 9, 12, 17, 10)),
+        (replace(job, a=(1, 0)), 17, verdict_by(3, 4, 5, 6, 7, 9, 10, 11, 12, 17, 18)),
+        (replace(job, c=(1, 0)), 18, verdict_by(3, 4, 5, 6, 7, 9, 10, 11, 12, 17, 18)),
         (replace(job, a=(0, 7)), 9, row_by_row),
-        (three_rows, 10, row_by_row),
+        (three_rows, 17, row_by_row),
+        (three_rows, 17, verdict_by(9, 18, 11, 17, 10)),
+        (replace(three_rows, a=(1, 3, 0)), 10, looking_for_zeros),
+        (replace(three_rows, a=(1, 2, 4), c=(1, 5, 0)), 11, looking_for_zeros),
+        (replace(three_rows, a=(1, 2, 4)), 11, looking_at_row_1),
         (job_case(EXPAND, ZERO_FIRST_C, (1, 2, 3)), 0, looking_at_row_1),
     ):
         tally.equal("wrong writers", case, right, run(case).verdict)
@@ -216,6 +247,7 @@ def check(tally, source):
     check_wrong_writers(tally)
     for operation in OPERATIONS:
         check_refusals(tally, source, operation)
+        check_reasons(tally, source, operation)
         for row_count in SIZES:
             case = accepted_case(source, operation, source.choice(MODULI), row_count)
             check_accepted(tally, case)

@@ -90,15 +90,16 @@ def last_basis_from_halves(family, in_order):
 
 
 def verdict_by_non_zero(family):
-    """10 or 11 if some a or c_2 on is zero, which is too few where m is composite."""
-    return 10 if 0 in family.a else 11 if 0 in family.c[1:] else 0
+    """17 or 18 if some a or c_2 on is zero, and no more: too few where m is composite."""
+    return 17 if 0 in family.a else 18 if 0 in family.c[1:] else 0
 
 
 def verdict_from_row(first):
-    """The verdict, as a function of a family, of a test for 11 from this row on."""
+    """The verdict, as a function of a family, of tests for 18 and 11 from this row on."""
 
     def verdict(family):
-        return 11 if calls.some_without_inverse(family.c[first - 1 :], family.modulus) else 0
+        lowest = calls.lowest_without_inverse(family.c[first - 1 :], family.modulus)
+        return 0 if lowest is None else 18 if lowest == 0 else 11
 
     return verdict
 
@@ -134,7 +135,7 @@ def check_powering(tally):
     tally.equal(KIND, "2 powered mod 15", 2, powered(2, 15))
     coefficients = (1, 3, 2)
     case = family_case(3, ZERO_FACTOR, coefficients)
-    tally.equal(KIND, case, 10, run(case).verdict)
+    tally.equal(KIND, case, 17, run(case).verdict)
     lost = curves.expand(ZERO_FACTOR, decompose_by_powering(ZERO_FACTOR, coefficients))
     tally.differ(KIND, case, list(coefficients), lost)
 
@@ -174,8 +175,8 @@ def check_order_of_halves(tally):
     tally.differ(KIND, R, right, last_basis_from_halves(R, False))
 
 
-def check_rows_of_11(tally):
-    """11 from another row than row 2 on, and a single row that is not tested."""
+def check_rows_of_c(tally):
+    """18 and 11 from another row than row 2 on, and a single row that is not tested."""
     for family, right, wrong in (
         (ZERO_FIRST_C, 0, verdict_from_row(1)),
         (SHARED_FIRST_C, 0, verdict_from_row(1)),
@@ -203,5 +204,5 @@ def check(tally, _source):
     check_non_zero(tally)
     check_norms_and_moments(tally)
     check_order_of_halves(tally)
-    check_rows_of_11(tally)
+    check_rows_of_c(tally)
     check_one_inverse(tally)

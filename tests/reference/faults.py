@@ -202,6 +202,11 @@ def pairs_of_places(numbers):
     return [pair for pair in combinations(numbers, 2) if places[pair[0]] != places[pair[1]]]
 
 
+def pairs_with_a_reason(numbers):
+    """Those of these pairs in which zero or a shared factor is a fault."""
+    return [pair for pair in pairs_of_places(numbers) if {10, 11, 17, 18} & {*pair}]
+
+
 def two_faults(source, case, first, later, listed=faults):
     """A case with one random fault of each number, as listed; that of the first is put on last."""
     return source.choice(listed(source.choice(listed(case, later)), first))

@@ -22,6 +22,7 @@ import cases
 import curves
 import faults
 import prepared
+import reasons
 from check_figures import NO_ROWS_7, P10_FAMILY, P12_FAMILY, ZERO_FIRST_C, R, ones
 from curves import Family
 from families import (
@@ -57,6 +58,7 @@ ROW_BASES = ((7, 3), (15, 4), (2147483646, 3))
 LENGTH_BASES = ((2, 0), (7, 1), (15, 3), (3, 127))
 LONGEST_GREAT = ((2147483647, 126), (2147483646, 127))
 WALKS, WALK_STEPS = 60, 25
+REASON_MODULI = (2, 4, 7, 15, 2147483646, 2147483647)
 
 
 def call_refusals(call):
@@ -390,6 +392,49 @@ def records_of_no_family(source):
         yield [loaded(prepared.of_words(words)), *any_call(source, NO_ROWS_7)]
 
 
+def new_rows(source, modulus):
+    """Rows whose a and c each have an inverse, are zero, share a factor, or are m."""
+    kinds = (None, *reasons.kinds_of(modulus), reasons.MODULUS)
+    for in_a, in_c in product(kinds, repeat=2):
+        row = list(random_row(source, modulus))
+        for place, kind in ((0, in_a), (2, in_c)):
+            if kind is not None:
+                row[place] = reasons.number_of(source, modulus, kind)
+        yield tuple(row)
+
+
+def new_rows_with_reasons(source):
+    """Zeros and shared factors in a row that is appended or put in the place of a row.
+
+    As row 1 and later, and where 5, 9 or 16 goes before.
+    """
+    for modulus in REASON_MODULI:
+        family = random_family_any_first_c(source, modulus, 3)
+        for new in new_rows(source, modulus):
+            yield [("empty", modulus), ("append", *new)]
+            for change in ("append",), ("replace", 1), ("replace", 2), ("replace", 3):
+                yield [loaded(record_of(family)), (*change, *new)]
+        a, _, c = random_row(source, modulus)
+        refused = [("append", 0, modulus, c), ("append", 2 * modulus, 0, 0)]
+        refused += [("replace", 1, 0, modulus, 0), ("replace", 3, a, 2 * modulus, 0)]
+        refused += [("replace", 4, 0, 0, 0), ("replace", 0, a, 0, 0)]
+        yield [loaded(record_of(family)), *refused]
+    for modulus in (4, 2147483647):
+        family = random_family_any_first_c(source, modulus, 127)
+        steps = [("append", 0, 0, 0), ("append", 1, 0, 0), ("replace", 128, 0, 0, 0)]
+        for row in (1, 2, 64, 127):
+            steps += [("replace", row, 0, 1, 0), ("replace", row, 1, 1, 0)]
+        yield [loaded(record_of(family)), *steps]
+
+
+def records_with_reasons(source):
+    """Consistent records of families with zeros and shared factors: 14, but for those in c_1."""
+    for family, _, verdict in reasons.families(source, ((7, 2, 1), (15, 3, 1))):
+        if verdict != 12:
+            steps = [("append", 0, 0, 0), ("replace", 1, 0, 1, 0), ("replace", 2, 1, 1, 0)]
+            yield [loaded(as_if_prepared(family)), *steps, ("norms", family.n)]
+
+
 def too_many_rows(source):
     """Every call on a record of 127 rows that says that it has more."""
     family = ones(2, 127)
@@ -452,5 +497,7 @@ def sequences():
         records_of_no_family,
         walks,
         too_many_rows,
+        new_rows_with_reasons,
+        records_with_reasons,
     )
     return [steps for part, make in enumerate(makers) for steps in make(SplitMix64(SEED + part))]

@@ -25,6 +25,11 @@ def inverse_by_search(x, modulus):
     return next((y for y in range(modulus) if x * y % modulus == 1), None)
 
 
+def factor_by_search(x, modulus):
+    """The greatest common factor by trying every number from the modulus down."""
+    return next(d for d in range(modulus, 0, -1) if modulus % d == 0 and x % d == 0)
+
+
 def expand_from_the_top(family, curve):
     """Expand by Clenshaw's scheme: from the highest F_i down, no F_i formed."""
     rows = family.rows()

@@ -13,6 +13,7 @@ import check_texts
 import faults
 import first_c
 import jobs
+import reasons
 from check_figures import (
     P10_FAMILY,
     P12_FAMILY,
@@ -77,24 +78,38 @@ def accepted(source, call):
     yield replace(case, output_length=LONGER_OUTPUT, working_length=LONGER_WORKING)
 
 
+def text_case(case):
+    """The text of a case's job, with the lengths that the case is lent."""
+    return TextCase(check_texts.job_text(case), case.output_length, case.working_length)
+
+
+def accepted_case(source, call, modulus, row_count):
+    """An accepted case whose output and working list are of the least length."""
+    family = random_family(source, modulus, row_count)
+    curve = random_curve(source, modulus, row_count + 1)
+    case = cases.family_case(call, family, curve)
+    return replace(case, output_length=OUTPUT, working_length=WORKING)
+
+
 def refused(source, call):
     """A fault of each place from 3 on alone, and of each two places at once."""
     listed = faults.of_both_reasons(check_texts.text_faults)
     numbers = faults.by_place(check_texts.refusals(call))
-    for modulus, row_count in FAULT_BASES:
-        family = random_family(source, modulus, row_count)
-        curve = random_curve(source, modulus, row_count + 1)
-        case = replace(
-            cases.family_case(call, family, curve),
-            output_length=OUTPUT,
-            working_length=WORKING,
-        )
+    for base in FAULT_BASES:
+        case = accepted_case(source, call, *base)
         spoiled = [source.choice(listed(case, x)) for x in numbers]
         for pair in combinations(numbers, 2):
             spoiled.append(faults.two_faults(source, case, *pair, listed))
-        for other in spoiled:
-            text = check_texts.job_text(other)
-            yield TextCase(text, other.output_length, other.working_length)
+        yield from map(text_case, spoiled)
+
+
+def with_reasons(source, call):
+    """Zeros and shared factors in a and c, and either beside a fault of every other number."""
+    for family, curve, _ in reasons.families(source, reasons.FEWER_BASES):
+        yield job_case(call, family, curve)
+    case = accepted_case(source, call, *FAULT_BASES[0])
+    for pair in faults.pairs_with_a_reason(check_texts.refusals(call)):
+        yield text_case(faults.two_faults(source, case, *pair, check_texts.text_faults))
 
 
 def with_numbers():
@@ -177,4 +192,6 @@ def text_cases():
     found += map(TextCase, plain_texts(source))
     for call in check_texts.OPERATION_OF:
         found += (job_case(call, *pair) for pair in first_c.fewer_pairs(SplitMix64(SEED + 1)))
+    for call in check_texts.OPERATION_OF:
+        found += with_reasons(SplitMix64(SEED + 2), call)
     return list(dict.fromkeys(found))

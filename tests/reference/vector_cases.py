@@ -10,8 +10,10 @@ from itertools import combinations
 
 import cases
 import classical
+import curves
 import faults
 import first_c
+import reasons
 from cases import family_case, inverse_case
 from classical import classical_family, least_prime
 from families import (
@@ -33,6 +35,8 @@ SMALL_MODULI = (2, 3, 4, 5, 6, 7, 8, 15, 16, 30)
 GREAT_MODULI = (2**30, 2147483629, 2147483646, 2147483647)
 SHORT_FAMILIES = 80
 FAULT_BASES = ((15, 5), (7, 3), (2**30, 4), (2147483646, 3))
+REASON_BASE = (15, 4)
+FACTOR_MODULI = (2, 3, 4, 12, 30, 97, 2**30, 46337**2, 46327 * 46337, 46340**2, *GREAT_MODULI[1:])
 STORY_BASES = ((7, 1), (15, 1), (15, 3), (257, 7), (1024, 6), (2**30, 4), (2147483646, 5))
 
 
@@ -180,15 +184,38 @@ def first_c_cases(source, call):
                 yield family_case(call, family, curve)
 
 
+def reason_cases(source, call):
+    """Zeros and shared factors in a and c, and either beside a fault of every other number."""
+    pairs = (pair[:2] for pair in reasons.families(source))
+    yield from dict.fromkeys(family_case(call, *pair) for pair in pairs)
+    case = accepted_case(source, call, *REASON_BASE)
+    for pair in faults.pairs_with_a_reason(cases.REFUSALS[call]):
+        yield faults.two_faults(source, case, *pair)
+
+
+def factor_cases(source):
+    """Numbers to invert that share every factor: the divisors of m and multiples of them.
+
+    46337 and 46327 are primes, and 46340 is not; their squares and their product
+    are near the greatest m.
+    """
+    for modulus in FACTOR_MODULI:
+        for divisor in curves.divisors(modulus):
+            cofactor = modulus // divisor
+            multiples = (1, cofactor - 1, source.below(cofactor))
+            numbers = dict.fromkeys(divisor * x % modulus for x in multiples)
+            yield from (inverse_case(modulus, number) for number in numbers)
+
+
 def family_cases(call):
-    """All cases of a call on families."""
+    """All cases of a call on families but those of reason_cases."""
     makers = (accepted_cases, story_cases, fault_cases, length_cases, first_c_cases)
     for part, make in enumerate(makers):
         yield from make(SplitMix64(SEED + part), call)
 
 
 def inverse_cases():
-    """All cases of the inverse."""
+    """All cases of the inverse but those of factor_cases."""
     source = SplitMix64(SEED)
     for modulus in range(2, 18):
         for number in range(modulus + 1):
@@ -208,5 +235,11 @@ def inverse_cases():
 
 
 def cases_of_call(call):
-    """All cases of a call, always the same ones in the same order."""
+    """The cases of a call but reasons_of_call, always the same ones in the same order."""
     return list(inverse_cases() if call == cases.INVERSE else family_cases(call))
+
+
+def reasons_of_call(call):
+    """The cases about zero and shared factors, of the inverse those about the factor it tells."""
+    source = SplitMix64(SEED + 5)
+    return list(factor_cases(source) if call == cases.INVERSE else reason_cases(source, call))

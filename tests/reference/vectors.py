@@ -26,7 +26,7 @@ import tempfile
 from itertools import zip_longest
 
 import cases
-from vector_cases import cases_of_call
+from vector_cases import cases_of_call, reasons_of_call
 
 SUM_MODULUS = 4294967291
 
@@ -82,8 +82,16 @@ def contents_of(found, *lines):
 
 
 def vectors(selection):
-    """The bytes of IN and of OUT for the selected calls, in order of number."""
-    chosen = [case for call in selection for case in cases_of_call(call)]
+    """The bytes of IN and of OUT for the selected calls, in order of number.
+
+    Zeros and shared factors stand behind all else.
+    """
+    chosen = [
+        case
+        for cases_of in (cases_of_call, reasons_of_call)
+        for call in selection
+        for case in cases_of(call)
+    ]
     return contents_of(chosen, input_line, expected_line)
 
 

@@ -11,6 +11,7 @@ import calls
 import faults
 import first_c
 import jobs
+import reasons
 from check_figures import NO_ROWS_7, P10_FAMILY, P12_FAMILY, R, ones
 from check_texts import OUTPUT_BEFORE
 from curves import Family
@@ -205,6 +206,15 @@ def with_faults(source, operation):
                 yield from listed(source.choice(listed(case, later)), first)
 
 
+def with_reasons(source, operation):
+    """Zeros and shared factors in a and c, and either beside a fault of every other number."""
+    for family, curve, _ in reasons.families(source, reasons.FEWER_BASES):
+        yield job_case(operation, family, curve)
+    case = random_case(source, operation, *FAULT_BASES[0])
+    for pair in faults.pairs_with_a_reason(refusals(operation)):
+        yield faults.two_faults(source, case, *pair, writing_faults)
+
+
 def written_cases():
     """All cases in their order, none of them twice."""
     source = SplitMix64(SEED)
@@ -220,4 +230,6 @@ def written_cases():
     for operation in OPERATIONS:
         pairs = first_c.fewer_pairs(SplitMix64(SEED + 1))
         found += (job_case(operation, *pair) for pair in pairs)
+    for operation in OPERATIONS:
+        found += with_reasons(SplitMix64(SEED + 2), operation)
     return list(dict.fromkeys(found))
