@@ -3,10 +3,10 @@
  * usage: stack
  *
  * For each function a line: its name and the most bytes that it took, of accepted cases with r = 127 and r = 0 and of refused ones, whose
- * last a or last c is zero or, if it is not prime, has a factor of m, modulo a prime and a composite number; of the text call and of the call that writes a job, for every operation; on a record of 127,
- * 126, 1 and 0 rows, right and damaged. A byte counts if it lies between the frame of the caller, which holds the arguments, and the
- * lowest byte that was written; the record that a change hands out is the caller's and is not counted. Exits 1 if a call gives another
- * answer than it should.
+ * last a or last c is zero or shares a factor with m, modulo a prime and a composite number; of the text call and of the call that writes
+ * a job, for every operation; on a record of 127, 126, 1 and 0 rows, right and damaged. A byte counts if it lies between the frame of the
+ * caller, which holds the arguments, and the lowest byte that was written; the record that a change hands out is the caller's and is not
+ * counted. Exits 1 if a call gives another answer than it should.
  */
 #define _XOPEN_SOURCE 700
 #include <inttypes.h>

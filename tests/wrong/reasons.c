@@ -1,4 +1,4 @@
-/* What reasons.h declares. */
+/* What reasons.h declares. A reason is told from the refusal that the model gives: it is another number, or one where the model gives none. */
 #include "reasons.h"
 
 #include "jobs.h"
@@ -44,22 +44,22 @@ static bool zero_is_lowest(struct list list, uint32_t m) {
     return find(list, m, false, &number) && number == 0;
 }
 
-uint32_t refusal_a_zero_anywhere(const struct lent *x) {
+static uint32_t refusal_a_zero_anywhere(const struct lent *x) {
     uint32_t number = refusal(x);
     return is_for_a(number) && has_zero(x->a) ? 17 : number;
 }
 
-uint32_t refusal_c_zero_anywhere(const struct lent *x) {
+static uint32_t refusal_c_zero_anywhere(const struct lent *x) {
     uint32_t number = refusal(x);
     return is_for_c(number) && has_zero(later_c(x)) ? 18 : number;
 }
 
-uint32_t refusal_a_highest(const struct lent *x) {
+static uint32_t refusal_a_highest(const struct lent *x) {
     uint32_t number = refusal(x), highest;
     return is_for_a(number) && find(x->a, x->m, true, &highest) ? for_a(highest) : number;
 }
 
-uint32_t refusal_c_highest(const struct lent *x) {
+static uint32_t refusal_c_highest(const struct lent *x) {
     uint32_t number = refusal(x), highest;
     return is_for_c(number) && find(later_c(x), x->m, true, &highest) ? for_c(highest) : number;
 }
@@ -69,34 +69,34 @@ static uint32_t given_for(uint32_t number, uint32_t wrong, uint32_t right, bool 
     return number == right ? wrong : number == wrong && swapped ? right : number;
 }
 
-uint32_t refusal_a_swapped(const struct lent *x) { return given_for(refusal(x), 10, 17, true); }
-uint32_t refusal_c_swapped(const struct lent *x) { return given_for(refusal(x), 11, 18, true); }
-uint32_t refusal_a_zero_untold(const struct lent *x) { return given_for(refusal(x), 10, 17, false); }
-uint32_t refusal_c_zero_untold(const struct lent *x) { return given_for(refusal(x), 11, 18, false); }
-uint32_t refusal_zeros_swapped(const struct lent *x) { return given_for(refusal(x), 18, 17, true); }
+static uint32_t refusal_a_swapped(const struct lent *x) { return given_for(refusal(x), 10, 17, true); }
+static uint32_t refusal_c_swapped(const struct lent *x) { return given_for(refusal(x), 11, 18, true); }
+static uint32_t refusal_a_zero_untold(const struct lent *x) { return given_for(refusal(x), 10, 17, false); }
+static uint32_t refusal_c_zero_untold(const struct lent *x) { return given_for(refusal(x), 11, 18, false); }
+static uint32_t refusal_zeros_swapped(const struct lent *x) { return given_for(refusal(x), 18, 17, true); }
 
-uint32_t refusal_zeros_first(const struct lent *x) {
+static uint32_t refusal_zeros_first(const struct lent *x) {
     uint32_t number = refusal(x);
     return number == 10 && zero_is_lowest(later_c(x), x->m) ? 18 : number;
 }
 
-uint32_t refusal_zeros_last(const struct lent *x) {
+static uint32_t refusal_zeros_last(const struct lent *x) {
     uint32_t number = refusal(x), lowest;
     return number == 17 && find(later_c(x), x->m, false, &lowest) && lowest ? 11 : number;
 }
 
-uint32_t refusal_c_before_a(const struct lent *x) {
+static uint32_t refusal_c_before_a(const struct lent *x) {
     uint32_t number = refusal(x), lowest;
     return is_for_a(number) && find(later_c(x), x->m, false, &lowest) ? for_c(lowest) : number;
 }
 
-uint32_t refusal_zeros_before_entries(const struct lent *x) {
+static uint32_t refusal_zeros_before_entries(const struct lent *x) {
     uint32_t number = refusal(x);
     if (number == 9 && zero_is_lowest(x->a, x->m)) return 17;
     return number == 9 && zero_is_lowest(later_c(x), x->m) ? 18 : number;
 }
 
-uint32_t refusal_zeros_after_curve(const struct lent *x) {
+static uint32_t refusal_zeros_after_curve(const struct lent *x) {
     uint32_t number = refusal(x);
     for (size_t i = 0; i < x->curve.length; i++)
         if ((number == 17 || number == 18) && x->curve.entries[i] >= x->m) return 12;
@@ -104,26 +104,25 @@ uint32_t refusal_zeros_after_curve(const struct lent *x) {
 }
 
 /* A c_1 that shares a factor leaves a zero above it to 11, which passes over c_1. */
-uint32_t refusal_c_1_zero_asked(const struct lent *x) {
+static uint32_t refusal_c_1_zero_asked(const struct lent *x) {
     uint32_t number = refusal(x);
     if ((number != 0 && number != 12 && !is_for_c(number)) || !x->c.length || !lacks_inverse(x->c.entries[0], x->m)) return number;
     return x->c.entries[0] == 0 ? 18 : number == 18 ? 11 : number;
 }
 
-uint32_t refusal_c_1_decides(const struct lent *x) {
+static uint32_t refusal_c_1_decides(const struct lent *x) {
     uint32_t number = refusal(x), c_1 = x->c.length ? x->c.entries[0] : 1;
     return is_for_c(number) && lacks_inverse(c_1, x->m) ? for_c(c_1) : number;
 }
 
-/* The text call reads its job and converts it by the version on lists. */
-#define REASON_CALLS(name, what, calls)                   \
-    uint32_t name(const struct call *call) {              \
-        uint32_t number = refusal_##name(&call->lent);    \
-        return number ? number : right(call);             \
-    }                                                     \
-    uint32_t text_##name(const struct text_call *call) {  \
-        if (call->job) return tested_by(call, refusal_##name); \
-        return convert_job(call, name);                   \
+/* What no reason refuses, the right call answers. The text call reads its job and converts it by the version on lists. */
+#define REASON_CALLS(name, what, calls)                                                     \
+    uint32_t name(const struct call *call) {                                                \
+        uint32_t number = refusal_##name(&call->lent);                                      \
+        return number ? number : right(call);                                               \
+    }                                                                                       \
+    uint32_t text_##name(const struct text_call *call) {                                    \
+        return call->job ? tested_by(call, refusal_##name) : convert_job(call, name);       \
     }
 REASONS(REASON_CALLS)
 

@@ -6,7 +6,7 @@
 
 #include "version.h"
 
-/* Of the calls on a family. For each there is the refusal that it gives, or 0; the call on lists; and the call that writes a text. */
+/* Of the calls on a family: each as a call on lists, and as one that writes a text. */
 #define REASONS(REASON)                                                                      \
     REASON(a_zero_anywhere, "17 for a zero a, whichever row is lowest", ROWS_TESTED)         \
     REASON(c_zero_anywhere, "18 for a zero c, whichever row is lowest", ROWS_TESTED)         \
@@ -25,23 +25,22 @@
     REASON(c_1_zero_asked, "18 from row 1 on", ROWS_TESTED)                                  \
     REASON(c_1_decides, "18 or 11 by c_1, where another c has no inverse", ROWS_TESTED)
 enum { ROWS_TESTED = WITH_FAMILY | WRITE_JOB, CURVES_TESTED = PLAIN_CURVES | TREE_CURVES | TO_TEXTS };
-#define REASON_DECLARED(name, what, calls)         \
-    uint32_t refusal_##name(const struct lent *x); \
-    uint32_t name(const struct call *call);        \
+#define REASON_DECLARED(name, what, calls)  \
+    uint32_t name(const struct call *call); \
     uint32_t text_##name(const struct text_call *call);
 REASONS(REASON_DECLARED)
 
 /* Of Inverse. */
-uint32_t factor_kept(const struct call *call);        /* not written where it finishes */
-uint32_t factor_kept_by_13(const struct call *call);  /* not written with 13 */
-uint32_t factor_with_12(const struct call *call);     /* written with 12 too */
-uint32_t factor_with_3(const struct call *call);      /* written with 3 too */
-uint32_t factor_zero(const struct call *call);        /* 0 for zero */
-uint32_t factor_least(const struct call *call);       /* the least common factor above 1 */
-uint32_t factor_other(const struct call *call);       /* m divided by the factor */
-uint32_t factor_in_place(const struct call *call);    /* the factor and the inverse each in the other's place */
-uint32_t inverse_zero_by_13(const struct call *call); /* 13 writes a zero for the inverse */
+uint32_t factor_kept(const struct call *call);         /* not written where it finishes */
+uint32_t factor_kept_by_13(const struct call *call);   /* not written with 13 */
+uint32_t factor_with_12(const struct call *call);      /* written with 12 too */
+uint32_t factor_with_3(const struct call *call);       /* written with 3 too */
+uint32_t factor_zero(const struct call *call);         /* 0 for zero */
+uint32_t factor_least(const struct call *call);        /* the least common factor above 1 */
+uint32_t factor_other(const struct call *call);        /* m divided by the factor */
+uint32_t factor_in_place(const struct call *call);     /* the factor and the inverse each in the other's place */
+uint32_t inverse_zero_by_13(const struct call *call);  /* 13 writes a zero for the inverse */
 uint32_t inverse_power_by_13(const struct call *call); /* 13 writes x^(m-2) for the inverse */
-uint32_t zero_as_17(const struct call *call);         /* zero refused with 17 */
+uint32_t zero_as_17(const struct call *call);          /* zero refused with 17 */
 
 #endif
