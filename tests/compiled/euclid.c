@@ -4,10 +4,11 @@
  * usage: euclid <ADDRESSES
  *
  * Standard input has the addresses of this program's own divisions, in hexadecimal, one a line. A breakpoint stands at each while a call
- * runs. A refusal by the last c, for which each entry is looked at by itself, shows what a run of the algorithm for each row would take.
+ * runs. A refusal by the last a or the last c, zero or with a factor of m, is the only one that looks for its row, entry by entry: it shows
+ * what a run of the algorithm for each row would take.
  *
- * Prints the counts and exits 0; exits 1 if a call takes more for one c_1 than for another, if the refusal takes no more than that, or
- * if there is no division to count.
+ * Prints the counts and exits 0; exits 1 if a call takes more for one c_1 than for another, if a refusal takes no more than that or has
+ * another number, or if there is no division to count.
  */
 #include <inttypes.h>
 #include <stdio.h>
@@ -48,10 +49,11 @@ static const struct call {
     {"tree_expand", tree_expand},   {"tree_adjoint", tree_adjoint},   {"tree_decompose", tree_decompose},   {"moments", moments},
 };
 
-/* The divisions of a call on the family with these for its first and last c; it has to return this number. */
-static unsigned long counted(const struct call *call, uint32_t first, uint32_t last, uint32_t number) {
-    c[0] = first;
-    c[ROWS - 1] = last;
+/* The divisions of a call on the family with these for its first and last c and its last a; it has to return this number. */
+static unsigned long counted(const struct call *call, uint32_t first_c, uint32_t last_c, uint32_t last_a, uint32_t number) {
+    c[0] = first_c;
+    c[ROWS - 1] = last_c;
+    a[ROWS - 1] = last_a;
     begin_count();
     uint32_t returned = call->run();
     end_count();
@@ -65,14 +67,18 @@ static unsigned long counted(const struct call *call, uint32_t first, uint32_t l
 
 static int holds(const struct call *call) {
     static const uint32_t others[] = {MODULUS - 1, 0, 6, 2};
-    int same = 1;
+    static const struct {
+        uint32_t last_c, last_a, number;
+    } refused[] = {{0, 1, ZAHUPNIK_C_ZERO}, {6, 1, ZAHUPNIK_C_INVERSE}, {1, 0, ZAHUPNIK_A_ZERO}, {1, 6, ZAHUPNIK_A_INVERSE}};
+    int right = 1;
     printf("%-16s", call->name);
-    unsigned long wanted = counted(call, 1, 1, ZAHUPNIK_FINISHED);
+    unsigned long wanted = counted(call, 1, 1, 1, ZAHUPNIK_FINISHED);
     for (size_t i = 0; i < sizeof others / sizeof *others; i++)
-        same = counted(call, others[i], 1, ZAHUPNIK_FINISHED) == wanted && same;
-    unsigned long refused = counted(call, 1, 0, ZAHUPNIK_C_INVERSE);
+        right = counted(call, others[i], 1, 1, ZAHUPNIK_FINISHED) == wanted && right;
+    for (size_t i = 0; i < sizeof refused / sizeof *refused; i++)
+        right = counted(call, 1, refused[i].last_c, refused[i].last_a, refused[i].number) > wanted + ROWS && right;
     printf("\n");
-    return same && refused > wanted + ROWS;
+    return right;
 }
 
 int main(void) {
@@ -85,8 +91,8 @@ int main(void) {
         b[i] = curve[i] = (uint32_t)(x * y % MODULUS);
         c[i] = (uint32_t)y;
     }
-    printf("%-16s %8s %8s %8s %8s %8s %8s\n", "divisions", "c_1 = 1", "m - 1", "0", "6", "2", "c_r = 0");
+    printf("%-16s %8s %8s %8s %8s %8s %8s %8s %8s %8s\n", "divisions", "c_1 = 1", "m - 1", "0", "6", "2", "c_r = 0", "6", "a_r = 0", "6");
     for (size_t i = 0; i < sizeof calls / sizeof *calls; i++) all = holds(&calls[i]) && all;
-    if (!all) cannot("a call's divisions depend on c_1, or a refusal by the last c takes no more than an answer");
+    if (!all) cannot("a call's divisions depend on c_1, or a refusal by the last row takes no more than an answer");
     return 0;
 }

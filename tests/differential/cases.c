@@ -41,7 +41,7 @@ uint32_t some_unit(struct random *random, uint32_t m) {
     }
 }
 
-uint32_t some_non_unit(struct random *random, uint32_t m) {
+uint32_t some_sharing(struct random *random, uint32_t m) {
     for (int tries = 0; tries < 6; tries++) {
         uint32_t number = below(random, m);
         if (number && common_divisor(number, m) != 1) return number;
@@ -49,10 +49,12 @@ uint32_t some_non_unit(struct random *random, uint32_t m) {
     return 0;
 }
 
+uint32_t some_non_unit(struct random *random, uint32_t m) { return one_in(random, 2) ? 0 : some_sharing(random, m); }
+
 uint32_t some_first_c(struct random *random, uint32_t m) {
     switch (below(random, 4)) {
     case 0: return 0;
-    case 1: return some_non_unit(random, m);
+    case 1: return some_sharing(random, m);
     case 2: return m - 1;
     default: return below(random, m);
     }
@@ -187,12 +189,42 @@ static void fault_9(struct random *random, struct lent *x) {
     replace(random, some_list(random, x), some_not_below(random, x->m));
 }
 
-static void fault_10(struct random *random, struct lent *x) { replace(random, &x->a, some_non_unit(random, x->m)); }
+/* A zero, and a number that shares a factor with m, in two entries of a list if it has two: in either order. */
+static void replace_two(struct random *random, struct list list, uint32_t m) {
+    if (list.length < 2) return;
+    size_t low = below(random, list.length - 1), high = low + 1 + below(random, list.length - 1 - low);
+    bool zero_first = one_in(random, 2);
+    list.entries[zero_first ? low : high] = 0;
+    list.entries[zero_first ? high : low] = some_sharing(random, m);
+}
 
-/* Most often in a row that 11 looks at; it passes over row 1. */
+static void fault_10(struct random *random, struct lent *x) { replace(random, &x->a, some_sharing(random, x->m)); }
+
+static void fault_17(struct random *random, struct lent *x) { replace(random, &x->a, 0); }
+
+static void fault_10_or_17(struct random *random, struct lent *x) { replace_two(random, x->a, x->m); }
+
+/* The c that 11 and 18 look at, most often: they pass over row 1. */
+static struct list some_c(struct random *random, const struct lent *x) {
+    return x->c.length > 1 && !one_in(random, 4) ? (struct list){x->c.entries + 1, x->c.length - 1} : x->c;
+}
+
 static void fault_11(struct random *random, struct lent *x) {
-    struct list list = x->c;
-    if (list.length > 1 && !one_in(random, 4)) list = (struct list){x->c.entries + 1, x->c.length - 1};
+    struct list list = some_c(random, x);
+    replace(random, &list, some_sharing(random, x->m));
+}
+
+static void fault_18(struct random *random, struct lent *x) {
+    struct list list = some_c(random, x);
+    replace(random, &list, 0);
+}
+
+static void fault_11_or_18(struct random *random, struct lent *x) { replace_two(random, some_c(random, x), x->m); }
+
+/* An a and a c without an inverse, so that 10 or 17 goes before 11 and 18. */
+static void fault_a_and_c(struct random *random, struct lent *x) {
+    struct list list = some_c(random, x);
+    replace(random, &x->a, some_non_unit(random, x->m));
     replace(random, &list, some_non_unit(random, x->m));
 }
 
@@ -204,7 +236,11 @@ typedef void fault(struct random *random, struct lent *x);
 
 static void damage(struct random *random, struct lent *x) {
     static fault *const on_number[] = {fault_3, fault_12, fault_13, fault_other_modulus};
-    static fault *const on_family[] = {fault_3, fault_4, fault_5, fault_7, fault_9, fault_10, fault_11, fault_other_modulus};
+    /* those in two rows stand twice: modulo a prime they bring zeros alone */
+    static fault *const on_family[] = {
+        fault_3,  fault_4,        fault_5,        fault_7,  fault_9,  fault_other_modulus, fault_a_and_c,
+        fault_10, fault_10_or_17, fault_10_or_17, fault_17, fault_11, fault_11_or_18,      fault_11_or_18, fault_18,
+    };
     static fault *const on_curve[] = {fault_6, fault_12};
     if (x->operation == INVERSE)
         ONE_OF(random, on_number)(random, x);

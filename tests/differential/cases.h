@@ -23,9 +23,10 @@ uint32_t some_wrong_modulus(struct random *random);
 /* How many rows: short families most often, since a call by the tree at 127 rows takes as long as hundreds at 3. */
 size_t some_rows(struct random *random);
 
-/* A number below m with an inverse; one without, which shares a factor with m if one is met soon and is 0 else; a c_1, with an inverse or
- * without; a number that is not below m: the least, the greatest, or any. */
+/* A number below m with an inverse; one that shares a factor with m and is not 0 if one is met soon, and is 0 else; one without an inverse,
+ * 0 or such a one; a c_1, with an inverse or without; a number that is not below m: the least, the greatest, or any. */
 uint32_t some_unit(struct random *random, uint32_t m);
+uint32_t some_sharing(struct random *random, uint32_t m);
 uint32_t some_non_unit(struct random *random, uint32_t m);
 uint32_t some_first_c(struct random *random, uint32_t m);
 uint32_t some_not_below(struct random *random, uint32_t m);

@@ -9,10 +9,11 @@
  * same case.
  *
  * Compares the number and the record returned, all that a call writes, and that it writes nothing else (trial.h). Prints how many cases
- * each call had, how often it gave each answer, and how often it finished with a c_1 that is 0 and with one that shares a factor with m,
- * and exits 0; shows the first case that differs and exits 1. It exits 1 too if some call never gave one of the answers that it can
- * give, or if one on families never finished with such a c_1, unless FIRST, the number of the first case, is stated. Bad arguments
- * exit with 2.
+ * each call had, how often it gave each answer, how often it finished with a c_1 that is 0 and with one that shares a factor with m, and
+ * how often it was refused with 17, 10, 18 and 11 for a list that has zeros and shared factors both, so that the lowest row had to
+ * decide; and exits 0. Shows the first case that differs and exits 1. It exits 1 too if some call never gave one of the answers that it
+ * can give, if one on families never finished with such a c_1, or if one on lists was never refused so for such a list, unless FIRST, the
+ * number of the first case, is stated. Bad arguments exit with 2.
  */
 #include <inttypes.h>
 #include <stdio.h>
@@ -27,18 +28,22 @@
 
 static const uint64_t SEQUENCES = 15000, ALL_CALLS = 1100000, QUICK_CALLS = 4550000, SEED = 20240229;
 
-enum { ANSWERS = 17, QUICK = 5, EACH_SEQUENCE = 12, MOST_STEPS = 48 };
+enum { ANSWERS = 19, QUICK = 5, EACH_SEQUENCE = 12, MOST_STEPS = 48 };
+
+/* The refusals for which the lowest row decides. */
+static const int BY_LOWEST_ROW[] = {17, 10, 18, 11};
+enum { BY_LOWEST_ROW_COUNT = sizeof BY_LOWEST_ROW / sizeof *BY_LOWEST_ROW };
 
 /* A call by its name in the header without zahupnik_, which answers it can give, how it is run on lists, how often it gave each
- * answer, whether it finished with so many rows, and how often with such a c_1. What writes a text is not run on lists: its cases
- * are run alone. Nor is what is on a prepared family: its cases are steps of a sequence. */
+ * answer, and how often for a list with both kinds, whether it finished with so many rows, and how often with such a c_1. What writes a
+ * text is not run on lists: its cases are run alone. Nor is what is on a prepared family: its cases are steps of a sequence. */
 struct call {
     const char *name;
     const char *answers;
     enum operation operation;
     enum way way;
-    uint32_t (*run)(const struct lent *x, uint32_t *output, uint32_t *work);
-    unsigned long met[ANSWERS];
+    uint32_t (*run)(const struct lent *x, uint32_t *output, uint32_t *work, uint32_t *factor);
+    unsigned long met[ANSWERS], met_mixed[ANSWERS];
     bool finished[MOST_ROWS + 1];
     unsigned long finished_with[KINDS_OF_FIRST_C];
     uint32_t (*run_alone)(struct trial *trial, struct random *random);
@@ -49,12 +54,13 @@ struct call {
 #define FAMILY x->m, LIST(a), LIST(b), LIST(c)
 #define OUTPUT output, x->output_length
 #define WORK work, x->work_length
-#define RUN(name, ...)                                                             \
-    static uint32_t name(const struct lent *x, uint32_t *output, uint32_t *work) { \
-        (void)work;                                                                \
-        return zahupnik_##name(__VA_ARGS__);                                       \
+#define RUN(name, ...)                                                                               \
+    static uint32_t name(const struct lent *x, uint32_t *output, uint32_t *work, uint32_t *factor) { \
+        (void)work;                                                                                  \
+        (void)factor;                                                                                \
+        return zahupnik_##name(__VA_ARGS__);                                                         \
     }
-RUN(invert, x->m, x->curve.entries[0], output)
+RUN(invert, x->m, x->curve.entries[0], output, factor)
 RUN(plain_expand, FAMILY, LIST(curve), OUTPUT)
 RUN(plain_adjoint, FAMILY, LIST(curve), OUTPUT)
 RUN(plain_decompose, FAMILY, LIST(curve), OUTPUT)
@@ -64,35 +70,35 @@ RUN(tree_adjoint, FAMILY, LIST(curve), OUTPUT, WORK)
 RUN(tree_decompose, FAMILY, LIST(curve), OUTPUT, WORK)
 RUN(moments, FAMILY, OUTPUT, WORK)
 
-/* Answers: a sign for each number from 0 to 16, a point where the call cannot give it. The quick calls come first, and write_job comes
+/* Answers: a sign for each number from 0 to 18, a point where the call cannot give it. The quick calls come first, and write_job comes
  * last of those that are not run in steps. Of those that are, the changes come first, in the order of their kinds. */
-#define ON_LISTS(call, can_give, operation, way) {#call, can_give, operation, way, call, {0}, {0}, {0}, NULL, NULL}
+#define ON_LISTS(call, can_give, operation, way) {#call, can_give, operation, way, call, {0}, {0}, {0}, {0}, NULL, NULL}
 #define ALONE(call, can_give, function) {.name = #call, .answers = can_give, .run_alone = function}
 #define IN_STEPS(call, can_give) {.name = #call, .answers = can_give, .run_step = call}
 static struct call calls[] = {
-    ON_LISTS(invert, "0..3........CD...", INVERSE, PLAIN),
-    ON_LISTS(plain_expand, "0..34567.9ABC....", EXPAND, PLAIN),
-    ON_LISTS(plain_adjoint, "0..34567.9ABC....", ADJOINT, PLAIN),
-    ON_LISTS(plain_decompose, "0..34567.9ABC....", DECOMPOSE, PLAIN),
-    ON_LISTS(norms, "0..345.7.9AB.....", NORMS, PLAIN),
-    ON_LISTS(tree_expand, "0..3456789ABC....", EXPAND, TREE),
-    ON_LISTS(tree_adjoint, "0..3456789ABC....", ADJOINT, TREE),
-    ON_LISTS(tree_decompose, "0..3456789ABC....", DECOMPOSE, TREE),
-    ON_LISTS(moments, "0..345.789AB.....", MOMENTS, TREE),
-    ALONE(convert_text, "0123456789ABC....", run_on_text),
-    ALONE(write_job, "0.234567.9ABC....", run_on_job),
-    IN_STEPS(prepared_empty, "0..3............."),
-    IN_STEPS(prepared_append, "0....5...9AB..E.."),
-    IN_STEPS(prepared_drop_last, "0.............EF."),
-    IN_STEPS(prepared_replace, "0........9AB..E.G"),
-    IN_STEPS(prepared_plain_expand, "0.....67....C.E.."),
-    IN_STEPS(prepared_plain_adjoint, "0.....67....C.E.."),
-    IN_STEPS(prepared_plain_decompose, "0.....67....C.E.."),
-    IN_STEPS(prepared_norms, "0......7......E.."),
-    IN_STEPS(prepared_tree_expand, "0.....678...C.E.."),
-    IN_STEPS(prepared_tree_adjoint, "0.....678...C.E.."),
-    IN_STEPS(prepared_tree_decompose, "0.....678...C.E.."),
-    IN_STEPS(prepared_moments, "0......78.....E.."),
+    ON_LISTS(invert, "0..3........CD.....", INVERSE, PLAIN),
+    ON_LISTS(plain_expand, "0..34567.9ABC....HI", EXPAND, PLAIN),
+    ON_LISTS(plain_adjoint, "0..34567.9ABC....HI", ADJOINT, PLAIN),
+    ON_LISTS(plain_decompose, "0..34567.9ABC....HI", DECOMPOSE, PLAIN),
+    ON_LISTS(norms, "0..345.7.9AB.....HI", NORMS, PLAIN),
+    ON_LISTS(tree_expand, "0..3456789ABC....HI", EXPAND, TREE),
+    ON_LISTS(tree_adjoint, "0..3456789ABC....HI", ADJOINT, TREE),
+    ON_LISTS(tree_decompose, "0..3456789ABC....HI", DECOMPOSE, TREE),
+    ON_LISTS(moments, "0..345.789AB.....HI", MOMENTS, TREE),
+    ALONE(convert_text, "0123456789ABC....HI", run_on_text),
+    ALONE(write_job, "0.234567.9ABC....HI", run_on_job),
+    IN_STEPS(prepared_empty, "0..3..............."),
+    IN_STEPS(prepared_append, "0....5...9AB..E..HI"),
+    IN_STEPS(prepared_drop_last, "0.............EF..."),
+    IN_STEPS(prepared_replace, "0........9AB..E.GHI"),
+    IN_STEPS(prepared_plain_expand, "0.....67....C.E...."),
+    IN_STEPS(prepared_plain_adjoint, "0.....67....C.E...."),
+    IN_STEPS(prepared_plain_decompose, "0.....67....C.E...."),
+    IN_STEPS(prepared_norms, "0......7......E...."),
+    IN_STEPS(prepared_tree_expand, "0.....678...C.E...."),
+    IN_STEPS(prepared_tree_adjoint, "0.....678...C.E...."),
+    IN_STEPS(prepared_tree_decompose, "0.....678...C.E...."),
+    IN_STEPS(prepared_moments, "0......78.....E...."),
 };
 enum { COUNT = sizeof calls / sizeof *calls, CHANGES = 4, OPERATIONS = 8, IN_NO_STEPS = COUNT - CHANGES - OPERATIONS };
 enum { WRITE_JOB = IN_NO_STEPS - 1 };
@@ -101,8 +107,12 @@ static bool can_give(const struct call *call, int answer) { return call->answers
 
 static bool is_on_families(const struct call *call) { return can_give(call, 11) || can_give(call, 14); }
 
+/* Whether the lists that a call is lent, or reads in a text, can have several rows that are refused. */
+static bool is_on_rows(const struct call *call) { return can_give(call, 11) && !call->run_step; }
+
 static void count(struct call *call, const struct trial *trial, uint32_t answer) {
     call->met[answer]++;
+    call->met_mixed[answer] += trial->mixed;
     if (answer != 0) return;
     call->finished[trial->rows] = true;
     call->finished_with[trial->first_c]++;
@@ -111,16 +121,20 @@ static void count(struct call *call, const struct trial *trial, uint32_t answer)
 /* Runs a random case of a call on lists and holds it against the model; the answer. */
 static uint32_t run_on_lists(const struct call *call, struct trial *trial, struct random *random) {
     static const uint32_t zeros[LEAST_WORK];
-    uint32_t result[MOST_RESULTS], *output, *work = NULL;
+    uint32_t result[MOST_RESULTS], handed_factor, *output, *work = NULL, *factor = NULL;
     struct lent x = make_case(random, call->operation, call->way);
     trial->m = &x.m;
-    note_family(trial, &x);
     trial->number = refusal(&x);
+    note_family(trial, &x);
     if (trial->number == 0) hand_out(&x, result);
     struct lent lent = lend_lists(trial, random, &x);
     output = lend_numbers(trial, random, "output", x.output_length, result, result_length(&x));
     if (takes_work(&x)) work = lend_numbers(trial, random, "working list", x.work_length, zeros, LEAST_WORK);
-    compare(trial, call->run(&lent, output, work));
+    if (x.operation == INVERSE) {
+        handed_factor = factor_of(&x);
+        factor = lend_factor(trial, random, &handed_factor);
+    }
+    compare(trial, call->run(&lent, output, work, factor));
     return trial->number;
 }
 
@@ -175,12 +189,14 @@ static void print_met(bool can_be, unsigned long met) {
         printf(" %6s", "-");
 }
 
-/* How many cases each call had, how often it gave each answer, with how many different numbers of rows it finished, and how often
- * with a c_1 that is 0 and with one that shares a factor with m. */
+/* How many cases each call had, how often it gave each answer, with how many different numbers of rows it finished, how often with a c_1
+ * that is 0 and with one that shares a factor with m, and how often the lowest row decided against others. */
 static void print_table(void) {
     printf("%-24s %7s", "answer", "cases");
     for (int answer = 0; answer < ANSWERS; answer++) printf(" %6d", answer);
-    printf("  rows  c_1=0 shares\n");
+    printf("  rows  c_1=0 shares");
+    for (int i = 0; i < BY_LOWEST_ROW_COUNT; i++) printf("  low%d", BY_LOWEST_ROW[i]);
+    printf("\n");
     for (size_t i = 0; i < COUNT; i++) {
         unsigned long cases = 0;
         for (int answer = 0; answer < ANSWERS; answer++) cases += calls[i].met[answer];
@@ -190,6 +206,7 @@ static void print_table(void) {
         for (int rows = 0; rows <= MOST_ROWS; rows++) numbers_of_rows += calls[i].finished[rows];
         printf(" %5d", numbers_of_rows);
         for (int kind = ZERO; kind <= SHARES_FACTOR; kind++) print_met(is_on_families(&calls[i]), calls[i].finished_with[kind]);
+        for (int k = 0; k < BY_LOWEST_ROW_COUNT; k++) print_met(is_on_rows(&calls[i]), calls[i].met_mixed[BY_LOWEST_ROW[k]]);
         printf("\n");
     }
 }
@@ -217,9 +234,21 @@ static bool met_first_c(const struct call *call) {
     return true;
 }
 
+/* Whether the call, if it is lent rows, was refused for lists with both kinds, the lowest row of one and of the other. */
+static bool met_lowest_rows(const struct call *call) {
+    for (int i = 0; i < BY_LOWEST_ROW_COUNT; i++) {
+        if (is_on_rows(call) && call->met_mixed[BY_LOWEST_ROW[i]] == 0) {
+            fprintf(stderr, "differential: no case of %s had the answer %d for a list with zeros and shared factors: take more cases\n",
+                    call->name, BY_LOWEST_ROW[i]);
+            return false;
+        }
+    }
+    return true;
+}
+
 static bool met_all(void) {
     for (size_t i = 0; i < COUNT; i++)
-        if (!met_answers(&calls[i]) || !met_first_c(&calls[i])) return false;
+        if (!met_answers(&calls[i]) || !met_first_c(&calls[i]) || !met_lowest_rows(&calls[i])) return false;
     return true;
 }
 

@@ -1,5 +1,6 @@
 /* What model.h declares. Expand, Adjoint and Norms are the formulas that define them, as in tests/reference. These three go
- * another way than the scope paper's two ways and than the definitions in tests/reference:
+ * another way than the scope paper's two ways and than the definitions in tests/reference, and the greatest common divisor is found by
+ * halves and differences, with no remainder:
  *
  * Inverse    is found from an inverse modulo a smaller number.
  * Decompose  is Horner's scheme in the basis: times x, plus a coefficient, from the top power down.
@@ -33,12 +34,23 @@ size_t least_output(const struct lent *x) {
 }
 
 uint32_t common_divisor(uint32_t x, uint32_t y) {
-    while (y) {
-        uint32_t rest = x % y;
-        x = y;
-        y = rest;
+    uint32_t twos = 0;
+    if (x == 0 || y == 0) return x + y;
+    for (; x % 2 == 0 && y % 2 == 0; twos++) {
+        x /= 2;
+        y /= 2;
     }
-    return x;
+    while (x != y) {
+        if (x % 2 == 0)
+            x /= 2;
+        else if (y % 2 == 0)
+            y /= 2;
+        else if (x > y)
+            x = (x - y) / 2;
+        else
+            y = (y - x) / 2;
+    }
+    return x << twos;
 }
 
 static bool all_below(struct list list, uint32_t m) {
@@ -47,10 +59,12 @@ static bool all_below(struct list list, uint32_t m) {
     return true;
 }
 
-static bool all_have_inverses(struct list list, uint32_t m) {
+/* 0 if every number of the list has an inverse. If not, the first without one decides: the number for a zero, or that for another,
+ * which shares a factor with m. */
+static uint32_t lack(struct list list, uint32_t m, uint32_t for_zero, uint32_t for_shared) {
     for (size_t i = 0; i < list.length; i++)
-        if (common_divisor(list.entries[i], m) != 1) return false;
-    return true;
+        if (common_divisor(list.entries[i], m) != 1) return list.entries[i] ? for_shared : for_zero;
+    return 0;
 }
 
 /* The entries from row 2 on: none if there is no such row. */
@@ -67,13 +81,15 @@ uint32_t refusal(const struct lent *x) {
         if (least_output(x) ? x->output_length < least_output(x) : x->output_length != result_length(x)) return 7;
         if (takes_work(x) && x->work_length < LEAST_WORK) return 8;
         if (!all_below(x->a, x->m) || !all_below(x->b, x->m) || !all_below(x->c, x->m)) return 9;
-        if (!all_have_inverses(x->a, x->m)) return 10;
-        if (!all_have_inverses(from_row_2(x->c), x->m)) return 11;
+        uint32_t a_lacks = lack(x->a, x->m, 17, 10), c_lacks = lack(from_row_2(x->c), x->m, 18, 11);
+        if (a_lacks) return a_lacks;
+        if (c_lacks) return c_lacks;
     }
     if (takes_curve(x) && !all_below(x->curve, x->m)) return 12;
-    if (x->operation == INVERSE && !all_have_inverses(x->curve, x->m)) return 13;
-    return 0;
+    return x->operation == INVERSE ? lack(x->curve, x->m, 13, 13) : 0;
 }
+
+uint32_t factor_of(const struct lent *x) { return common_divisor(x->curve.entries[0], x->m); }
 
 /* The number y below m with x y = 1 + m k for some k. Modulo x, k is the opposite of the inverse of m, and x is smaller than m.
  */

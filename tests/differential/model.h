@@ -1,6 +1,7 @@
 /* The calls of the scope paper, once more: which refusal a call gives, and what list it hands out.
  *
- * Follows the scope paper and the request for a first row with any c, and shares no code with the crates or with tests/reference.
+ * Follows the scope paper and the requests for a first row with any c and for the reason of a refusal, and shares no code with the
+ * crates or with tests/reference.
  * It does not use the library's header: the limits stand here again. Only texts are apart (text_model.h).
  */
 #ifndef MODEL_H
@@ -52,13 +53,16 @@ size_t result_length(const struct lent *x);
 /* How many bytes an output for a text has to have at least; 0 for a list. */
 size_t least_output(const struct lent *x);
 
-/* The number of the refusal from 3 to 13 that the call gives, or 0. */
+/* The number of the refusal that the call gives, one from 3 to 13, 17 or 18, or 0. */
 uint32_t refusal(const struct lent *x);
 
 /* The list that a call that is not refused hands out: result_length numbers. */
 void hand_out(const struct lent *x, uint32_t result[MOST_RESULTS]);
 
-/* The greatest number that divides both; one of them must not be 0. */
+/* What Inverse hands out besides, if it is not refused or is refused with 13: the greatest number that divides its number and m. */
+uint32_t factor_of(const struct lent *x);
+
+/* The greatest number that divides both: if one is 0, the other. */
 uint32_t common_divisor(uint32_t x, uint32_t y);
 
 #endif

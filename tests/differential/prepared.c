@@ -19,7 +19,10 @@ static void damage_row(struct random *random, uint32_t m, struct change *x) {
     case 0: *ONE_OF(random, numbers) = some_not_below(random, m); break;
     case 1: x->a = some_non_unit(random, m); break;
     case 2: x->c = some_non_unit(random, m); break;
-    default: x->a = x->c = some_non_unit(random, m); break;
+    default:
+        x->a = some_non_unit(random, m);
+        x->c = some_non_unit(random, m);
+        break;
     }
 }
 
@@ -211,8 +214,8 @@ static uint32_t hold_operation(struct trial *trial, struct random *random, struc
     x.output_length = made.output_length;
     x.work_length = made.work_length;
     trial->handed = &handed;
-    note_family(trial, &x);
     trial->number = refusal_on(&handed, &x);
+    note_family(trial, &x);
     if (trial->number == 0) hand_out(&x, result);
     struct lent lent = x;
     if (takes_curve(&x)) lent.curve = lend_list(trial, random, "curve", x.curve);

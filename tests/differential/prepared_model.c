@@ -71,8 +71,9 @@ static uint32_t change_refusal(const struct change *x) {
     if (x->kind == REPLACE && (row == 0 || row > rows)) return 16;
     if (row > MOST_ROWS) return 5;
     if (x->a >= m || x->b >= m || x->c >= m) return 9;
-    if (!has_inverse(x->a, m)) return 10;
-    return row > 1 && !has_inverse(x->c, m) ? 11 : 0;
+    if (!has_inverse(x->a, m)) return x->a ? 10 : 17;
+    if (row > 1 && !has_inverse(x->c, m)) return x->c ? 11 : 18;
+    return 0;
 }
 
 uint32_t change_record(const struct change *x, struct record *after) {

@@ -1,7 +1,8 @@
 /* A prepared family, once more: its record, the changes of one, and which refusal the calls on one give.
  *
- * Follows the request for a prepared family, and shares no code, as model.h. A record is right if its rows are accepted and it is the
- * record that they have: so every change is one of the rows alone, and the record after it is worked out from nothing.
+ * Follows the requests for a prepared family and for the reason of a refusal, and shares no code, as model.h. A record is right if its
+ * rows are accepted and it is the record that they have: so every change is one of the rows alone, and the record after it is worked out
+ * from nothing.
  */
 #ifndef PREPARED_MODEL_H
 #define PREPARED_MODEL_H

@@ -1,4 +1,4 @@
-/* What text_cases.h declares. A text is written from a random case (cases.h), which may be refused with 3 to 12; some texts are
+/* What text_cases.h declares. A text is written from a random case (cases.h), which may be refused by its numbers; some texts are
  * then damaged once or more. Uses of the model only how a job is written: what the call has to answer is read in the bytes. */
 #include "text_cases.h"
 

@@ -18,8 +18,8 @@ enum operation operation_of(uint32_t number);
 /* Reads the job that a text says into x, which keeps it until the next is read: 0, or the refusal 1 or 2. */
 uint32_t read_text(const uint8_t *text, size_t length, struct lent *x);
 
-/* The number of the refusal from 2 to 12 that the call gives which is to write the job x, or 0. It is told the operation by its
- * number. */
+/* The number of the refusal that the call gives which is to write the job x, one from 2 to 12, 17 or 18, or 0. It is told the
+ * operation by its number. */
 uint32_t writing_refusal(uint32_t operation, const struct lent *x);
 
 /* Writes the text of the job x, which may be refused, and returns its length. A number with the byte after it takes at most 11

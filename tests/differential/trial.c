@@ -120,10 +120,23 @@ const void *dirt(struct random *random, size_t bytes) {
     return dirt_numbers + below(random, (DIRT_BYTES - bytes) / sizeof *dirt_numbers);
 }
 
+/* Whether a list has a zero, and another number that has no inverse. */
+static bool has_both(struct list list, uint32_t m) {
+    bool zero = false, sharing = false;
+    for (size_t i = 0; i < list.length; i++) {
+        zero = zero || list.entries[i] == 0;
+        sharing = sharing || (list.entries[i] && common_divisor(list.entries[i], m) != 1);
+    }
+    return zero && sharing;
+}
+
 void note_family(struct trial *trial, const struct lent *x) {
     uint32_t c_1 = x->c.length ? x->c.entries[0] : 1;
     trial->rows = x->a.length;
     trial->first_c = c_1 == 0 ? ZERO : common_divisor(c_1, x->m) != 1 ? SHARES_FACTOR : INVERTIBLE;
+    if (trial->number == 10 || trial->number == 17) trial->mixed = has_both(x->a, x->m);
+    if (trial->number == 11 || trial->number == 18)
+        trial->mixed = has_both((struct list){x->c.entries + 1, x->c.length - 1}, x->m);
 }
 
 void watch(const struct trial *trial) { running = trial; }
@@ -142,7 +155,7 @@ void *lend(struct trial *trial, struct random *random, struct lending lending) {
 }
 
 struct list lend_list(struct trial *trial, struct random *random, const char *name, struct list list) {
-    struct lending lending = {name, sizeof *list.entries, list.entries, list.length, NULL, 0};
+    struct lending lending = {name, sizeof *list.entries, list.entries, list.length, NULL, 0, 0};
     return (struct list){lend(trial, random, lending), list.length};
 }
 
@@ -160,7 +173,12 @@ struct lent lend_lists(struct trial *trial, struct random *random, const struct 
 uint32_t *lend_numbers(struct trial *trial, struct random *random, const char *name, size_t length, const uint32_t *front,
                        size_t front_length) {
     const void *before = dirt(random, length * sizeof *front);
-    return lend(trial, random, (struct lending){name, sizeof *front, before, length, front, front_length});
+    return lend(trial, random, (struct lending){name, sizeof *front, before, length, front, front_length, 0});
+}
+
+uint32_t *lend_factor(struct trial *trial, struct random *random, const uint32_t *factor) {
+    const void *before = dirt(random, sizeof *factor);
+    return lend(trial, random, (struct lending){"factor", sizeof *factor, before, 1, factor, 1, 13});
 }
 
 static void show_returned(const char *which, uint32_t number) {
@@ -187,6 +205,11 @@ static void show_difference(const struct lending *x, const unsigned char *at, si
     show(at, x->width, shown);
 }
 
+/* How many numbers at the front a call writes that returns this number. */
+static size_t written(const struct lending *x, uint32_t number) {
+    return number == 0 || number == x->written_with ? x->front_length : 0;
+}
+
 static bool holds(const struct lending *x, const unsigned char *at, size_t front_length) {
     size_t front = front_length * x->width, all = x->length * x->width;
     if (!at) return true;
@@ -203,7 +226,7 @@ void compare(const struct trial *trial, uint32_t returned) {
     running = NULL;
     for (size_t i = 0; i < trial->lendings; i++) {
         const struct lending *x = &trial->lending[i];
-        same = holds(x, trial->at[i], trial->number ? 0 : x->front_length) && same;
+        same = holds(x, trial->at[i], written(x, trial->number)) && same;
     }
     if (same) return;
     show_case(trial);
@@ -217,7 +240,7 @@ void compare(const struct trial *trial, uint32_t returned) {
     }
     for (size_t i = 0; i < trial->lendings; i++) {
         const struct lending *x = &trial->lending[i];
-        size_t front_length = trial->number ? 0 : x->front_length;
+        size_t front_length = written(x, trial->number);
         if (!holds(x, trial->at[i], front_length)) show_difference(x, trial->at[i], front_length);
     }
     show_end(trial);

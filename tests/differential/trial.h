@@ -15,8 +15,8 @@
 enum { MOST_LENDINGS = 6 };
 
 /* Numbers that are lent: how many, of how many bytes each, and what they are before the call. When a call has finished, the
- * first of what it may write are those at front; the others are as before, and so are all of them when it is refused. What it
- * may not write has no front. */
+ * first of what it may write are those at front; the others are as before, and so are all of them when it is refused, unless it is with
+ * the one number that writes them too, if that is not 0. What it may not write has no front. */
 struct lending {
     const char *name;
     size_t width;
@@ -24,14 +24,16 @@ struct lending {
     size_t length;
     const void *front;
     size_t front_length;
+    uint32_t written_with;
 };
 
 /* What a family's c_1 is: it has an inverse, or there is no row; it is 0; it is another number that shares a factor with m. */
 enum first_c { INVERTIBLE, ZERO, SHARES_FACTOR, KINDS_OF_FIRST_C };
 
 /* A case of a call, or a step of one that is a sequence. Number is what it has to return; a text has no m of its own, and only
- * write_job is told the number of an operation. Rows says how long its family is. A call on a record is handed one; a change has
- * returned one besides, and has to return the one wanted. */
+ * write_job is told the number of an operation. Rows says how long its family is, and mixed, where it is refused for a or for c, whether
+ * that list has zeros and other numbers without an inverse both. A call on a record is handed one; a change has returned one besides,
+ * and has to return the one wanted. */
 struct trial {
     const char *call;
     uint64_t seed, number_of_case;
@@ -42,6 +44,7 @@ struct trial {
     uint32_t number;
     size_t rows, lendings;
     enum first_c first_c;
+    bool mixed;
     struct lending lending[MOST_LENDINGS];
     unsigned char *at[MOST_LENDINGS];
 };
@@ -52,7 +55,7 @@ void prepare_trials(size_t most_bytes);
 /* What an output or a working list of so many bytes may hold before a call; never the same for long. */
 const void *dirt(struct random *random, size_t bytes);
 
-/* Notes the rows and the c_1 of the trial's family. */
+/* Notes the rows and the c_1 of the trial's family, and by the trial's number whether what it is refused for is mixed. */
 void note_family(struct trial *trial, const struct lent *x);
 
 /* From here on to the comparing the library runs, so that a fault is its own. */
@@ -70,6 +73,9 @@ struct lent lend_lists(struct trial *trial, struct random *random, const struct 
 /* Lends 32-bit numbers that the call may write, dirty, with what a finished call leaves at their front. */
 uint32_t *lend_numbers(struct trial *trial, struct random *random, const char *name, size_t length, const uint32_t *front,
                        size_t front_length);
+
+/* Lends the number that Inverse writes its factor to, dirty, with the one that it leaves there if it finishes or is refused with 13. */
+uint32_t *lend_factor(struct trial *trial, struct random *random, const uint32_t *factor);
 
 /* Holds the number and the record that the call returned, and all that it was lent, against what has to be. At a difference the case
  * is shown and the program ends with 1. It ends so too if the library touches what it may not while it is watched. */

@@ -168,15 +168,45 @@ static void on_family(const struct function *f) {
     GIVES(ENTRY, 1, x.c[0] = 7);
     GIVES(ENTRY, 2, x.c[0] = 7);
     GIVES(FINISHED, 2, x.b[1] = 0);
-    GIVES(A_INVERSE, 2, x.a[1] = 0);
-    GIVES(C_INVERSE, 2, x.c[1] = 0);
+    GIVES(A_ZERO, 1, x.a[0] = 0);
+    GIVES(A_ZERO, 2, x.a[1] = 0);
+    GIVES(C_ZERO, 2, x.c[1] = 0);
     GIVES(A_INVERSE, 2, (x.m = 15, x.a[1] = 6));
     GIVES(C_INVERSE, 2, (x.m = 15, x.c[1] = 6));
     GIVES(FINISHED, 1, x.c[0] = 0);
     GIVES(FINISHED, 2, x.c[0] = 0);
     GIVES(FINISHED, 2, (x.m = 15, x.c[0] = 6));
     GIVES(FINISHED, ZAHUPNIK_MOST_ROWS, x.c[0] = 0);
-    GIVES(C_INVERSE, ZAHUPNIK_MOST_ROWS, x.c[ZAHUPNIK_MOST_ROWS - 1] = 0);
+    GIVES(A_ZERO, ZAHUPNIK_MOST_ROWS, x.a[ZAHUPNIK_MOST_ROWS - 1] = 0);
+    GIVES(C_ZERO, ZAHUPNIK_MOST_ROWS, x.c[ZAHUPNIK_MOST_ROWS - 1] = 0);
+    GIVES(A_INVERSE, ZAHUPNIK_MOST_ROWS, (x.m = 15, x.a[ZAHUPNIK_MOST_ROWS - 1] = 5));
+    GIVES(C_INVERSE, ZAHUPNIK_MOST_ROWS, (x.m = 15, x.c[ZAHUPNIK_MOST_ROWS - 1] = 5));
+}
+
+/* Of the rows without an inverse the lowest says why, for the a and then for the c from row 2 on. */
+static void on_lowest_row(const struct function *f) {
+    GIVES(A_INVERSE, 1, (x.m = 15, x.a[0] = 3, x.b[0] = 0, x.c[0] = 5));
+    GIVES(A_ZERO, 1, (x.m = 15, x.a[0] = 0, x.b[0] = 0, x.c[0] = 5));
+    GIVES(A_INVERSE, 3, (x.m = 15, x.a[1] = 6, x.a[2] = 0));
+    GIVES(A_ZERO, 3, (x.m = 15, x.a[1] = 0, x.a[2] = 6));
+    GIVES(A_INVERSE, 3, (x.m = 15, x.a[0] = 6, x.a[1] = x.a[2] = 0));
+    GIVES(A_ZERO, 3, (x.m = 15, x.a[0] = 0, x.a[1] = x.a[2] = 6));
+    GIVES(C_INVERSE, 3, (x.m = 15, x.c[1] = 6, x.c[2] = 0));
+    GIVES(C_ZERO, 3, (x.m = 15, x.c[1] = 0, x.c[2] = 6));
+    GIVES(C_INVERSE, 3, (x.m = 15, x.c[0] = 0, x.c[1] = 6));
+    GIVES(C_ZERO, 3, (x.m = 15, x.c[0] = 6, x.c[1] = 0));
+    GIVES(A_INVERSE, 2, (x.m = 15, x.a[1] = 6, x.c[1] = 0));
+    GIVES(A_ZERO, 2, (x.m = 15, x.a[1] = 0, x.c[1] = 6));
+    GIVES(A_INVERSE, 3, (x.m = 15, x.a[2] = 6, x.c[1] = 0));
+    GIVES(A_ZERO, 3, (x.m = 15, x.a[2] = 0, x.c[1] = 6));
+    GIVES(A_INVERSE, ZAHUPNIK_MOST_ROWS, (x.m = 15, x.a[0] = 6, x.a[ZAHUPNIK_MOST_ROWS - 1] = 0));
+    GIVES(A_ZERO, ZAHUPNIK_MOST_ROWS, (x.m = 15, x.a[0] = 0, x.a[ZAHUPNIK_MOST_ROWS - 1] = 6));
+    GIVES(C_INVERSE, ZAHUPNIK_MOST_ROWS, (x.m = 15, x.c[1] = 6, x.c[ZAHUPNIK_MOST_ROWS - 1] = 0));
+    GIVES(C_ZERO, ZAHUPNIK_MOST_ROWS, (x.m = 15, x.c[1] = 0, x.c[ZAHUPNIK_MOST_ROWS - 1] = 6));
+    GIVES(ENTRY, 2, (x.a[0] = 0, x.b[1] = 7));
+    GIVES(ENTRY, 2, (x.c[1] = 0, x.a[0] = 7));
+    GIVES(A_ZERO, 2, (x.a[1] = 0, x.curve[0] = 7));
+    GIVES(C_ZERO, 2, (x.c[1] = 0, x.curve[0] = 7));
 }
 
 /* The record of the rows 1 1 1 in which something else stands: that of another family, or not right, which goes before all else. */
@@ -234,6 +264,9 @@ static void on_record(const struct function *f) {
                   ZAHUPNIK_##number, &x);                                                                    \
     } while (0)
 
+/* The record of one or two rows 1 1 1 once more, modulo 15: only norm 1, which is -1, is another number then. */
+#define MODULO_15 (x.modulus = 15, x.norms[1] = 14)
+
 static void on_changes(void) {
     HANDED_BACK(RECORD, 2, x.modulus = 0, prepared_append, x, 1, 1, 1);
     HANDED_BACK(RECORD, 2, x.norms[2] = 0, prepared_append, x, 7, 7, 7);
@@ -243,11 +276,16 @@ static void on_changes(void) {
     HANDED_BACK(ENTRY, 2, x.b[0] = 0, prepared_append, x, 7, 1, 1);
     HANDED_BACK(ENTRY, 2, x.b[0] = 0, prepared_append, x, 0, 7, 0);
     HANDED_BACK(ENTRY, 0, x.modulus = 7, prepared_append, x, 1, 1, 7);
-    HANDED_BACK(A_INVERSE, 0, x.modulus = 7, prepared_append, x, 0, 1, 1);
+    HANDED_BACK(A_ZERO, 0, x.modulus = 7, prepared_append, x, 0, 1, 1);
+    HANDED_BACK(A_ZERO, 0, x.modulus = 15, prepared_append, x, 0, 1, 6);
     HANDED_BACK(A_INVERSE, 0, x.modulus = 15, prepared_append, x, 6, 1, 0);
-    HANDED_BACK(A_INVERSE, 2, x.b[0] = 0, prepared_append, x, 0, 1, 0);
-    HANDED_BACK(C_INVERSE, 1, x.b[0] = 0, prepared_append, x, 1, 1, 0);
-    HANDED_BACK(C_INVERSE, 2, x.b[0] = 0, prepared_append, x, 1, 1, 0);
+    HANDED_BACK(A_ZERO, 2, x.b[0] = 0, prepared_append, x, 0, 1, 0);
+    HANDED_BACK(A_ZERO, 1, MODULO_15, prepared_append, x, 0, 1, 6);
+    HANDED_BACK(A_INVERSE, 1, MODULO_15, prepared_append, x, 6, 1, 0);
+    HANDED_BACK(C_ZERO, 1, x.b[0] = 0, prepared_append, x, 1, 1, 0);
+    HANDED_BACK(C_ZERO, 2, x.b[0] = 0, prepared_append, x, 1, 1, 0);
+    HANDED_BACK(C_ZERO, 1, MODULO_15, prepared_append, x, 1, 1, 0);
+    HANDED_BACK(C_INVERSE, 1, MODULO_15, prepared_append, x, 1, 1, 6);
 
     HANDED_BACK(RECORD, 0, x.norms[0] = 0, prepared_drop_last, x);
     HANDED_BACK(RECORD, 2, x.a[2] = 1, prepared_drop_last, x);
@@ -262,10 +300,14 @@ static void on_changes(void) {
     HANDED_BACK(ABSENT_ROW, ZAHUPNIK_MOST_ROWS, x.b[0] = 0, prepared_replace, x, UINT32_MAX, 1, 1, 1);
     HANDED_BACK(ENTRY, 2, x.b[0] = 0, prepared_replace, x, 1, 1, 1, 7);
     HANDED_BACK(ENTRY, 2, x.b[0] = 0, prepared_replace, x, 2, 0, 7, 0);
-    HANDED_BACK(A_INVERSE, 2, x.b[0] = 0, prepared_replace, x, 1, 0, 1, 0);
-    HANDED_BACK(A_INVERSE, 2, x.b[0] = 0, prepared_replace, x, 2, 0, 1, 0);
-    HANDED_BACK(C_INVERSE, 2, x.b[0] = 0, prepared_replace, x, 2, 1, 1, 0);
-    HANDED_BACK(C_INVERSE, ZAHUPNIK_MOST_ROWS, x.b[0] = 0, prepared_replace, x, ZAHUPNIK_MOST_ROWS, 1, 1, 0);
+    HANDED_BACK(A_ZERO, 2, x.b[0] = 0, prepared_replace, x, 1, 0, 1, 0);
+    HANDED_BACK(A_ZERO, 2, x.b[0] = 0, prepared_replace, x, 2, 0, 1, 0);
+    HANDED_BACK(A_INVERSE, 1, MODULO_15, prepared_replace, x, 1, 6, 1, 0);
+    HANDED_BACK(A_ZERO, 2, MODULO_15, prepared_replace, x, 2, 0, 1, 6);
+    HANDED_BACK(A_INVERSE, 2, MODULO_15, prepared_replace, x, 2, 6, 1, 0);
+    HANDED_BACK(C_ZERO, 2, x.b[0] = 0, prepared_replace, x, 2, 1, 1, 0);
+    HANDED_BACK(C_INVERSE, 2, MODULO_15, prepared_replace, x, 2, 1, 1, 6);
+    HANDED_BACK(C_ZERO, ZAHUPNIK_MOST_ROWS, x.b[0] = 0, prepared_replace, x, ZAHUPNIK_MOST_ROWS, 1, 1, 0);
 
     /* A row that is already there. */
     HANDED_BACK(FINISHED, 2, x.b[0] = 0, prepared_replace, x, 1, 1, 0, 1);
@@ -369,24 +411,57 @@ static void on_job_text(void) {
     expect(decompose->name, "the longest job", "the length", job_length, LONGEST_JOB);
 }
 
-static void inverts(const char *with, uint32_t m, uint32_t x, uint32_t number, uint32_t wanted) {
-    uint32_t inverse = UINT32_MAX;
-    expect("invert", with, "the number returned", zahupnik_invert(m, x, &inverse), number);
-    expect("invert", with, "the number lent", inverse, wanted);
+/* Inverse returns the number and leaves these in the two numbers that it is lent, which held UNWRITTEN. */
+static const uint32_t UNWRITTEN = UINT32_MAX;
+static void inverse_leaves(const char *with, uint32_t m, uint32_t x, uint32_t number, uint32_t wanted, uint32_t wanted_factor) {
+    uint32_t inverse = UNWRITTEN, factor = UNWRITTEN;
+    expect("invert", with, "the number returned", zahupnik_invert(m, x, &inverse, &factor), number);
+    expect("invert", with, "the inverse", inverse, wanted);
+    expect("invert", with, "the factor", factor, wanted_factor);
     cases++;
 }
 
+static void inverts(const char *with, uint32_t m, uint32_t x, uint32_t inverse) {
+    inverse_leaves(with, m, x, ZAHUPNIK_FINISHED, inverse, 1);
+}
+
+static void has_none(const char *with, uint32_t m, uint32_t x, uint32_t factor) {
+    inverse_leaves(with, m, x, ZAHUPNIK_NO_INVERSE, UNWRITTEN, factor);
+}
+
+static void is_untouched(const char *with, uint32_t m, uint32_t x, uint32_t number) {
+    inverse_leaves(with, m, x, number, UNWRITTEN, UNWRITTEN);
+}
+
 static void on_number(void) {
-    inverts("m = 0", 0, 0, ZAHUPNIK_MODULUS, UINT32_MAX);
-    inverts("m = 1", 1, 0, ZAHUPNIK_MODULUS, UINT32_MAX);
-    inverts("1 modulo 2", 2, 1, ZAHUPNIK_FINISHED, 1);
-    inverts("2 modulo the greatest m", ZAHUPNIK_GREATEST_MODULUS, 2, ZAHUPNIK_FINISHED, 1073741824);
-    inverts("m one too great", ZAHUPNIK_GREATEST_MODULUS + 1, 1, ZAHUPNIK_MODULUS, UINT32_MAX);
-    inverts("6 modulo 7", 7, 6, ZAHUPNIK_FINISHED, 6);
-    inverts("7 modulo 7", 7, 7, ZAHUPNIK_CURVE_ENTRY, UINT32_MAX);
-    inverts("4 modulo 15", 15, 4, ZAHUPNIK_FINISHED, 4);
-    inverts("6 modulo 15", 15, 6, ZAHUPNIK_NO_INVERSE, UINT32_MAX);
-    inverts("0 modulo 15", 15, 0, ZAHUPNIK_NO_INVERSE, UINT32_MAX);
+    const uint32_t greatest = ZAHUPNIK_GREATEST_MODULUS, moduli[] = {2, 3, 4, 15, 30, 65536, 223092870, 2147483646, greatest};
+    is_untouched("m = 0", 0, 0, ZAHUPNIK_MODULUS);
+    is_untouched("m = 0 and 1", 0, 1, ZAHUPNIK_MODULUS);
+    is_untouched("m = 1", 1, 0, ZAHUPNIK_MODULUS);
+    is_untouched("m = 1 and 1", 1, 1, ZAHUPNIK_MODULUS);
+    is_untouched("m one too great", greatest + 1, 1, ZAHUPNIK_MODULUS);
+    is_untouched("m one too great and 0", greatest + 1, 0, ZAHUPNIK_MODULUS);
+    is_untouched("m one too great and 2", greatest + 1, 2, ZAHUPNIK_MODULUS);
+    is_untouched("m = 4294967295 and 3", UINT32_MAX, 3, ZAHUPNIK_MODULUS);
+    is_untouched("16 modulo 15", 15, 16, ZAHUPNIK_CURVE_ENTRY);
+    is_untouched("18 modulo 15", 15, 18, ZAHUPNIK_CURVE_ENTRY);
+    is_untouched("4294967295 modulo 15", 15, UINT32_MAX, ZAHUPNIK_CURVE_ENTRY);
+    inverts("1 modulo 2", 2, 1, 1);
+    inverts("2 modulo the greatest m", greatest, 2, 1073741824);
+    inverts("4 modulo 15", 15, 4, 4);
+    inverts("8 modulo 15", 15, 8, 2);
+    has_none("6 modulo 15", 15, 6, 3);
+    has_none("10 modulo 15", 15, 10, 5);
+    has_none("4 modulo 8", 8, 4, 4);
+    has_none("12 modulo 30", 30, 12, 6);
+    has_none("18 modulo 30", 30, 18, 6);
+    has_none("15 modulo 30", 30, 15, 15);
+    has_none("the half of 2147483646", 2147483646, 1073741823, 1073741823);
+    for (size_t i = 0; i < sizeof moduli / sizeof *moduli; i++) {
+        has_none("zero", moduli[i], 0, moduli[i]);
+        inverts("m - 1", moduli[i], moduli[i] - 1, moduli[i] - 1);
+        is_untouched("m", moduli[i], moduli[i], ZAHUPNIK_CURVE_ENTRY);
+    }
 }
 
 /* The text call returns the number; it leaves the answer text and its length, or everything as it was. */
@@ -408,6 +483,13 @@ static void answers(const char *with, const char *text, size_t text_length, size
     cases++;
 }
 
+/* The text call refuses the paper's job with other numbers. */
+static void refuses(const char *m, const char *a, const char *c, const char *v, uint32_t number) {
+    char text[100];
+    const size_t length = (size_t)sprintf(text, "mod=%s\na=%s\nb=0 3\nc=%s\nop=expand\nv=%s\n", m, a, c, v);
+    answers(text, text, length, ZAHUPNIK_LEAST_TEXT_OUTPUT, ZAHUPNIK_LEAST_WORK, number, "");
+}
+
 static void on_text(void) {
     const size_t bytes = ZAHUPNIK_LEAST_TEXT_OUTPUT, work = ZAHUPNIK_LEAST_WORK, most = ZAHUPNIK_MOST_TEXT;
     const char *answer = "op=expand\nout=1 3 2\n";
@@ -418,6 +500,23 @@ static void on_text(void) {
     answers("too short a working list", paper_job, length, bytes, work - 1, ZAHUPNIK_WORK_TOO_SHORT, "");
     answers("no byte 10 at the end", paper_job, length - 1, bytes, work, ZAHUPNIK_TEXT_FORM, "");
     answers("no text", NULL, 0, bytes, work, ZAHUPNIK_TEXT_FORM, "");
+    refuses("1", "1 2", "1 5", "3 0 1", ZAHUPNIK_MODULUS);
+    refuses("7", "1", "1 5", "3 0 1", ZAHUPNIK_LENGTHS);
+    refuses("7", "1 2", "1 5", "3 0", ZAHUPNIK_CURVE_LENGTH);
+    char rows[3 * 2 * (ZAHUPNIK_MOST_ROWS + 1) + 100], *at = rows + sprintf(rows, "mod=7");
+    for (const char *key = "abc"; *key; key++) {
+        at += sprintf(at, "\n%c=1", *key);
+        for (size_t i = 0; i < ZAHUPNIK_MOST_ROWS; i++) at += sprintf(at, " 1");
+    }
+    at += sprintf(at, "\nop=norms\nv=\n");
+    answers("a row too many", rows, (size_t)(at - rows), bytes, work, ZAHUPNIK_ROWS, "");
+    refuses("7", "0 2", "1 7", "3 0 1", ZAHUPNIK_ENTRY);
+    refuses("7", "1 0", "1 5", "3 0 7", ZAHUPNIK_A_ZERO);
+    refuses("15", "6 0", "1 0", "3 0 1", ZAHUPNIK_A_INVERSE);
+    refuses("15", "0 6", "1 6", "3 0 1", ZAHUPNIK_A_ZERO);
+    refuses("15", "1 2", "0 6", "3 0 1", ZAHUPNIK_C_INVERSE);
+    refuses("15", "1 2", "6 0", "3 0 15", ZAHUPNIK_C_ZERO);
+    refuses("15", "1 2", "0 4", "3 0 15", ZAHUPNIK_CURVE_ENTRY);
 
     /* Of the form, and with far too many numbers in v: as long as a text may be, and one byte longer. */
     char text[ZAHUPNIK_MOST_TEXT + 1];
@@ -508,6 +607,7 @@ int main(void) {
     for (size_t i = 0; i < sizeof functions / sizeof *functions; i++) {
         const struct function *f = &functions[i];
         on_family(f);
+        on_lowest_row(f);
         on_result(f);
         if (f->takes_curve) on_curve(f);
         if (f->cleared) on_work(f);
@@ -522,6 +622,7 @@ int main(void) {
     for (size_t i = 0; i < sizeof jobs / sizeof *jobs; i++) {
         const struct function *f = &jobs[i];
         on_family(f);
+        on_lowest_row(f);
         on_job(f);
         if (f->takes_curve) on_curve(f);
     }

@@ -15,7 +15,7 @@
     CALL(2, plain_adjoint, FAMILY, CURVE, OUTPUT)        \
     CALL(3, plain_decompose, FAMILY, CURVE, OUTPUT)      \
     CALL(4, norms, FAMILY, OUTPUT)                       \
-    CALL(5, invert, m, v.entries[0], output.entries)     \
+    CALL(5, invert, m, v.entries[0], INVERTED)           \
     CALL(6, tree_expand, FAMILY, CURVE, OUTPUT, WORK)    \
     CALL(7, tree_adjoint, FAMILY, CURVE, OUTPUT, WORK)   \
     CALL(8, tree_decompose, FAMILY, CURVE, OUTPUT, WORK) \
@@ -24,6 +24,7 @@
 #define CURVE v.entries, v.length
 #define OUTPUT output.entries, output.length
 #define WORK work.entries, work.length
+#define INVERTED output.entries, factor.entries
 enum { INVERT = 5, FIRST_WITH_WORK = 6 };
 
 #define NAME(number, name, ...) [number] = #name,
@@ -31,6 +32,13 @@ static const char *const NAMES[] = {CALLS(NAME)};
 enum { NUMBERS = sizeof NAMES / sizeof *NAMES };
 
 static unsigned long agreed[NUMBERS];
+
+/* OUT says next whether a number was handed out, by 1 and the number, or by 0: then the lent one is as it was. */
+static void expect_handed(const char *what, struct list lent) {
+    uint32_t count = next_number(&out);
+    if (count > 1) unusable(&out, "neither one number handed out nor none");
+    expect(what, 0, lent.entries[0], count ? next_number(&out) : UINT32_MAX);
+}
 
 /* Runs the case of a line of IN, and holds what it gives against the line of OUT. */
 static void run_case(void) {
@@ -42,9 +50,9 @@ static void run_case(void) {
     if (call < FIRST_WITH_WORK && work_length) unusable(&in, "a working list, which the call is not lent");
     if (call == INVERT && v.length != 1) unusable(&in, "not one number to invert");
 
-    /* the inverse is written to one number */
+    /* the inverse is written to one number, and the factor to another */
     struct list output = make_output(call == INVERT ? 1 : output_length);
-    struct list work = make_work(work_length);
+    struct list factor = make_output(call == INVERT), work = make_work(work_length);
     uint32_t returned = 0;
 #define RUN(number, name, ...) \
     case number: returned = zahupnik_##name(__VA_ARGS__); break;
@@ -54,9 +62,9 @@ static void run_case(void) {
     }
 
     expect_next("the number returned", 0, returned);
-    if (call == INVERT && returned != ZAHUPNIK_FINISHED) {
-        expect_next("the count of inverses", 0, 0);
-        expect("the number lent to a refused call", 0, output.entries[0], UINT32_MAX);
+    if (call == INVERT) {
+        expect_handed("the inverse", output);
+        expect_handed("the factor", factor);
     } else {
         expect_output(output);
     }
@@ -67,6 +75,7 @@ static void run_case(void) {
     free_list(c);
     free_list(v);
     free_list(output);
+    free_list(factor);
     free_list(work);
     agreed[call]++;
 }

@@ -2,11 +2,11 @@
  *
  * usage: stack
  *
- * For each function a line: its name and the most bytes that it took, of accepted cases with r = 127 and r = 0 and of a refused one,
- * modulo a prime and a composite number; of the text call and of the call that writes a job, for every operation; on a record of 127,
- * 126, 1 and 0 rows, right and damaged. A byte counts if it lies between the frame of the caller, which holds the arguments, and the
- * lowest byte that was written; the record that a change hands out is the caller's and is not counted. Exits 1 if a call gives another
- * answer than it should.
+ * For each function a line: its name and the most bytes that it took, of accepted cases with r = 127 and r = 0 and of refused ones, whose
+ * last a or last c is zero or shares a factor with m, modulo a prime and a composite number; of the text call and of the call that writes
+ * a job, for every operation; on a record of 127, 126, 1 and 0 rows, right and damaged. A byte counts if it lies between the frame of the
+ * caller, which holds the arguments, and the lowest byte that was written; the record that a change hands out is the caller's and is not
+ * counted. Exits 1 if a call gives another answer than it should.
  */
 #define _XOPEN_SOURCE 700
 #include <inttypes.h>
@@ -37,7 +37,7 @@ static unsigned char *frame;
         frame = __builtin_frame_address(0);                           \
         answer = zahupnik_##name(__VA_ARGS__);                        \
     }
-CALL(invert, m, r ? a[r - 1] : 1, output)
+CALL(invert, m, r ? a[r - 1] : 1, &output[0], &output[1])
 CALL(plain_expand, FAMILY, curve, n, output, n)
 CALL(plain_adjoint, FAMILY, curve, n, output, n)
 CALL(plain_decompose, FAMILY, curve, n, output, n)
@@ -184,11 +184,26 @@ static uint32_t on_record(void (*run)(void)) {
 
 static size_t greater(size_t x, size_t y) { return x < y ? y : x; }
 
+/* The most that a call takes of the case at hand with another number in its last row, for which those on a family are refused. Inverse is
+ * lent the last a. */
+static size_t most_with(size_t i, uint32_t *place, uint32_t number, uint32_t refused) {
+    const uint32_t before = *place;
+    if (calls[i].run == invert) refused = place == &a[MOST - 1] ? ZAHUPNIK_NO_INVERSE : ZAHUPNIK_FINISHED;
+    *place = number;
+    size_t most = most_of(i, refused);
+    *place = before;
+    return most;
+}
+
 static size_t most_on_lists(size_t i, uint32_t modulus) {
     make_case(modulus, MOST);
     size_t most = most_of(i, ZAHUPNIK_FINISHED);
-    a[MOST - 1] = 0;
-    most = greater(most, most_of(i, calls[i].run == invert ? ZAHUPNIK_NO_INVERSE : ZAHUPNIK_A_INVERSE));
+    most = greater(most, most_with(i, &c[MOST - 1], 0, ZAHUPNIK_C_ZERO));
+    most = greater(most, most_with(i, &a[MOST - 1], 0, ZAHUPNIK_A_ZERO));
+    if (modulus % 2 == 0) {
+        most = greater(most, most_with(i, &c[MOST - 1], 2, ZAHUPNIK_C_INVERSE));
+        most = greater(most, most_with(i, &a[MOST - 1], 2, ZAHUPNIK_A_INVERSE));
+    }
     make_case(modulus, 0);
     return greater(most, most_of(i, ZAHUPNIK_FINISHED));
 }

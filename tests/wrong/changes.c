@@ -13,13 +13,22 @@ static bool has_entry_not_below(const struct change *x) {
     return x->a >= m || x->b >= m || x->c >= m;
 }
 
-/* The number from 9 to 11 that the new row gives, or 0. */
-static uint32_t row_refusal(const struct change *x) {
-    uint32_t m = x->record.modulus;
-    if (has_entry_not_below(x)) return 9;
-    if (lacks_inverse(x->a, m)) return 10;
-    return row_of(x) > 1 && lacks_inverse(x->c, m) ? 11 : 0;
+/* The number that the new row's a gives, or 0; and its c, if it is not row 1. */
+static uint32_t a_refusal(const struct change *x) { return !lacks_inverse(x->a, x->record.modulus) ? 0 : x->a ? 10 : 17; }
+
+static uint32_t c_refusal(const struct change *x) {
+    return row_of(x) == 1 || !lacks_inverse(x->c, x->record.modulus) ? 0 : x->c ? 11 : 18;
 }
+
+/* The number that the new row gives, or 0. */
+static uint32_t row_refusal(const struct change *x) {
+    if (has_entry_not_below(x)) return 9;
+    return a_refusal(x) ? a_refusal(x) : c_refusal(x);
+}
+
+static bool is_for_a(uint32_t number) { return number == 10 || number == 17; }
+
+static bool is_for_c(uint32_t number) { return number == 11 || number == 18; }
 
 static void put_row(const struct change *x, struct record *record) {
     uint32_t place = row_of(x) - 1;
@@ -73,7 +82,7 @@ uint32_t refused_mended(const struct change *x, struct record *after) {
 
 uint32_t refused_written(const struct change *x, struct record *after) {
     uint32_t number = right_change(x, after);
-    if (number >= 9 && number <= 11) put_row(x, after);
+    if (number == 9 || is_for_a(number) || is_for_c(number)) put_row(x, after);
     return number;
 }
 
@@ -204,9 +213,13 @@ INSTEAD(absent_first, 14, 16, x->row == 0 || x->row > x->record.rows)
 INSTEAD(absent_last, 16, row_refusal(x), row_refusal(x))
 INSTEAD(rows_after_entry, 5, 9, has_entry_not_below(x))
 INSTEAD(rows_last, 5, row_refusal(x), row_refusal(x))
-INSTEAD(a_before_entry, 9, 10, lacks_inverse(x->a, x->record.modulus))
-INSTEAD(c_before_a, 10, 11, row_of(x) > 1 && lacks_inverse(x->c, x->record.modulus))
+INSTEAD(a_before_entry, 9, a_refusal(x), a_refusal(x))
 INSTEAD(no_rows_untested, 15, 0, true)
+
+uint32_t new_c_before_a(const struct change *x, struct record *after) {
+    uint32_t number = right_change(x, after);
+    return is_for_a(number) && c_refusal(x) ? c_refusal(x) : number;
+}
 
 uint32_t rows_untested(const struct change *x, struct record *after) {
     uint32_t number = right_change(x, after);
@@ -228,28 +241,57 @@ UNREAD(c_unread, c)
 
 uint32_t a_untested(const struct change *x, struct record *after) {
     uint32_t number = right_change(x, after);
-    return number == 10 ? untested(x, after) : number;
+    return is_for_a(number) ? c_refusal(x) ? c_refusal(x) : untested(x, after) : number;
 }
 
 uint32_t c_untested(const struct change *x, struct record *after) {
     uint32_t number = right_change(x, after);
-    return number == 11 ? untested(x, after) : number;
+    return is_for_c(number) ? untested(x, after) : number;
 }
 
 uint32_t non_zero_rows(const struct change *x, struct record *after) {
     uint32_t number = right_change(x, after);
-    bool non_zero = x->a && (x->c || row_of(x) == 1);
-    return (number == 10 || number == 11) && non_zero ? untested(x, after) : number;
+    if (number != 10 && number != 11) return number;
+    return c_refusal(x) == 18 ? 18 : untested(x, after);
 }
 
 uint32_t first_c_asked(const struct change *x, struct record *after) {
     uint32_t number = right_change(x, after);
     if (number || row_of(x) != 1 || !lacks_inverse(x->c, x->record.modulus)) return number;
     *after = x->record;
-    return 11;
+    return x->c ? 11 : 18;
 }
 
 uint32_t second_c_not_asked(const struct change *x, struct record *after) {
     uint32_t number = right_change(x, after);
-    return number == 11 && row_of(x) == 2 ? untested(x, after) : number;
+    return is_for_c(number) && row_of(x) == 2 ? untested(x, after) : number;
+}
+
+/* ---- the reason of a refusal for the new row */
+
+INSTEAD(new_a_zero_untold, 17, 10, true)
+INSTEAD(new_c_zero_untold, 18, 11, true)
+INSTEAD(new_zeros_first, 10, 18, c_refusal(x) == 18)
+INSTEAD(new_zeros_last, 17, 11, c_refusal(x) == 11)
+
+/* Each of two numbers is given in the place of the other. */
+#define SWAPPED(name, one, other)                                              \
+    uint32_t name(const struct change *x, struct record *after) {             \
+        uint32_t number = right_change(x, after);                             \
+        return number == one ? other : number == other ? one : number;        \
+    }
+SWAPPED(new_a_swapped, 10, 17)
+SWAPPED(new_c_swapped, 11, 18)
+SWAPPED(new_zeros_swapped, 17, 18)
+
+uint32_t new_zeros_before_entries(const struct change *x, struct record *after) {
+    uint32_t number = right_change(x, after);
+    return number != 9 ? number : x->a == 0 ? 17 : x->c == 0 && row_of(x) > 1 ? 18 : number;
+}
+
+uint32_t first_c_zero_asked(const struct change *x, struct record *after) {
+    uint32_t number = right_change(x, after);
+    if (number || row_of(x) != 1 || x->c) return number;
+    *after = x->record;
+    return 18;
 }

@@ -13,7 +13,7 @@ change_version change_finishes;   /* no refusal is told */
 /* The record of a refusal. */
 change_version refused_zeros;     /* all zeros */
 change_version refused_mended;    /* after 14 the one that its rows have */
-change_version refused_written;   /* after 9 to 11 the new row stands in it */
+change_version refused_written;   /* after 9, 17, 10, 18 and 11 the new row stands in it */
 change_version empty_m_kept;      /* m stands in the zeros */
 
 /* The record after a change. */
@@ -50,20 +50,31 @@ change_version greatest_refused;  /* 2147483647 refused */
 change_version new_row_first;     /* 9 before 14 */
 change_version no_rows_first;     /* 15 before 14 */
 change_version absent_first;      /* 16 before 14 */
-change_version absent_last;       /* 16 after 9 to 11 */
+change_version absent_last;       /* 16 last */
 change_version rows_after_entry;  /* 5 after 9 */
-change_version rows_last;         /* 5 after 9 to 11 */
-change_version a_before_entry;    /* 10 before 9 */
-change_version c_before_a;        /* 11 before 10 */
+change_version rows_last;         /* 5 last */
+change_version a_before_entry;    /* 17 and 10 before 9 */
+change_version new_c_before_a;    /* 18 and 11 before 17 and 10 */
 change_version rows_untested;     /* 5 never given: a row count of 128, and the row nowhere */
 change_version no_rows_untested;  /* 15 never given: the record as it was */
 change_version a_unread;          /* 9 for b and c alone */
 change_version b_unread;          /* 9 for a and c alone */
 change_version c_unread;          /* 9 for a and b alone */
-change_version a_untested;        /* 10 never given */
-change_version c_untested;        /* 11 never given */
+change_version a_untested;        /* 17 and 10 never given */
+change_version c_untested;        /* 18 and 11 never given */
 change_version non_zero_rows;     /* whatever is not zero taken to have an inverse */
-change_version first_c_asked;     /* 11 looks at row 1 too */
-change_version second_c_not_asked; /* 11 from row 3 on */
+change_version first_c_asked;     /* 18 and 11 look at row 1 too */
+change_version second_c_not_asked; /* 18 and 11 from row 3 on */
+
+/* The reason of a refusal for the new row. */
+change_version new_a_swapped;     /* 17 for a shared factor, 10 for zero */
+change_version new_c_swapped;     /* 18 for a shared factor, 11 for zero */
+change_version new_a_zero_untold; /* 10 for zero too */
+change_version new_c_zero_untold; /* 11 for zero too */
+change_version new_zeros_swapped; /* 18 for a zero a, 17 for a zero c */
+change_version new_zeros_first;   /* 18 before 10 */
+change_version new_zeros_last;    /* 17 after 11 */
+change_version new_zeros_before_entries; /* 17 and 18 before 9 */
+change_version first_c_zero_asked; /* 18 looks at row 1 too */
 
 #endif

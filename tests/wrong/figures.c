@@ -15,9 +15,23 @@
 #define P12_FAMILY 15, 1, {2}, {1}, {4}
 #define P10_FAMILY 15, 1, {3}, {0}, {5}
 #define TWO_FAULTS 15, 2, {3, 1}, {0, 0}, {1, 15}
+#define BY_A(a_1, a_2) 15, 2, {a_1, a_2}, {0, 3}, {1, 4}
+#define BY_C(c_1, c_2) 15, 2, {1, 2}, {0, 3}, {c_1, c_2}
+#define BY_LATER_C(c_2, c_3) 15, 3, {1, 2, 4}, {0, 3, 0}, {1, c_2, c_3}
+#define BY_ROW_2(a_2, c_2) 15, 2, {1, a_2}, {0, 3}, {1, c_2}
 #define NO_ROWS(m) m, 0, {0}, {0}, {0}
 #define NO_CURVE \
     { 0 }
+
+/* A family that the conversions refuse with a number, with this for the first entry of the curve; and one that every operation does. */
+#define CONVERSIONS_REFUSE(name, number, entry, ...)                  \
+    {name, EXPAND, __VA_ARGS__, {entry, 2, 3}, number, {0}},          \
+        {name, ADJOINT, __VA_ARGS__, {entry, 2, 3}, number, {0}},     \
+        {name, DECOMPOSE, __VA_ARGS__, {entry, 2, 3}, number, {0}}
+#define ALL_REFUSE(name, number, ...)                             \
+    CONVERSIONS_REFUSE(name, number, 1, __VA_ARGS__),             \
+        {name, MOMENTS, __VA_ARGS__, NO_CURVE, number, {0}},      \
+        {name, NORMS, __VA_ARGS__, NO_CURVE, number, {0}}
 
 const struct figure FIGURES[] = {
     {"P1", EXPAND, R, {3, 0, 1}, 0, {1, 3, 2}},
@@ -27,8 +41,8 @@ const struct figure FIGURES[] = {
     {"P5", NORMS, R, NO_CURVE, 0, {1, 1, 5}},
     {"P6", EXPAND, NO_ROWS(2), {1}, 0, {1}},
     {"P7", EXPAND, 2, 1, {1}, {1}, {1}, {1, 1}, 0, {0, 1}},
-    {"P8", INVERSE, NO_ROWS(15), {4}, 0, {4}},
-    {"P9", INVERSE, NO_ROWS(15), {6}, 13, {0}},
+    {"P8", INVERSE, NO_ROWS(15), {4}, 0, {4, 1}},
+    {"P9", INVERSE, NO_ROWS(15), {6}, 13, {0, 3}},
     {"P10", EXPAND, P10_FAMILY, {1, 1}, 10, {0}},
     {"P11", MOMENTS, NO_ROWS(7), NO_CURVE, 0, {1}},
     {"P11", NORMS, NO_ROWS(7), NO_CURVE, 0, {1}},
@@ -54,16 +68,8 @@ const struct figure FIGURES[] = {
     {"four but c_1 = 10", DECOMPOSE, FOUR_BUT(10), {6, 31, 7, 1, 20}, 0, {1, 2, 3, 4, 5}},
     {"four but c_1 = 10", MOMENTS, FOUR_BUT(10), NO_CURVE, 0, {18, 26, 33, 13, 20, 9, 30, 26, 19}},
     {"four but c_1 = 10", NORMS, FOUR_BUT(10), NO_CURVE, 0, {18, 9, 18, 8, 22}},
-    {"zero c_2", EXPAND, ZERO_C_2, {1, 2, 3}, 11, {0}},
-    {"zero c_2", ADJOINT, ZERO_C_2, {1, 2, 3}, 11, {0}},
-    {"zero c_2", DECOMPOSE, ZERO_C_2, {1, 2, 3}, 11, {0}},
-    {"zero c_2", MOMENTS, ZERO_C_2, NO_CURVE, 11, {0}},
-    {"zero c_2", NORMS, ZERO_C_2, NO_CURVE, 11, {0}},
-    {"c_1 = 35", EXPAND, C_1_NOT_BELOW, {1, 2, 3}, 9, {0}},
-    {"c_1 = 35", ADJOINT, C_1_NOT_BELOW, {1, 2, 3}, 9, {0}},
-    {"c_1 = 35", DECOMPOSE, C_1_NOT_BELOW, {1, 2, 3}, 9, {0}},
-    {"c_1 = 35", MOMENTS, C_1_NOT_BELOW, NO_CURVE, 9, {0}},
-    {"c_1 = 35", NORMS, C_1_NOT_BELOW, NO_CURVE, 9, {0}},
+    ALL_REFUSE("zero c_2", 18, ZERO_C_2),
+    ALL_REFUSE("c_1 = 35", 9, C_1_NOT_BELOW),
     {"P10's family", ADJOINT, P10_FAMILY, {1, 1}, 10, {0}},
     {"P10's family", DECOMPOSE, P10_FAMILY, {1, 1}, 10, {0}},
     {"P10's family", MOMENTS, P10_FAMILY, NO_CURVE, 10, {0}},
@@ -73,7 +79,23 @@ const struct figure FIGURES[] = {
     {"two faults", DECOMPOSE, TWO_FAULTS, {15, 0, 0}, 9, {0}},
     {"two faults", MOMENTS, TWO_FAULTS, NO_CURVE, 9, {0}},
     {"two faults", NORMS, TWO_FAULTS, NO_CURVE, 9, {0}},
-    {"2 modulo 15", INVERSE, NO_ROWS(15), {2}, 0, {8}},
+    ALL_REFUSE("P10 with a = 0", 17, 15, 1, {0}, {0}, {5}),
+    ALL_REFUSE("a = 6 0", 10, BY_A(6, 0)),
+    ALL_REFUSE("a = 0 6", 17, BY_A(0, 6)),
+    ALL_REFUSE("c = 1 6 0", 11, BY_LATER_C(6, 0)),
+    ALL_REFUSE("c = 1 0 6", 18, BY_LATER_C(0, 6)),
+    ALL_REFUSE("c = 0 6", 11, BY_C(0, 6)),
+    ALL_REFUSE("c = 6 0", 18, BY_C(6, 0)),
+    ALL_REFUSE("a = 1 6 and c = 1 0", 10, BY_ROW_2(6, 0)),
+    ALL_REFUSE("a = 1 0 and c = 1 6", 17, BY_ROW_2(0, 6)),
+    ALL_REFUSE("a = 1 0 and c = 1 15", 9, BY_ROW_2(0, 15)),
+    CONVERSIONS_REFUSE("a = 1 0 and a curve entry 15", 17, 15, BY_ROW_2(0, 4)),
+    CONVERSIONS_REFUSE("c = 1 0 and a curve entry 15", 18, 15, BY_ROW_2(2, 0)),
+    {"2 modulo 15", INVERSE, NO_ROWS(15), {2}, 0, {8, 1}},
+    {"0 modulo 15", INVERSE, NO_ROWS(15), {0}, 13, {0, 15}},
+    {"12 modulo 30", INVERSE, NO_ROWS(30), {12}, 13, {0, 6}},
+    {"15 modulo 15", INVERSE, NO_ROWS(15), {15}, 12, {0}},
+    {"0 modulo 1", INVERSE, NO_ROWS(1), {0}, 3, {0}},
     {.name = NULL},
 };
 
@@ -154,14 +176,18 @@ const struct change_figure CHANGE_FIGURES[] = {
     {{"row 1 of R appended", NO_ROWS(7), RIGHT}, APPEND, 0, 1, 0, 1, 0},
     {{"row 2 of R appended", R_1, RIGHT}, APPEND, 0, 2, 3, 5, 0},
     {{"row 1 appended with c_1 = 0", NO_ROWS(7), RIGHT}, APPEND, 0, 3, 0, 0, 0},
-    {{"row 2 appended with c_2 = 0", R_1, RIGHT}, APPEND, 0, 2, 3, 0, 11},
+    {{"row 2 appended with c_2 = 0", R_1, RIGHT}, APPEND, 0, 2, 3, 0, 18},
     {{"row 3 appended with a = 7", R, RIGHT}, APPEND, 0, 7, 3, 5, 9},
     {{"row 3 appended with a = 8", R, RIGHT}, APPEND, 0, 8, 3, 5, 9},
     {{"row 3 appended with b = 7", R, RIGHT}, APPEND, 0, 2, 7, 5, 9},
     {{"row 3 appended with c = 8", R, RIGHT}, APPEND, 0, 2, 3, 8, 9},
     {{"row 3 appended with a = 0 and b = 7", R, RIGHT}, APPEND, 0, 0, 7, 5, 9},
-    {{"row 3 appended with a = c = 0", R, RIGHT}, APPEND, 0, 0, 3, 0, 10},
+    {{"row 3 appended with a = c = 0", R, RIGHT}, APPEND, 0, 0, 3, 0, 17},
     {{"row 2 appended modulo 15 with a = 3", P12_FAMILY, RIGHT}, APPEND, 0, 3, 1, 4, 10},
+    {{"row 2 appended modulo 15 with c = 3", P12_FAMILY, RIGHT}, APPEND, 0, 2, 1, 3, 11},
+    {{"row 2 appended modulo 15 with a = 3 and c = 0", P12_FAMILY, RIGHT}, APPEND, 0, 3, 1, 0, 10},
+    {{"row 2 appended modulo 15 with a = 0 and c = 3", P12_FAMILY, RIGHT}, APPEND, 0, 0, 1, 3, 17},
+    {{"row 2 appended modulo 15 with c = 0 and b = 15", P12_FAMILY, RIGHT}, APPEND, 0, 2, 15, 0, 9},
     {{"a wrong norm and row 3 appended with a = 7", R, NORMS_HELD, 1, 2}, APPEND, 0, 7, 3, 5, 14},
     {{"row 128 appended", FULL, RIGHT}, APPEND, 0, 1, 1, 1, 5},
     {{"row 128 appended with a = 0", FULL, RIGHT}, APPEND, 0, 0, 1, 1, 5},
@@ -174,7 +200,7 @@ const struct change_figure CHANGE_FIGURES[] = {
     {{"row 2 of R put back", R_OTHER, RIGHT}, REPLACE, 2, 2, 3, 5, 0},
     {{"row 1 of R replaced", R, RIGHT}, REPLACE, 1, 2, 6, 3, 0},
     {{"row 1 of R replaced with c_1 = 0", R, RIGHT}, REPLACE, 1, 2, 6, 0, 0},
-    {{"row 2 of R replaced with c_2 = 0", R, RIGHT}, REPLACE, 2, 3, 1, 0, 11},
+    {{"row 2 of R replaced with c_2 = 0", R, RIGHT}, REPLACE, 2, 3, 1, 0, 18},
     {{"row 0 of R", R, RIGHT}, REPLACE, 0, 3, 1, 2, 16},
     {{"row 3 of R", R, RIGHT}, REPLACE, 3, 3, 1, 2, 16},
     {{"row 3 of R with a = 7", R, RIGHT}, REPLACE, 3, 7, 1, 2, 16},
@@ -182,8 +208,12 @@ const struct change_figure CHANGE_FIGURES[] = {
     {{"row 2 of R replaced with b = 8", R, RIGHT}, REPLACE, 2, 3, 8, 2, 9},
     {{"row 2 of R replaced with c = 8", R, RIGHT}, REPLACE, 2, 3, 1, 8, 9},
     {{"row 2 of R replaced with a = 0 and b = 7", R, RIGHT}, REPLACE, 2, 0, 7, 2, 9},
-    {{"row 2 of R replaced with a = c = 0", R, RIGHT}, REPLACE, 2, 0, 3, 0, 10},
+    {{"row 2 of R replaced with a = c = 0", R, RIGHT}, REPLACE, 2, 0, 3, 0, 17},
     {{"row 1 replaced modulo 15 with a = 3", P12_FAMILY, RIGHT}, REPLACE, 1, 3, 1, 4, 10},
+    {{"row 2 replaced modulo 15 with c = 3", BY_A(1, 2), RIGHT}, REPLACE, 2, 2, 1, 3, 11},
+    {{"row 2 replaced modulo 15 with a = 3 and c = 0", BY_A(1, 2), RIGHT}, REPLACE, 2, 3, 1, 0, 10},
+    {{"row 2 replaced modulo 15 with a = 0 and c = 3", BY_A(1, 2), RIGHT}, REPLACE, 2, 0, 1, 3, 17},
+    {{"row 2 replaced modulo 15 with c = 0 and b = 15", BY_A(1, 2), RIGHT}, REPLACE, 2, 2, 15, 0, 9},
     {{"a wrong norm and row 3 of R with a = 7", R, NORMS_HELD, 1, 2}, REPLACE, 3, 7, 1, 2, 14},
     {.record.name = NULL},
 };

@@ -1,6 +1,7 @@
 /* The scope paper's figures P1 to P12, and examples for what they leave untouched: `four` of definitions and `eight` of tree_model, whose
- * trees have levels; families whose c_1 is 0, shares a factor with m or is not below it; refusals of each operation; job texts that are not of the
- * form; jobs to be written; records that are not right; changes of a record; and what an operation on one may not be lent.
+ * trees have levels; families whose c_1 is 0, shares a factor with m or is not below it; refusals of each operation, with zeros and shared factors
+ * in one row and in several; job texts that are not of the form; jobs to be written; records that are not right; changes of a record; and what an
+ * operation on one may not be lent.
  */
 #ifndef FIGURES_H
 #define FIGURES_H
@@ -9,7 +10,7 @@
 
 enum { MOST_FIGURE_ROWS = 8 };
 
-/* What a call is lent, and what it has to give: a refusal, or 0 and then the result. */
+/* What a call is lent, and what it has to give: a refusal, or 0 and then the result. For Inverse the factor stands after the inverse, with 13 too. */
 struct figure {
     const char *name;
     enum operation operation;

@@ -87,8 +87,7 @@ uint32_t job_curve_first(const struct text_call *call) { return curve_before_row
 
 uint32_t job_row_by_row(const struct text_call *call) { return rows_in_turn(&call->job->lent, right_text(call)); }
 
-/* The answer by the refusal that a slip gives; a number that no operation has is refused before. */
-static uint32_t tested_by(const struct text_call *call, uint32_t (*refusal_with)(const struct lent *x)) {
+uint32_t tested_by(const struct text_call *call, uint32_t (*refusal_with)(const struct lent *x)) {
     return past_four(call) ? 2 : answer(call, refusal_with(&call->job->lent), &call->job->lent);
 }
 

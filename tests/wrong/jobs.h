@@ -21,17 +21,20 @@ uint32_t curve_taken(const struct text_call *call);           /* a curve for mom
 uint32_t curve_dropped(const struct text_call *call);         /* a curve for moments and norms taken, and not written */
 uint32_t curve_asked(const struct text_call *call);           /* a curve of n numbers asked for norms */
 uint32_t curve_untested(const struct text_call *call);        /* 12 never given */
-uint32_t job_curve_first(const struct text_call *call);       /* 12 tested before 9, 10 and 11 */
-uint32_t job_row_by_row(const struct text_call *call);        /* 9, 10 and 11 tested together, row after row */
+uint32_t job_curve_first(const struct text_call *call);       /* 12 tested before 9, 17, 10, 18 and 11 */
+uint32_t job_row_by_row(const struct text_call *call);        /* 9, 17, 10, 18 and 11 tested together, row after row */
 uint32_t job_non_zero(const struct text_call *call);          /* whatever is not zero taken to have an inverse */
-uint32_t job_powering(const struct text_call *call);          /* 10 and 11 never given, as by inverses that are powers */
-uint32_t job_c_1_asked(const struct text_call *call);         /* 11 from row 1 on */
-uint32_t job_c_2_not_asked(const struct text_call *call);     /* 11 from row 3 on */
-uint32_t job_a_1_not_asked(const struct text_call *call);     /* 10 from row 2 on */
+uint32_t job_powering(const struct text_call *call);          /* 17, 10, 18 and 11 never given, as by inverses that are powers */
+uint32_t job_c_1_asked(const struct text_call *call);         /* 18 and 11 from row 1 on */
+uint32_t job_c_2_not_asked(const struct text_call *call);     /* 18 and 11 from row 3 on */
+uint32_t job_a_1_not_asked(const struct text_call *call);     /* 17 and 10 from row 2 on */
 uint32_t job_c_1_unread(const struct text_call *call);        /* 9 passes over c_1 */
-uint32_t job_one_row_untested(const struct text_call *call);  /* no 9, 10 or 11 where there is one row */
+uint32_t job_one_row_untested(const struct text_call *call);  /* no 9, 17, 10, 18 or 11 where there is one row */
 uint32_t output_of_answer(const struct text_call *call);      /* an output of 4,096 bytes taken */
 uint32_t output_one_longer(const struct text_call *call);     /* an output of 8,192 bytes refused */
+
+/* The answer by the refusal that a version gives; a number that no operation has is refused before. */
+uint32_t tested_by(const struct text_call *call, uint32_t (*refusal_with)(const struct lent *x));
 
 /* The text. */
 uint32_t job_constant(const struct text_call *call);          /* the paper's job */

@@ -36,18 +36,20 @@ uint32_t finishes(const struct call *call) {
     return 0;
 }
 
+static bool is_for_rows(uint32_t number) { return (9 <= number && number <= 11) || number == 17 || number == 18; }
+
 uint32_t rows_in_turn(const struct lent *x, uint32_t number) {
-    if (number < 9 || number > 11) return number;
+    if (!is_for_rows(number)) return number;
     for (size_t i = 0; i < x->a.length; i++) {
         if (x->a.entries[i] >= x->m || x->b.entries[i] >= x->m || x->c.entries[i] >= x->m) return 9;
-        if (common_divisor(x->a.entries[i], x->m) != 1) return 10;
-        if (i > 0 && common_divisor(x->c.entries[i], x->m) != 1) return 11;
+        if (common_divisor(x->a.entries[i], x->m) != 1) return x->a.entries[i] ? 10 : 17;
+        if (i > 0 && common_divisor(x->c.entries[i], x->m) != 1) return x->c.entries[i] ? 11 : 18;
     }
     return number;
 }
 
 uint32_t curve_before_rows(const struct lent *x, uint32_t number) {
-    if (number < 9 || number > 11) return number;
+    if (!is_for_rows(number)) return number;
     for (size_t i = 0; i < x->curve.length; i++)
         if (x->curve.entries[i] >= x->m) return 12;
     return number;

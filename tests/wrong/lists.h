@@ -8,8 +8,8 @@
 uint32_t refuses(const struct call *call);          /* 3, whatever it is lent */
 uint32_t last_untried(const struct call *call);     /* the last number of its tests in place of finishing: 13, 12 or 11 */
 uint32_t finishes(const struct call *call);         /* no refusal is told; what it refuses it leaves */
-uint32_t row_by_row(const struct call *call);       /* 9, 10 and 11 tested together, row after row */
-uint32_t curve_first(const struct call *call);      /* 12 tested before 9, 10 and 11 */
+uint32_t row_by_row(const struct call *call);       /* 9, 17, 10, 18 and 11 tested together, row after row */
+uint32_t curve_first(const struct call *call);      /* 12 tested before 9, 17, 10, 18 and 11 */
 
 /* What another order of the tests makes of a right answer. */
 uint32_t rows_in_turn(const struct lent *x, uint32_t number);      /* as row_by_row */

@@ -31,7 +31,7 @@ record_version output_untested;         /* 7 never given: as much as there is ro
 record_version work_untested;           /* 8 never given: a short working list is cleared */
 record_version entries_untested;        /* 12 never given */
 
-/* The numbers of the tests on lists, 3, 5 and 9 to 11, for a record whose rows are not accepted. */
+/* The numbers of the tests on lists, 3, 5, 9, 17, 10, 18 and 11, for a record whose rows are not accepted. */
 change_version change_as_lists;
 record_version record_as_lists;
 

@@ -323,7 +323,8 @@ static uint32_t refusal_with(enum slip slip, const struct lent *x) {
     if (slip == A_1_NOT_ASKED && x->a.length && a[0] < x->m) a[0] = 1;
     if (slip == C_1_UNREAD && x->c.length) c[0] = 1;
     uint32_t refused = refusal(&passed);
-    return slip == C_1_ASKED && (refused == 0 || refused == 12) && c_1_refused(x) ? 11 : refused;
+    bool asked = refused == 0 || refused == 12 || refused == 18 || refused == 11;
+    return slip == C_1_ASKED && asked && c_1_refused(x) ? x->c.entries[0] ? 11 : 18 : refused;
 }
 
 uint32_t refusal_powering(const struct lent *x) { return refusal_with(POWERING, x); }
@@ -348,13 +349,17 @@ static struct family family_of(enum slip slip, const struct lent *x) {
 static uint32_t answer_with(enum slip slip, const struct call *call) {
     const struct lent *x = &call->lent;
     uint32_t number = refusal_with(slip, x);
+    if (number == 13) *call->factor = common_divisor(x->curve.entries[0], x->m);
     if (number) return number;
     struct family f = family_of(slip, x), closed = f;
     closed.a[closed.count] = slip == CLOSED_BY_2 ? 2 % x->m : 1;
     closed.b[closed.count] = closed.c[closed.count] = 1;
     closed.count++;
     switch (x->operation) {
-    case INVERSE: call->output[0] = inverse(slip, x->curve.entries[0], x->m); break;
+    case INVERSE:
+        call->output[0] = inverse(slip, x->curve.entries[0], x->m);
+        *call->factor = 1;
+        break;
     case EXPAND: expand(&f, x->curve.entries, call->output); break;
     case ADJOINT: adjoint(&f, x->curve.entries, call->output); break;
     case DECOMPOSE: decompose(&f, &closed, x->curve.entries, call->output); break;

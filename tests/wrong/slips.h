@@ -24,11 +24,11 @@ uint32_t non_zero_taken(const struct call *call);      /* whatever is not zero t
 uint32_t c_1_inverted(const struct call *call);        /* those of the c from one Euclid on c_1 .. c_n, untested */
 
 /* The rows that are tested. */
-uint32_t c_1_asked(const struct call *call);           /* 11 from row 1 on */
-uint32_t c_2_not_asked(const struct call *call);       /* 11 from row 3 on */
-uint32_t a_1_not_asked(const struct call *call);       /* 10 from row 2 on, as 11 */
-uint32_t c_1_unread(const struct call *call);          /* 9 passes over c_1, as 11 does */
-uint32_t one_row_untested(const struct call *call);    /* no 9, 10 or 11 where there is one row */
+uint32_t c_1_asked(const struct call *call);           /* 18 and 11 from row 1 on */
+uint32_t c_2_not_asked(const struct call *call);       /* 18 and 11 from row 3 on */
+uint32_t a_1_not_asked(const struct call *call);       /* 17 and 10 from row 2 on, as 18 and 11 */
+uint32_t c_1_unread(const struct call *call);          /* 9 passes over c_1, as 18 and 11 do */
+uint32_t one_row_untested(const struct call *call);    /* no 9, 17, 10, 18 or 11 where there is one row */
 
 /* The refusal that a call gives with that slip, or 0. */
 uint32_t refusal_powering(const struct lent *x);

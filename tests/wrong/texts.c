@@ -254,7 +254,7 @@ static uint32_t convert_as(const struct text_call *call, struct lent x, enum ope
     x.way = x.operation == NORMS ? PLAIN : TREE;
     x.output_length = result_length(&x);
     x.work_length = call->work_length;
-    uint32_t number = on_lists(&(struct call){x, result, call->work});
+    uint32_t number = on_lists(&(struct call){x, result, call->work, NULL});
     if (number) return number;
     memset(call->work, 0, LEAST_WORK * sizeof *call->work);
     *call->length = write_result(written, (struct list){result, result_length(&x)}, call->output);

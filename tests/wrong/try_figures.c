@@ -24,7 +24,7 @@ static void tell(char *told, const char *format, uint32_t number) {
     snprintf(told + length, WORDS_ROOM - length, format, number);
 }
 
-static uint32_t work[WORK];
+static uint32_t work[WORK], factor;
 
 static void fill(uint32_t *list, size_t length) {
     for (size_t i = 0; i < length; i++) list[i] = DIRT;
@@ -47,7 +47,7 @@ static void tell_work(char *told, bool finished, size_t length) {
 #define OUTPUT output, x->output_length
 #define BY_THE_TREE work, WORK
 #define CALLS(CALL)                                                    \
-    CALL(invert, INVERSE, x->m, x->curve.entries[0], output)           \
+    CALL(invert, INVERSE, x->m, x->curve.entries[0], output, &factor)  \
     CALL(plain_expand, EXPAND, LISTS, CURVE, OUTPUT)                   \
     CALL(plain_adjoint, ADJOINT, LISTS, CURVE, OUTPUT)                 \
     CALL(plain_decompose, DECOMPOSE, LISTS, CURVE, OUTPUT)             \
@@ -88,6 +88,11 @@ static void tell_list(char *told, uint32_t number, const uint32_t *output, size_
     }
 }
 
+/* A factor that is handed out. */
+static void tell_factor(char *told, bool handed, uint32_t number) {
+    if (handed) tell(told, ", factor %" PRIu32, number);
+}
+
 static void run_on_lists(const struct call *call, const struct figure *figure, char *given, char *wanted) {
     struct lent x = figure_lent(figure);
     uint32_t output[MOST], untouched[MOST];
@@ -95,9 +100,14 @@ static void run_on_lists(const struct call *call, const struct figure *figure, c
     fill(output, MOST);
     fill(untouched, MOST);
     fill(work, WORK);
+    fill(&factor, 1);
     uint32_t number = call->run(&x, output);
     tell_list(given, number, output, x.output_length);
     tell_list(wanted, figure->number, figure->number ? untouched : figure->result, x.output_length);
+    if (x.operation == INVERSE) {
+        tell_factor(given, factor != DIRT, factor);
+        tell_factor(wanted, figure->result[1], figure->result[1]);
+    }
     bool takes_work = call->operation == MOMENTS || !strncmp(call->name, "tree", strlen("tree"));
     if (takes_work && number == figure->number) tell_work(given, !number, WORK);
 }

@@ -8,10 +8,10 @@
 
 #include "prepared_model.h"
 
-/* A call on lists as it was made: what it was lent, and where it writes. */
+/* A call on lists as it was made: what it was lent, and where it writes; the factor is Inverse's. */
 struct call {
     struct lent lent;
-    uint32_t *output, *work;
+    uint32_t *output, *work, *factor;
 };
 
 /* A job as write_job is lent it, for expand if no operation has its number, and that number. */

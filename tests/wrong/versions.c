@@ -4,6 +4,7 @@
 #include "changes.h"
 #include "jobs.h"
 #include "lists.h"
+#include "reasons.h"
 #include "records.h"
 #include "slips.h"
 #include "texts.h"
@@ -44,6 +45,7 @@ const char *const CALL_NAMES[CALLS] = {
 #define ON_RECORD(version, wrong, which, function) {.name = version, .what = wrong, .calls = which, .on_record = function}
 #define ON_EITHER(version, wrong, which, change_function, record_function) \
     {.name = version, .what = wrong, .calls = which, .on_change = change_function, .on_record = record_function}
+#define OF_REASON(version, wrong, which) ON_BOTH(#version, wrong, which, version, text_##version),
 #define DAMAGED(version, wrong) ON_EITHER(#version, wrong, TAKE_RECORD, change_##version, record_##version),
 
 const struct version VERSIONS[] = {
@@ -76,20 +78,32 @@ const struct version VERSIONS[] = {
     ON_LISTS("powering", "inverses by powering, untested", CONVERSIONS, powering_untested),
     ON_JOB("powering", "inverses by powering, untested", job_powering),
     ON_LISTS("c_1_inverted", "inverses of c by a product with c_1", TREE_DECOMPOSE | CONVERT_TEXT, c_1_inverted),
-    ON_LISTS("c_1_asked", "11 from row 1 on", WITH_FAMILY, c_1_asked),
-    ON_JOB("c_1_asked", "11 from row 1 on", job_c_1_asked),
-    ON_LISTS("c_2_not_asked", "11 from row 3 on", WITH_FAMILY, c_2_not_asked),
-    ON_JOB("c_2_not_asked", "11 from row 3 on", job_c_2_not_asked),
-    ON_LISTS("a_1_not_asked", "10 from row 2 on", WITH_FAMILY, a_1_not_asked),
-    ON_JOB("a_1_not_asked", "10 from row 2 on", job_a_1_not_asked),
+    ON_LISTS("c_1_asked", "18 and 11 from row 1 on", WITH_FAMILY, c_1_asked),
+    ON_JOB("c_1_asked", "18 and 11 from row 1 on", job_c_1_asked),
+    ON_LISTS("c_2_not_asked", "18 and 11 from row 3 on", WITH_FAMILY, c_2_not_asked),
+    ON_JOB("c_2_not_asked", "18 and 11 from row 3 on", job_c_2_not_asked),
+    ON_LISTS("a_1_not_asked", "17 and 10 from row 2 on", WITH_FAMILY, a_1_not_asked),
+    ON_JOB("a_1_not_asked", "17 and 10 from row 2 on", job_a_1_not_asked),
     ON_LISTS("c_1_unread", "9 passes over c_1", WITH_FAMILY, c_1_unread),
     ON_JOB("c_1_unread", "9 passes over c_1", job_c_1_unread),
-    ON_LISTS("one_row_untested", "9 to 11 untested where there is one row", WITH_FAMILY, one_row_untested),
-    ON_JOB("one_row_untested", "9 to 11 untested where there is one row", job_one_row_untested),
-    ON_LISTS("row_by_row", "9 to 11 tested row by row", WITH_FAMILY, row_by_row),
-    ON_JOB("row_by_row", "9 to 11 tested row by row", job_row_by_row),
-    ON_LISTS("curve_first", "12 tested before 9 to 11", PLAIN_CURVES | TREE_CURVES, curve_first),
-    ON_JOB("curve_first", "12 tested before 9 to 11", job_curve_first),
+    ON_LISTS("one_row_untested", "the rows untested where there is one", WITH_FAMILY, one_row_untested),
+    ON_JOB("one_row_untested", "the rows untested where there is one", job_one_row_untested),
+    ON_LISTS("row_by_row", "9, 17, 10, 18 and 11 tested row by row", WITH_FAMILY, row_by_row),
+    ON_JOB("row_by_row", "9, 17, 10, 18 and 11 tested row by row", job_row_by_row),
+    ON_LISTS("curve_first", "12 tested before 9", PLAIN_CURVES | TREE_CURVES, curve_first),
+    ON_JOB("curve_first", "12 tested before 9", job_curve_first),
+    REASONS(OF_REASON)
+    ON_LISTS("factor_kept", "the factor left where it finishes", INVERT, factor_kept),
+    ON_LISTS("factor_kept_by_13", "the factor left by 13", INVERT, factor_kept_by_13),
+    ON_LISTS("factor_with_12", "a factor written by 12", INVERT, factor_with_12),
+    ON_LISTS("factor_with_3", "a factor written by 3", INVERT, factor_with_3),
+    ON_LISTS("factor_zero", "the factor 0 for zero", INVERT, factor_zero),
+    ON_LISTS("factor_least", "the least common factor above 1", INVERT, factor_least),
+    ON_LISTS("factor_other", "m divided by the factor", INVERT, factor_other),
+    ON_LISTS("factor_in_place", "the factor and the inverse in each other's place", INVERT, factor_in_place),
+    ON_LISTS("inverse_zero_by_13", "a zero written for the inverse by 13", INVERT, inverse_zero_by_13),
+    ON_LISTS("inverse_power_by_13", "a power written for the inverse by 13", INVERT, inverse_power_by_13),
+    ON_LISTS("zero_as_17", "17 for zero and not 13", INVERT, zero_as_17),
 
     ON_LISTS("as_adjoint", "Adjoint's list", PLAIN_EXPAND | TREE_EXPAND, adjoint_for_it),
     ON_LISTS("as_expand", "Expand's list", PLAIN_ADJOINT | PLAIN_DECOMPOSE | TREE_ADJOINT | TREE_DECOMPOSE, expand_for_it),
@@ -160,13 +174,13 @@ const struct version VERSIONS[] = {
 
     ON_EITHER("refuses", "refuses whatever it is handed", TO_RECORDS | ON_RECORDS, change_refuses, record_refuses),
     ON_EITHER("finishes", "no refusal told", TO_RECORDS | ON_RECORDS, change_finishes, record_finishes),
-    ON_EITHER("as_lists", "3, 5 and 9 to 11 of a record's rows for 14", TAKE_RECORD, change_as_lists, record_as_lists),
+    ON_EITHER("as_lists", "the numbers of its rows for 14", TAKE_RECORD, change_as_lists, record_as_lists),
     DAMAGES(DAMAGED)
 
     ON_CHANGES("unchanged", "the old record", TO_RECORDS, unchanged),
     ON_CHANGES("refused_zeros", "zeros for the record on a refusal", CHANGES, refused_zeros),
     ON_CHANGES("refused_mended", "the record of its rows after 14", CHANGES, refused_mended),
-    ON_CHANGES("refused_written", "the new row written after 9 to 11", WITH_NEW_ROW, refused_written),
+    ON_CHANGES("refused_written", "the new row written after 9, 17, 10, 18 and 11", WITH_NEW_ROW, refused_written),
     ON_CHANGES("rows_kept", "the row count as it was", PREPARED_APPEND | PREPARED_DROP_LAST, rows_kept),
     ON_CHANGES("norms_kept", "the norms as they were", CHANGES, norms_kept),
     ON_CHANGES("closing_norm_kept", "the closing row's norm as it was", PREPARED_APPEND | PREPARED_DROP_LAST, closing_norm_kept),
@@ -174,16 +188,25 @@ const struct version VERSIONS[] = {
     ON_CHANGES("c_inverses_kept", "the inverses of c as they were", WITH_NEW_ROW, c_inverses_kept),
     ON_CHANGES("c_1_inverted_too", "the inverse of c_1 stored", WITH_NEW_ROW, c_1_inverted_too),
     ON_CHANGES("new_row_first", "9 tested before 14", WITH_NEW_ROW, new_row_first),
-    ON_CHANGES("a_before_entry", "10 tested before 9", WITH_NEW_ROW, a_before_entry),
-    ON_CHANGES("c_before_a", "11 tested before 10", WITH_NEW_ROW, c_before_a),
+    ON_CHANGES("a_before_entry", "17 and 10 tested before 9", WITH_NEW_ROW, a_before_entry),
+    ON_CHANGES("c_before_a", "18 and 11 tested before 17 and 10", WITH_NEW_ROW, new_c_before_a),
     ON_CHANGES("a_unread", "9 passes over a", WITH_NEW_ROW, a_unread),
     ON_CHANGES("b_unread", "9 passes over b", WITH_NEW_ROW, b_unread),
     ON_CHANGES("c_unread", "9 passes over c", WITH_NEW_ROW, c_unread),
-    ON_CHANGES("a_untested", "10 untested", WITH_NEW_ROW, a_untested),
-    ON_CHANGES("c_untested", "11 untested", WITH_NEW_ROW, c_untested),
+    ON_CHANGES("a_untested", "17 and 10 untested", WITH_NEW_ROW, a_untested),
+    ON_CHANGES("c_untested", "18 and 11 untested", WITH_NEW_ROW, c_untested),
     ON_CHANGES("non_zero", "non-zero for invertible", WITH_NEW_ROW, non_zero_rows),
-    ON_CHANGES("c_1_asked", "11 from row 1 on", WITH_NEW_ROW, first_c_asked),
-    ON_CHANGES("c_2_not_asked", "11 from row 3 on", WITH_NEW_ROW, second_c_not_asked),
+    ON_CHANGES("c_1_asked", "18 and 11 from row 1 on", WITH_NEW_ROW, first_c_asked),
+    ON_CHANGES("c_2_not_asked", "18 and 11 from row 3 on", WITH_NEW_ROW, second_c_not_asked),
+    ON_CHANGES("a_swapped", "17 for a shared factor, 10 for zero", WITH_NEW_ROW, new_a_swapped),
+    ON_CHANGES("c_swapped", "18 for a shared factor, 11 for zero", WITH_NEW_ROW, new_c_swapped),
+    ON_CHANGES("a_zero_untold", "10 for zero too", WITH_NEW_ROW, new_a_zero_untold),
+    ON_CHANGES("c_zero_untold", "11 for zero too", WITH_NEW_ROW, new_c_zero_untold),
+    ON_CHANGES("zeros_swapped", "18 for a zero a, 17 for a zero c", WITH_NEW_ROW, new_zeros_swapped),
+    ON_CHANGES("zeros_first", "18 tested before 10", WITH_NEW_ROW, new_zeros_first),
+    ON_CHANGES("zeros_last", "17 tested after 11", WITH_NEW_ROW, new_zeros_last),
+    ON_CHANGES("zeros_before_entries", "17 and 18 tested before 9", WITH_NEW_ROW, new_zeros_before_entries),
+    ON_CHANGES("c_1_zero_asked", "18 from row 1 on", WITH_NEW_ROW, first_c_zero_asked),
     ON_CHANGES("m_kept", "m in the zeros of a refusal", PREPARED_EMPTY, empty_m_kept),
     ON_CHANGES("norm_zero", "no norm of no rows", PREPARED_EMPTY, empty_norm_zero),
     ON_CHANGES("modulus_untested", "3 untested", PREPARED_EMPTY, modulus_untested),
@@ -192,7 +215,7 @@ const struct version VERSIONS[] = {
     ON_CHANGES("modulus_2_refused", "m = 2 refused", PREPARED_EMPTY, modulus_2_refused),
     ON_CHANGES("greatest_refused", "m = 2147483647 refused", PREPARED_EMPTY, greatest_refused),
     ON_CHANGES("rows_after_entry", "5 tested after 9", PREPARED_APPEND, rows_after_entry),
-    ON_CHANGES("rows_last", "5 tested after 9 to 11", PREPARED_APPEND, rows_last),
+    ON_CHANGES("rows_last", "5 tested last", PREPARED_APPEND, rows_last),
     ON_CHANGES("rows_untested", "5 untested", PREPARED_APPEND, rows_untested),
     ON_CHANGES("a_left", "a_r left where the row was dropped", PREPARED_DROP_LAST, a_left),
     ON_CHANGES("b_left", "b_r left where the row was dropped", PREPARED_DROP_LAST, b_left),
@@ -208,7 +231,7 @@ const struct version VERSIONS[] = {
     ON_CHANGES("row_0_taken", "row 0 taken for row 1", PREPARED_REPLACE, row_0_taken),
     ON_CHANGES("row_past_taken", "row r + 1 taken: the row appended", PREPARED_REPLACE, row_past_taken),
     ON_CHANGES("absent_first", "16 tested before 14", PREPARED_REPLACE, absent_first),
-    ON_CHANGES("absent_last", "16 tested after 9 to 11", PREPARED_REPLACE, absent_last),
+    ON_CHANGES("absent_last", "16 tested last", PREPARED_REPLACE, absent_last),
 
     ON_RECORD("last_untried", "its last refusal untried", ON_RECORDS, record_last_untried),
     ON_RECORD("touched", "an output touched by a refusal", ON_RECORDS, record_touched),

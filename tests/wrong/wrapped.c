@@ -57,7 +57,7 @@ static const struct version *chosen(unsigned call) {
     type __wrap_zahupnik_##name(__VA_ARGS__);
 #define WRAPPED(name, ...) BOTH(uint32_t, name, __VA_ARGS__)
 #define WRAPPED_CHANGE(name, ...) BOTH(struct zahupnik_change, name, __VA_ARGS__)
-WRAPPED(invert, uint32_t m, uint32_t x, uint32_t *inverse)
+WRAPPED(invert, uint32_t m, uint32_t x, uint32_t *inverse, uint32_t *factor)
 WRAPPED(plain_expand, FAMILY, CURVE, OUTPUT)
 WRAPPED(plain_adjoint, FAMILY, CURVE, OUTPUT)
 WRAPPED(plain_decompose, FAMILY, CURVE, OUTPUT)
@@ -91,7 +91,7 @@ uint32_t right(const struct call *call) {
     const struct lent *x = &call->lent;
     bool tree = x->way == TREE;
     switch (x->operation) {
-    case INVERSE: return __real_zahupnik_invert(x->m, x->curve.entries[0], call->output);
+    case INVERSE: return __real_zahupnik_invert(x->m, x->curve.entries[0], call->output, call->factor);
     case EXPAND: return BY(expand);
     case ADJOINT: return BY(adjoint);
     case DECOMPOSE: return BY(decompose);
@@ -184,7 +184,7 @@ static struct call call_of(enum operation operation, enum way way, FAMILY, CURVE
     lent.b = lent_list(b, b_length);
     lent.c = lent_list(c, c_length);
     lent.curve = lent_list(curve, curve_count);
-    return (struct call){lent, output, work};
+    return (struct call){lent, output, work, NULL};
 }
 
 #define NONE NULL, 0
@@ -201,8 +201,11 @@ static struct call call_of(enum operation operation, enum way way, FAMILY, CURVE
     uint32_t __wrap_zahupnik_##name(FAMILY, CURVE, OUTPUT, WORK) \
         MADE(bit, operation, TREE, ROWS, curve, curve_count, output, output_length, work, work_length)
 
-uint32_t __wrap_zahupnik_invert(uint32_t m, uint32_t x, uint32_t *inverse)
-    MADE(INVERT, INVERSE, PLAIN, m, NONE, NONE, NONE, &x, 1, inverse, 1, NONE)
+uint32_t __wrap_zahupnik_invert(uint32_t m, uint32_t x, uint32_t *inverse, uint32_t *factor) {
+    struct call call = call_of(INVERSE, PLAIN, m, NONE, NONE, NONE, &x, 1, inverse, 1, NONE);
+    call.factor = factor;
+    return answer(INVERT, &call);
+}
 PLAIN_CALL(plain_expand, PLAIN_EXPAND, EXPAND)
 PLAIN_CALL(plain_adjoint, PLAIN_ADJOINT, ADJOINT)
 PLAIN_CALL(plain_decompose, PLAIN_DECOMPOSE, DECOMPOSE)
@@ -247,7 +250,7 @@ struct zahupnik_change __wrap_zahupnik_prepared_replace(PREPARED, uint32_t row, 
 
 static uint32_t on_record(unsigned name, enum operation operation, enum way way, PREPARED, CURVE, OUTPUT, WORK) {
     struct record_call made = {.record = from_library(&family)};
-    made.call = (struct call){operation_on(&made.record, operation, way), output, work};
+    made.call = (struct call){operation_on(&made.record, operation, way), output, work, NULL};
     made.call.lent.curve = lent_list(curve, curve_count);
     made.call.lent.output_length = output_length;
     made.call.lent.work_length = work_length;
