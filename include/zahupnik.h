@@ -6,11 +6,12 @@
  * c_1 multiplies F_{-1} = 0 only: it may be any number below m, 0 too, as in Legendre's recurrence, and no converted list depends on it.
  *
  * What a function returns: ZAHUPNIK_FINISHED, and then the result that its comment states is written; or the number of a
- * refusal, and then nothing is written, so that the output is what it was: look at the number before you use the output. One function
- * writes with a refusal: zahupnik_invert the factor, with 13. The changes of a prepared family return such a number and a record. A function tests all that it is lent, so no number and no length is asked of the
- * caller. Its comment lists the refusals that it tests, in this order, each over all rows or entries before the next; the first that is
- * the case is returned. So where some a have no inverse modulo m, the lowest row of these decides: 17 if its a is zero, a fault of the
- * family; 10 if it is not and shares a factor with m, which another m may mend. Likewise 18 and 11 for the c from row 2 on.
+ * refusal, and then nothing is written, so that the output is what it was: look at the number before you use the output. Only
+ * zahupnik_invert writes with a refusal, and only the factor, with 13. The changes of a prepared family return such a number and a
+ * record. A function tests all that it is lent, so no number and no length is asked of the caller. Its comment lists the refusals
+ * that it tests, in this order, each over all rows or entries before the next; the first that is the case is returned. So where some a
+ * have no inverse modulo m, the lowest row of these decides: 17 if its a is zero, a fault of the family; 10 if it is not, and so shares a
+ * factor with m, which another m may mend. Likewise 18 and 11 for the c from row 2 on.
  *
  * Which way to take: the plain way is the quicker one at every size that bench/run measures, and the tree way gives the same list. A
  * prepared family saves Norms much of its time, Decompose and Moments of many rows a little, and costs Expand, Adjoint and families of few
@@ -21,9 +22,9 @@
  * ZAHUPNIK_LEAST_WORK numbers of it are zero, and what lies beyond is untouched.
  *
  * What the caller owes: behind a pointer there are as many initialised numbers as the length beside it says, the one number
- * behind `inverse`, `factor` and `length`, and every number of a record that is handed in; a list of length 0 may have any pointer, NULL too.
- * What a call writes (the inverse, the factor, the length, the output, the working list) overlaps nothing else that it is lent, and nobody else
- * touches what is lent while the call runs.
+ * behind `inverse`, `factor` and `length`, and every number of a record that is handed in; a list of length 0 may have any pointer,
+ * NULL too. What a call writes (the inverse, the factor, the length, the output, the working list) overlaps nothing else that it is
+ * lent, and nobody else touches what is lent while the call runs.
  *
  * Nothing is allocated and nothing is kept, so calls from several threads do not disturb one another.
  *
@@ -104,9 +105,9 @@ extern "C" {
 #define ZAHUPNIK_A_ZERO 17        /* some a has no inverse modulo m: that of the lowest such row is zero */
 #define ZAHUPNIK_C_ZERO 18        /* some c from row 2 on has no inverse modulo m: that of the lowest such row is zero */
 
-/* Inverse: *inverse becomes the one number below m that times x leaves 1 modulo m, and *factor the greatest common factor of x and m, which
- * is then 1. Refuses with 3 12 13. With 13 *inverse is what it was, and *factor becomes the greatest common factor: above 1 and below m where
- * x is not zero, m where it is. With 3 and 12 both are what they were. */
+/* Inverse: *inverse becomes the one number below m that times x leaves 1 modulo m, and *factor the greatest common factor of x and m,
+ * which is then 1. Refuses with 3 12 13. With 13 *inverse is what it was, and *factor becomes the greatest common factor: m where x is
+ * zero, above 1 and below m where it is not. With 3 and 12 both are what they were. */
 uint32_t zahupnik_invert(uint32_t m, uint32_t x, uint32_t *inverse, uint32_t *factor);
 
 /* Expand: output[k] becomes the coefficient of x^k in the sum over i of curve[i] F_i, for k and i from 0 to n - 1.

@@ -20,7 +20,6 @@ import sys
 TABLE = """
 products::add_products            1  0  0
 products::transposed              1  0  0
-residue::invert                   0  2  0
 inverses::of_list                 2  2  2
 checks::column                    1  2  2
 record_check::record              1  0  0
@@ -36,10 +35,10 @@ plain_calls::norms                1  0  0
 zahupnik_invert                   0  2  0
 zahupnik_plain_adjoint            0  1  0
 zahupnik_plain_expand             1  0  0
-zahupnik_prepared_append          0  2  0
+zahupnik_prepared_append          0  4  0
 zahupnik_prepared_plain_adjoint   0  1  0
 zahupnik_prepared_plain_expand    1  0  0
-zahupnik_prepared_replace         0  2  0
+zahupnik_prepared_replace         0  4  0
 """
 ROWS = (
     "zahupnik_plain_expand",

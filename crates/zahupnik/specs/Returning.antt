@@ -126,7 +126,7 @@ module _ (m x inverse factor : ℕ) (r : InverseAnswer) (call : InverseCall m x 
       rw (refusal-is k above) (record { answer = made .answer; written = refl; factor = untold (eqb k 13) (made .factor) })
     where
       -- it tells no factor, so it is not 13
-      untold : (told : Bool) → [] ≡ elim told as (λ b. List ℕ) [ true ↦ greatestFactor m x ∷ [] | false ↦ [] ]
+      untold : (told : Bool) → _≡_ {A = List ℕ} [] (elim told as (λ b. List ℕ) [ true ↦ greatestFactor m x ∷ [] | false ↦ [] ])
           → factor ∷ [] ≡ elim told as (λ b. List ℕ) [ true ↦ greatestFactor m x ∷ [] | false ↦ factor ∷ [] ]
       untold true same = let none : _≡_ {A = ℕ} 0 1 = ap length same in absurd (omega arith)
       untold false same = refl
