@@ -34,10 +34,10 @@ pub record CallOf (f : Family) (ts : List Test) : Type 0 where
 
 -- ---- the calls
 module _ (f : Family) (u : List ℕ) where
-  abbrev curveLength : Test
+  abbrev pub curveLength : Test
   curveLength = curveLengthTest (size f) (length u)
 
-  abbrev curveEntries : List Test
+  abbrev pub curveEntries : List Test
   curveEntries = curveEntriesTest (f .m) u ∷ []
 
   unfoldable pub plain-call : (output : ℕ) → CallOf f (plainTests f u output)
@@ -63,10 +63,10 @@ unfolding normsTests familyRows rowInverses
 norms-call f output = record { before = []; between = outputTest (size f) output ∷ []; after = []; tests = refl }
 
 module _ (j : Job) (output : ℕ) where
-  abbrev jobCurve : Test
+  abbrev pub jobCurve : Test
   jobCurve = curveLengthTest (curveCount (j .operation) (rows (j .family))) (length (j .curve))
 
-  abbrev jobEntries : List Test
+  abbrev pub jobEntries : List Test
   jobEntries = curveEntriesTest (j .family .m) (j .curve) ∷ []
 
   unfoldable pub writing-call : CallOf (j .family) (writingTests j output)

@@ -1,13 +1,12 @@
 -- The shape of a family.
 --   Shaped m a b c   what the tests 3, 4 and 5 ask for, of the modulus and the lengths of the three lists
--- Proved: where they pass the family is so; a modulus that passes is no zero. Assumes nothing.
+-- Proved: where they pass the family is so. Assumes nothing.
 use mathlib.Core.Path.{_≡_}
-use mathlib.Core.List.{[], _∷_}
-use Prim.Native.Nat.{ℕ, _<_, _≤_}
-use native.Mathlib.Omega.{arith}
+use mathlib.Core.List.{[]}
+use Prim.Native.Nat.{ℕ, _≤_}
 use Rattle.definitions.specs.Answers.{answered}
 use Rattle.definitions.specs.Family.{Modulus, mostRows}
-use Rattle.definitions.specs.Refusals.{verdict, modulusTest, shapeTests}
+use Rattle.definitions.specs.Refusals.{verdict, shapeTests}
 use Rattle.definitions.specs.declared.Answer.{Answer}
 use Rattle.acceptance.specs.Stages.{stage-none}
 use Rattle.acceptance.specs.Verdicts.{None, modulus-passes, equal-lengths-pass, row-count-passes}
@@ -26,6 +25,3 @@ shape-passes m a b c (e3, (e4, (e5, done))) =
 
 pub shaped : (m a b c : ℕ) (r : Answer) → answered r ≡ verdict (shapeTests m a b c) [] → r ≡ Answer.Finished → Shaped m a b c
 shaped m a b c r is q = shape-passes m a b c (stage-none (shapeTests m a b c) r is q)
-
-pub modulus-positive : (m : ℕ) (r : Answer) → answered r ≡ verdict (modulusTest m ∷ []) [] → r ≡ Answer.Finished → 0 < m
-modulus-positive m r is q = let two : 2 ≤ m = modulus-passes m .0 (stage-none (modulusTest m ∷ []) r is q .0) .least in omega arith

@@ -6,6 +6,7 @@
 use mathlib.Core.Path.{_≡_, refl, sym, _∙_, ap}
 use mathlib.Core.Bool.{Bool, true, false, true≢false}
 use mathlib.Core.List.{List, []}
+use mathlib.Core.Logic.{_⊎_, inl, inr}
 use Prim.Native.Nat.{ℕ, suc, _<_, _≤_}
 use native.Mathlib.Omega.{arith}
 use lib.Dec.{ltb}
@@ -33,39 +34,27 @@ use Rattle.acceptance.specs.Given.{Given, revalued, refused-given, given-append
 abbrev pub lentTests : List ℕ → List Test
 lentTests t = textTests t textOutputLength workLength
 
-pub record Causable (k : ℕ) : Type 0 where
-  pub least : 1 ≤ k
-  pub greatest : k ≤ 18
-  pub not7 : k ≡ 7 → ⊥
-  pub not8 : k ≡ 8 → ⊥
-  pub not13to16 : (13 ≤ k) × (k ≤ 16) → ⊥
+abbrev pub Causable : ℕ → Type 0
+Causable k = ((1 ≤ k) × (k ≤ 6)) ⊎ (((9 ≤ k) × (k ≤ 12)) ⊎ ((17 ≤ k) × (k ≤ 18)))
 
 early : (k : ℕ) → (1 ≤ k) × (k ≤ 6) → Causable k
-early k h = record {
-  least = h .0;
-  greatest = omega (arith, h .1);
-  not7 = λ e. omega (arith, h .1);
-  not8 = λ e. omega (arith, h .1);
-  not13to16 = λ between. omega (arith, h .1, between .0);
-}
+early k h = inl h
 
 late : (k : ℕ) → (9 ≤ k) × (k ≤ 12) → Causable k
-late k h = record {
-  least = omega (arith, h .0);
-  greatest = omega (arith, h .1);
-  not7 = λ e. omega (arith, h .0);
-  not8 = λ e. omega (arith, h .0);
-  not13to16 = λ between. omega (arith, h .1, between .0);
-}
+late k h = inr (inl h)
 
 latest : (k : ℕ) → (17 ≤ k) × (k ≤ 18) → Causable k
-latest k h = record {
-  least = omega (arith, h .0);
-  greatest = h .1;
-  not7 = λ e. omega (arith, h .0);
-  not8 = λ e. omega (arith, h .0);
-  not13to16 = λ between. omega (arith, h .0, between .1);
-}
+latest k h = inr (inr h)
+
+causable-most : (k : ℕ) → Causable k → k ≤ 18
+causable-most k (inl h) = omega (arith, h .1)
+causable-most k (inr (inl h)) = omega (arith, h .1)
+causable-most k (inr (inr h)) = h .1
+
+never : (k : ℕ) → (7 ≤ k) × (k ≤ 8) → Causable k → ⊥
+never k (least, most) (inl h) = omega (arith, h .1)
+never k (least, most) (inr (inl h)) = omega (arith, h .0)
+never k (least, most) (inr (inr h)) = omega (arith, h .0)
 
 -- the output is not under 4,096 bytes, and the working list not under 16,384 numbers
 job-given : (j : Job) → Given Causable (jobTests j textOutputLength workLength)
@@ -91,7 +80,8 @@ module _ (t : List ℕ) where
 
   pub printed-never-7-or-8 : (values : List ℕ)
       → (verdict (lentTests t) values ≡ refused 7 → ⊥) × (verdict (lentTests t) values ≡ refused 8 → ⊥)
-  printed-never-7-or-8 values = (λ e. refusal-causable values 7 e .not7 refl, λ e. refusal-causable values 8 e .not8 refl)
+  printed-never-7-or-8 values =
+      (λ e. never 7 (omega arith) (refusal-causable values 7 e), λ e. never 8 (omega arith) (refusal-causable values 8 e))
 
 -- ---- how long the text is
 module _ (operation : Operation) (f : Family) (modulus : Modulus (f .m)) (few : rows f ≤ mostRows) where
@@ -132,7 +122,7 @@ printed-fits t = split (verdict (lentTests t) (reply t)) refl
     split (finished text) e =
         let same = revalued (lentTests t) (reply t) (reply t) ∙ ap (withValues (reply t)) e in
         rw same (reply-fits (readJob t) (verdict-finished (lentTests t) (reply t) .0 same .1))
-    split (refused k) e = rw e (refusal-fits k (refusal-causable t (reply t) k e .greatest))
+    split (refused k) e = rw e (refusal-fits k (causable-most k (refusal-causable t (reply t) k e)))
 
 -- ---- how much of the input is looked at
 too-long : (t : List ℕ) → mostBytes < length t → printed t ≡ refusalText 1

@@ -10,7 +10,6 @@ use mathlib.Core.List.{List, [], _∷_, _++_, append-nil}
 use Prim.Native.Nat.{ℕ, suc, _*_, _-_, _%_}
 use native.Mathlib.Nat.{zero-mod, zero-mul}
 use lib.Dec.{eqb, leb}
-use lib.ListN.{length}
 use borrow.Author.Tests.{eqb-true}
 use Rattle.definitions.specs.Family.{Family, Row, firstC, rows, rowAt, size}
 use Rattle.definitions.specs.JobWriting.{jobOutputLength, writingTests}
@@ -22,9 +21,9 @@ use Rattle.definitions.specs.Refusals.{Test, Verdict, finished, refused, verdic
 use Rattle.definitions.specs.Refusals.{rowCountTest, curveLengthTest, outputTest, workTest, entriesTest, aZeroTest, aInverseTest, cZeroTest, cInverseTest}
 use Rattle.definitions.specs.Refusals.{curveEntriesTest, familyShape, rowInverses, plainTests, treeTests, momentsTests, normsTests}
 use Rattle.definitions.specs.Text.{WrittenJob, Job, meant}
-use Rattle.definitions.specs.TextCall.{textOutputLength, textLengthTest, curveCount, textOutputTest, formTests}
+use Rattle.definitions.specs.TextCall.{textOutputLength, textLengthTest, textOutputTest, formTests}
 use Rattle.acceptance.specs.Given.{Given, shape-given}
-use Rattle.acceptance.specs.Range.{CallOf, plain-call, tree-call, moments-call, norms-call, writing-call, text-call}
+use Rattle.acceptance.specs.Range.{CallOf, curveLength, curveEntries, jobCurve, jobEntries, plain-call, tree-call, moments-call, norms-call, writing-call, text-call}
 use Rattle.acceptance.specs.Verdicts.{verdict-here, verdict-next}
 use Rattle.reasons.specs.Lowest.{lowest-some}
 
@@ -98,19 +97,13 @@ module _ (f : Family) (values : List ℕ) where
         (unreasoned-end (call .after) after))))))
 
 module _ (f : Family) (u values : List ℕ) where
-  abbrev curveLength : Test
-  curveLength = curveLengthTest (size f) (length u)
-
-  abbrev curveEntries : List Test
-  curveEntries = curveEntriesTest (f .m) u ∷ []
-
   pub plain-stays : (output : ℕ) → reasonless (verdict (plainTests f u output) values)
-      ≡ verdict (withoutReasons f [] (curveLength ∷ outputTest (size f) output ∷ []) curveEntries) values
+      ≡ verdict (withoutReasons f [] (curveLength f u ∷ outputTest (size f) output ∷ []) (curveEntries f u)) values
   unfolding plain-call curveLengthTest outputTest curveEntriesTest
   plain-stays output = answers-stay f values _ (plain-call f u output) tt (λ e. refl, (λ e. refl, tt)) (λ e. refl, tt)
 
   pub tree-stays : (output work : ℕ) → reasonless (verdict (treeTests f u output work) values)
-      ≡ verdict (withoutReasons f [] (curveLength ∷ outputTest (size f) output ∷ workTest work ∷ []) curveEntries) values
+      ≡ verdict (withoutReasons f [] (curveLength f u ∷ outputTest (size f) output ∷ workTest work ∷ []) (curveEntries f u)) values
   unfolding tree-call curveLengthTest outputTest workTest curveEntriesTest
   tree-stays output work =
       answers-stay f values _ (tree-call f u output work) tt (λ e. refl, (λ e. refl, (λ e. refl, tt))) (λ e. refl, tt)
@@ -126,16 +119,9 @@ module _ (f : Family) (values : List ℕ) where
   unfolding norms-call outputTest
   norms-stay output = answers-stay f values _ (norms-call f output) tt (λ e. refl, tt) tt
 
--- the tests on a job between its shape and its rows, and behind them
 module _ (j : Job) (output : ℕ) (values : List ℕ) where
-  abbrev jobCurve : Test
-  jobCurve = curveLengthTest (curveCount (j .operation) (rows (j .family))) (length (j .curve))
-
-  abbrev jobEntries : List Test
-  jobEntries = curveEntriesTest (j .family .m) (j .curve) ∷ []
-
   pub writing-stays : reasonless (verdict (writingTests j output) values)
-      ≡ verdict (withoutReasons (j .family) [] (jobCurve ∷ textOutputTest jobOutputLength output ∷ []) jobEntries) values
+      ≡ verdict (withoutReasons (j .family) [] (jobCurve j output ∷ textOutputTest jobOutputLength output ∷ []) (jobEntries j output)) values
   unfolding writing-call curveLengthTest textOutputTest curveEntriesTest
   writing-stays = answers-stay (j .family) values _ (writing-call j output) tt (λ e. refl, (λ e. refl, tt)) (λ e. refl, tt)
 
@@ -143,7 +129,7 @@ module _ (j : Job) (output : ℕ) (values : List ℕ) where
 pub text-stays : (w : WrittenJob) (bytes output work : ℕ) (values : List ℕ)
     → reasonless (verdict (textLengthTest bytes ∷ formTests (found w) output work) values)
     ≡ verdict (withoutReasons (meant w .family) (textLengthTest bytes ∷ test 2 false ∷ [])
-    (jobCurve (meant w) output values ∷ textOutputTest textOutputLength output ∷ workTest work ∷ []) (jobEntries (meant w) output values)) values
+    (jobCurve (meant w) output ∷ textOutputTest textOutputLength output ∷ workTest work ∷ []) (jobEntries (meant w) output)) values
 unfolding text-call textLengthTest curveLengthTest textOutputTest workTest curveEntriesTest
 text-stays w bytes output work values = answers-stay (meant w .family) values _ (text-call w bytes output work)
     (λ e. refl, (λ e. refl, tt)) (λ e. refl, (λ e. refl, (λ e. refl, tt))) (λ e. refl, tt)
