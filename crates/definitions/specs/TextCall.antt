@@ -45,7 +45,7 @@ curveCount Operation.Norms r = 0
 unfoldable pub textOutputTest : ℕ → ℕ → Test
 textOutputTest least output = test 7 (ltb output least)
 
--- the stages of a job: its sizes, 3 to 7 and 3 to 8, which are known before a list is loaded, and then its values, 9 to 12
+-- the stages of a job: its sizes, 3 to 7 and 3 to 8, which are known before a list is loaded, and then its values, 9 17 10 18 11 12
 -- a, b, c and u: how many numbers each list has
 unfoldable pub lengthTests : ℕ → Operation → ℕ → ℕ → ℕ → ℕ → ℕ → ℕ → List Test
 lengthTests m operation a b c u least output =

@@ -23,7 +23,7 @@ fn with_length(answer: Answer, length: u32) -> Valued
     }
 }
 
-// The answer text of an operation on the fronts of the lists, once its sizes are in order: 9 to 12 are still to be tested.
+// The answer text of an operation on the fronts of the lists, once its sizes are in order: the tests on values are still to be made.
 fn answer(
     operation: Operation,
     modulus: u32,

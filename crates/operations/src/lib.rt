@@ -25,7 +25,7 @@ pub fn result_count(operation: Operation, rows: usize) -> usize
     }
 }
 
-// The operation on lists whose sizes are in order, by the tree way: 9 to 12 are still to be tested. Norms needs no working list,
+// The operation on lists whose sizes are in order, by the tree way: the tests on values are still to be made. Norms needs no working list,
 // and it is left clear all the same.
 fn convert_lists(
     operation: Operation,

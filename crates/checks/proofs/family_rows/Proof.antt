@@ -1,4 +1,4 @@
--- `family_rows` answers the verdict of tests 9, 10 and 11. Assumes nothing.
+-- `family_rows` answers the verdict of tests 9, 17, 10, 18 and 11. Assumes nothing.
 use Rattle.definitions.specs.Refusals.{familyRows}
 use Rattle.acceptance.specs.Stages.{all-remain, stage-refuses, stage-passes, stages-end}
 use borrow.Author.Needs.{needs}

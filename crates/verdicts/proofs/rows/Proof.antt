@@ -1,4 +1,4 @@
--- `rows` answers the verdict of tests 9, 10 and 11 of the family of three lists. Assumes that their shape is in order.
+-- `rows` answers the verdict of tests 9, 17, 10, 18 and 11 of the family of three lists. Assumes that their shape is in order.
 use Rattle.verdicts.specs.WholeLists.{whole-lent, whole-rows}
 use Rattle.verdicts.proofs.rows.Statement.{statement}
 use Rattle.verdicts.proofs.rows.Tie as tie

@@ -1,4 +1,4 @@
--- `values` answers the verdict of tests 9 to 12: those of the rows, then those of the curve. Assumes what `rows` does.
+-- `values` answers the verdict of the tests on values: those of the rows, then 12 of the curve. Assumes what `rows` does.
 use Rattle.definitions.specs.Refusals.{valueTests}
 use Rattle.acceptance.specs.Stages.{all-remain, stage-refuses, stage-passes, stages-end}
 use borrow.Author.Needs.{needs}

@@ -1,4 +1,4 @@
--- `writing` answers the verdict of the tests of the call that writes a job: those of `lengths`, then 9 to 12. Assumes nothing.
+-- `writing` answers the verdict of the tests of the call that writes a job: those of `lengths`, then those on values. Assumes nothing.
 use Rattle.definitions.specs.JobWriting.{writingTests}
 use Rattle.acceptance.specs.Stages.{all-remain, stage-none, stage-refuses, stage-passes, stages-end}
 use Rattle.verdicts.specs.Sizes.{lengths-shaped}
