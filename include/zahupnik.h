@@ -9,9 +9,9 @@
  * refusal, and then nothing is written, so that the output is what it was: look at the number before you use the output. Only
  * zahupnik_invert writes with a refusal, and only the factor, with 13. The changes of a prepared family return such a number and a
  * record. A function tests all that it is lent, so no number and no length is asked of the caller. Its comment lists the refusals
- * that it tests, in this order, each over all rows or entries before the next; the first that is the case is returned. So where some a
- * have no inverse modulo m, the lowest row of these decides: 17 if its a is zero, a fault of the family; 10 if it is not, and so shares a
- * factor with m, which another m may mend. Likewise 18 and 11 for the c from row 2 on.
+ * that it tests, in this order, each over all rows or entries before the next; the first that is the case is returned. 17 and 10 look
+ * at one row: where some a have no inverse modulo m, the lowest row of these decides, 17 if its a is zero, a fault of the family, and 10
+ * if it is not and so shares a factor with m, which another m may mend. Likewise 18 and 11 for the c from row 2 on.
  *
  * Which way to take: the plain way is the quicker one at every size that bench/run measures, and the tree way gives the same list. A
  * prepared family saves Norms much of its time, Decompose and Moments of many rows a little, and costs Expand, Adjoint and families of few
@@ -95,8 +95,9 @@ extern "C" {
                                    * answer text, than ZAHUPNIK_LEAST_JOB_OUTPUT for a job text */
 #define ZAHUPNIK_WORK_TOO_SHORT 8 /* the working list is shorter than ZAHUPNIK_LEAST_WORK */
 #define ZAHUPNIK_ENTRY 9          /* an entry of a, b or c is not below m */
-#define ZAHUPNIK_A_INVERSE 10     /* some a has no inverse modulo m: that of the lowest such row shares a factor with m, and is not zero */
-#define ZAHUPNIK_C_INVERSE 11     /* some c from row 2 on has no inverse modulo m: that of the lowest such row shares a factor with m */
+#define ZAHUPNIK_A_INVERSE 10     /* some a has no inverse modulo m: that of the lowest such row is not zero, and shares a factor with m */
+#define ZAHUPNIK_C_INVERSE 11     /* some c from row 2 on has no inverse modulo m: that of the lowest such row is not zero, and shares a
+                                   * factor with m */
 #define ZAHUPNIK_CURVE_ENTRY 12   /* a curve entry, a coefficient or the number to invert is not below m */
 #define ZAHUPNIK_NO_INVERSE 13    /* the number to invert has no inverse modulo m */
 #define ZAHUPNIK_RECORD 14        /* the prepared family is not the record of its own rows, or these are not accepted */
@@ -107,7 +108,7 @@ extern "C" {
 
 /* Inverse: *inverse becomes the one number below m that times x leaves 1 modulo m, and *factor the greatest common factor of x and m,
  * which is then 1. Refuses with 3 12 13. With 13 *inverse is what it was, and *factor becomes the greatest common factor: m where x is
- * zero, above 1 and below m where it is not. With 3 and 12 both are what they were. */
+ * zero, above 1 and below m where it is not. With 3 and 12 both are what they were. Both have to be lent, wanted or not. */
 uint32_t zahupnik_invert(uint32_t m, uint32_t x, uint32_t *inverse, uint32_t *factor);
 
 /* Expand: output[k] becomes the coefficient of x^k in the sum over i of curve[i] F_i, for k and i from 0 to n - 1.
@@ -195,9 +196,10 @@ uint32_t zahupnik_write_job(uint32_t m, const uint32_t *a, size_t a_length, cons
  * It is a plain struct of numbers in this machine's byte order, without a pointer and without padding: whoever likes may copy it, compare it
  * byte for byte, store it or send it. Nobody is trusted with it: every function that takes one tests all of it, and refuses with 14 where
  * it is not right. That is no checksum: a record that was changed into the right one of another family is taken. Another number below m
- * in b or for c_1 always makes such a one, and another m may.
+ * for the b of one of its rows, or for c_1 where it has a row, always makes such a one, and another m may.
  * Whether a record is right, and nothing else: zahupnik_prepared_norms(family, NULL, 0) returns 7 if it is, since no list of norms is empty,
- * and 14 if it is not. */
+ * and 14 if it is not. Whether its rows are at fault, and by what: zahupnik_norms on its m and its rows says so, if it has no more than
+ * ZAHUPNIK_MOST_ROWS. */
 struct zahupnik_prepared {
     uint32_t modulus, rows;
     uint32_t a[ZAHUPNIK_MOST_ROWS], b[ZAHUPNIK_MOST_ROWS], c[ZAHUPNIK_MOST_ROWS];

@@ -4,7 +4,8 @@
 --   Promises     what a call promises, from the answer of its tests
 --   Given        which numbers its tests can give
 --   Acceptance   what a call that finishes has been lent
---   Range        from which row on 11 looks at the c, where every c has an inverse
+--   Range        from which row on 18 and 11 look at the c, where every c has an inverse
+--   NewRow       the tests of a new row by their numbers
 --   Jobs         what a job says that is written, or carried out
 -- Assumes nothing.
 pub mod Verdicts
@@ -13,4 +14,5 @@ pub mod Promises
 pub mod Given
 pub mod Acceptance
 pub mod Range
+pub mod NewRow
 pub mod Jobs

@@ -308,6 +308,11 @@ from-false first place t = by-cases (decLt place first)
     (λ l. (λ e h. absurd (omega arith), λ h. ap (λ s. s && t) (lt-leb first place l)))
     (λ l. let e : leb first place ≡ true = le-leb first place (omega arith) in rw e (λ q h. q, λ h. h (omega arith)))
 
+pub from-true : (first place : ℕ) (t : Bool) → ((leb first place && t) ≡ true) ↔ ((first ≤ place) × (t ≡ true))
+from-true first place t = by-cases (decLt place first)
+    (λ l. (λ e. absurd (true≢false (sym e ∙ ap (λ s. s && t) (lt-leb first place l))), λ h. absurd (omega (arith, h .0))))
+    (λ l. let e : leb first place ≡ true = le-leb first place (omega arith) in rw e (λ q. (omega arith, q), λ h. h .1))
+
 module _ (f : Family) where
   pub entries-pass : (entriesTest f .holds ≡ false) ↔ ((i : ℕ) → i < size f → RowBelow (f .m) (rowAt f i))
   unfolding entriesTest

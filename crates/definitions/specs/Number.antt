@@ -43,6 +43,6 @@ unfoldable pub factorUpTo : ℕ → ℕ → ℕ → ℕ
 factorUpTo m x zero = 0
 factorUpTo m x (suc d) = elim (divides (suc d) x && divides (suc d) m) [ true ↦ suc d | false ↦ factorUpTo m x d ]
 
--- nothing greater than m divides m; every number divides 0
+-- from m = 1 on nothing greater than m divides m; every number divides 0
 unfoldable pub greatestFactor : ℕ → ℕ → ℕ
 greatestFactor m x = factorUpTo m x m

@@ -2,27 +2,30 @@
 --   reasonless v     the verdict v with 10 in the place of 17, and 11 in that of 18
 --   withoutReasons   the tests of a call on a family whose rows are tested by 9, 10 and 11
 --   Unreasoned ts    no test of ts that holds has the number 17 or 18
--- Proved of each call on a family, and of the changes of a record that take a row: its verdict without the reason is that of these tests. So 17
--- is given at the place of 10 and instead of it, 18 instead of 11, and every other answer is the same. Assumes nothing.
+-- Proved of each call on a family, of the text call on any bytes, and of the changes of a record that take a row: its verdict without the reason is
+-- that of these tests. So 17 is given at the place of 10 and instead of it, 18 instead of 11, and every other answer is the same. 14 is given
+-- to the records to which it is given without 17 and 18 (record-stays). Assumes nothing.
 use mathlib.Core.Path.{_≡_, refl, sym, _∙_, ap}
 use mathlib.Core.Bool.{Bool, true, false, not, _||_, _&&_, true≢false}
 use mathlib.Core.List.{List, [], _∷_, _++_, append-nil}
 use Prim.Native.Nat.{ℕ, suc, _*_, _-_, _%_}
 use native.Mathlib.Nat.{zero-mod, zero-mul}
 use lib.Dec.{eqb, leb}
+use lib.ListN.{length}
 use borrow.Author.Tests.{eqb-true}
 use Rattle.definitions.specs.Family.{Family, Row, firstC, rows, rowAt, size}
 use Rattle.definitions.specs.JobWriting.{jobOutputLength, writingTests}
 use Rattle.definitions.specs.Number.{inverse}
 use Rattle.definitions.specs.Orthogonality.{momentCount}
-use Rattle.definitions.specs.Prepared.{Prepared, recordTest, absentRowTest, rowTests, appendTests, replaceTests}
-use Rattle.definitions.specs.Reading.{found}
-use Rattle.definitions.specs.Refusals.{Test, Verdict, finished, refused, verdict, test, someRow, lowestRow, notBelow, noInverse}
+use Rattle.definitions.specs.Prepared.{Prepared, ownRows, prepared, anyHolds, differs, broken, recordTest, absentRowTest, rowTests, appendTests, replaceTests}
+use Rattle.definitions.specs.Reading.{Read, found, malformed, readJob}
+use Rattle.definitions.specs.Refusals.{Test, Verdict, finished, refused, verdict, test, someRow, lowestRow, noInverse}
 use Rattle.definitions.specs.Refusals.{rowCountTest, curveLengthTest, outputTest, workTest, entriesTest, aZeroTest, aInverseTest, cZeroTest, cInverseTest}
-use Rattle.definitions.specs.Refusals.{curveEntriesTest, familyShape, rowInverses, plainTests, treeTests, momentsTests, normsTests}
-use Rattle.definitions.specs.Text.{WrittenJob, Job, meant}
-use Rattle.definitions.specs.TextCall.{textOutputLength, textLengthTest, textOutputTest, formTests}
+use Rattle.definitions.specs.Refusals.{curveEntriesTest, familyShape, rowInverses, familyRows, plainTests, treeTests, momentsTests, normsTests}
+use Rattle.definitions.specs.Text.{Job, meant}
+use Rattle.definitions.specs.TextCall.{textOutputLength, textLengthTest, textOutputTest, formTests, textTests}
 use Rattle.acceptance.specs.Given.{Given, shape-given}
+use Rattle.acceptance.specs.NewRow.{nine, ten, eleven}
 use Rattle.acceptance.specs.Range.{CallOf, curveLength, curveEntries, jobCurve, jobEntries, plain-call, tree-call, moments-call, norms-call, writing-call, text-call}
 use Rattle.acceptance.specs.Verdicts.{verdict-here, verdict-next}
 use Rattle.reasons.specs.Lowest.{lowest-some}
@@ -63,6 +66,11 @@ module _ (values : List ℕ) where
   unfolding verdict
   none-left = refl
 
+  unreasoned-end : (after : List Test) → Unreasoned after → reasonless (verdict after values) ≡ verdict after values
+  unreasoned-end after none =
+      ap (λ ts. reasonless (verdict ts values)) (sym (append-nil after))
+      ∙ past after [] [] none none-left ∙ ap (λ ts. verdict ts values) (append-nil after)
+
 -- ---- the calls on a family
 abbrev pub withoutReasons : Family → List Test → List Test → List Test → List Test
 withoutReasons f before between after =
@@ -77,11 +85,6 @@ module _ (f : Family) (values : List ℕ) where
   unfolding cZeroTest cInverseTest lowestRow someRow
   c-implied = lowest-some (λ i. noInverse (f .m) (rowAt f i .c)) (λ i. eqb (rowAt f i .c) 0) firstC (size f - firstC)
 
-  unreasoned-end : (after : List Test) → Unreasoned after → reasonless (verdict after values) ≡ verdict after values
-  unreasoned-end after none =
-      ap (λ ts. reasonless (verdict ts values)) (sym (append-nil after))
-      ∙ past values after [] [] none (none-left values) ∙ ap (λ ts. verdict ts values) (append-nil after)
-
   module _ (ts : List Test) (call : CallOf f ts) (before : Unreasoned (call .before)) (between : Unreasoned (call .between))
       (after : Unreasoned (call .after)) where
     pub answers-stay : reasonless (verdict ts values) ≡ verdict (withoutReasons f (call .before) (call .between) (call .after)) values
@@ -94,7 +97,7 @@ module _ (f : Family) (values : List ℕ) where
         (past values (entriesTest f ∷ []) _ _ (λ e. refl, tt)
         (instead values 17 10 (aZeroTest f .holds) (aInverseTest f .holds) _ _ refl refl a-implied
         (instead values 18 11 (cZeroTest firstC f .holds) (cInverseTest firstC f .holds) _ _ refl refl c-implied
-        (unreasoned-end (call .after) after))))))
+        (unreasoned-end values (call .after) after))))))
 
 module _ (f : Family) (u values : List ℕ) where
   pub plain-stays : (output : ℕ) → reasonless (verdict (plainTests f u output) values)
@@ -125,22 +128,56 @@ module _ (j : Job) (output : ℕ) (values : List ℕ) where
   unfolding writing-call curveLengthTest textOutputTest curveEntriesTest
   writing-stays = answers-stay (j .family) values _ (writing-call j output) tt (λ e. refl, (λ e. refl, tt)) (λ e. refl, tt)
 
--- a text of the form, in which the job w stands, behind 1 and 2
-pub text-stays : (w : WrittenJob) (bytes output work : ℕ) (values : List ℕ)
-    → reasonless (verdict (textLengthTest bytes ∷ formTests (found w) output work) values)
-    ≡ verdict (withoutReasons (meant w .family) (textLengthTest bytes ∷ test 2 false ∷ [])
-    (jobCurve (meant w) output ∷ textOutputTest textOutputLength output ∷ workTest work ∷ []) (jobEntries (meant w) output)) values
-unfolding text-call textLengthTest curveLengthTest textOutputTest workTest curveEntriesTest
-text-stays w bytes output work values = answers-stay (meant w .family) values _ (text-call w bytes output work)
-    (λ e. refl, (λ e. refl, tt)) (λ e. refl, (λ e. refl, (λ e. refl, tt))) (λ e. refl, tt)
+-- any bytes: what is read in them decides which tests stand behind 1 and 2
+abbrev pub textWithoutReasons : Read → ℕ → ℕ → ℕ → List Test
+textWithoutReasons malformed bytes output work = textLengthTest bytes ∷ test 2 true ∷ []
+textWithoutReasons (found w) bytes output work =
+    withoutReasons (meant w .family) (textLengthTest bytes ∷ test 2 false ∷ [])
+    (jobCurve (meant w) output ∷ textOutputTest textOutputLength output ∷ workTest work ∷ []) (jobEntries (meant w) output)
+
+pub text-stays : (t : List ℕ) (output work : ℕ) (values : List ℕ)
+    → reasonless (verdict (textTests t output work) values) ≡ verdict (textWithoutReasons (readJob t) (length t) output work) values
+unfolding textTests textLengthTest formTests text-call curveLengthTest textOutputTest workTest curveEntriesTest
+text-stays t output work values = by (readJob t)
+  where
+    by : (r : Read) → reasonless (verdict (textLengthTest (length t) ∷ formTests r output work) values)
+        ≡ verdict (textWithoutReasons r (length t) output work) values
+    by malformed = unreasoned-end values (textLengthTest (length t) ∷ test 2 true ∷ []) (λ e. refl, (λ e. refl, tt))
+    by (found w) = answers-stay (meant w .family) values _ (text-call w (length t) output work)
+        (λ e. refl, (λ e. refl, tt)) (λ e. refl, (λ e. refl, (λ e. refl, tt))) (λ e. refl, tt)
+
+-- ---- 14: a record's rows are tested by 3, 4, 5, 9, 10 and 11 with the same end
+or-implied : (z s t : Bool) → (z ≡ true → s ≡ true) → (z || (s || t)) ≡ (s || t)
+or-implied true true t implies = refl
+or-implied true false t implies = absurd (true≢false (sym (implies refl)))
+or-implied false s t implies = refl
+
+any-behind : (before ts us : List Test) → anyHolds ts ≡ anyHolds us → anyHolds (before ++ ts) ≡ anyHolds (before ++ us)
+unfolding anyHolds
+any-behind [] ts us e = e
+any-behind (t ∷ before) ts us e = ap (λ h. t .holds || h) (any-behind before ts us e)
+
+rows-alike : (f : Family) → anyHolds (entriesTest f ∷ aZeroTest f ∷ aInverseTest f ∷ cZeroTest firstC f ∷ cInverseTest firstC f ∷ [])
+    ≡ anyHolds (entriesTest f ∷ aInverseTest f ∷ cInverseTest firstC f ∷ [])
+unfolding anyHolds
+rows-alike f = ap (λ h. entriesTest f .holds || h)
+    (or-implied (aZeroTest f .holds) (aInverseTest f .holds) _ (a-implied f [])
+    ∙ ap (λ h. aInverseTest f .holds || h) (or-implied (cZeroTest firstC f .holds) (cInverseTest firstC f .holds) _ (c-implied f [])))
+
+pub rows-hold-alike : (f : Family) → anyHolds (familyShape f ++ familyRows f)
+    ≡ anyHolds (familyShape f ++ (entriesTest f ∷ aInverseTest f ∷ cInverseTest firstC f ∷ []))
+unfolding familyRows rowInverses
+rows-hold-alike f = any-behind (familyShape f) _ _ (rows-alike f)
+
+pub record-stays : (p : Prepared) → recordTest p
+    ≡ test 14 (anyHolds (familyShape (ownRows p) ++ (entriesTest (ownRows p) ∷ aInverseTest (ownRows p) ∷ cInverseTest firstC (ownRows p) ∷ []))
+    || differs p (prepared (ownRows p)))
+unfolding recordTest broken
+record-stays p = ap (λ h. test 14 (h || differs p (prepared (ownRows p)))) (rows-hold-alike (ownRows p))
 
 -- ---- the changes that take a row
 abbrev pub rowWithoutReasons : ℕ → ℕ → Row → List Test
-rowWithoutReasons m place row =
-    test 9 (notBelow m (row .a) || notBelow m (row .b) || notBelow m (row .c))
-    ∷ test 10 (noInverse m (row .a))
-    ∷ test 11 (leb firstC place && noInverse m (row .c))
-    ∷ []
+rowWithoutReasons m place row = nine m place row ∷ ten m place row ∷ eleven m place row ∷ []
 
 zero-lacks : (m x : ℕ) → eqb x 0 ≡ true → noInverse m x ≡ true
 unfolding noInverse
@@ -156,7 +193,7 @@ and-implied false z t implies = λ e. e
 row-stays : (m place : ℕ) (row : Row) → reasonless (verdict (rowTests m place row) []) ≡ verdict (rowWithoutReasons m place row) []
 unfolding rowTests
 row-stays m place row =
-    past [] (test 9 (notBelow m (row .a) || notBelow m (row .b) || notBelow m (row .c)) ∷ []) _ _ (λ e. refl, tt)
+    past [] (nine m place row ∷ []) _ _ (λ e. refl, tt)
     (instead [] 17 10 (eqb (row .a) 0) (noInverse m (row .a)) _ _ refl refl (zero-lacks m (row .a))
     (instead [] 18 11 (leb firstC place && eqb (row .c) 0) (leb firstC place && noInverse m (row .c)) [] [] refl refl
     (and-implied (leb firstC place) (eqb (row .c) 0) (noInverse m (row .c)) (zero-lacks m (row .c)))

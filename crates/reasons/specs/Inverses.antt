@@ -1,6 +1,7 @@
 -- What the factor says that Inverse hands out.
--- Proved of the promise of Inverse, whoever is lent what: where it finishes the factor is 1, and the inverse times x leaves 1; with 13 it is m
--- where x is zero, and otherwise the greatest number that divides both x and m, above 1 and below m; with any other refusal there is none.
+-- Proved of the promise of Inverse, whoever is lent what: where it finishes the factor is 1, and the inverse times x leaves 1; with 13 the factor
+-- is m where x is zero, and otherwise the greatest number that divides both x and m, above 1 and below m; with any other refusal it is what it
+-- was. With every refusal the inverse is what it was.
 -- Assumes nothing.
 use mathlib.Core.Path.{_≡_, sym, _∙_, ap}
 use mathlib.Core.Bool.{true, false}
@@ -67,9 +68,10 @@ module _ (m x : ℕ) (v : Verdict) (inverses inverses′ factors factors′ : Li
         let other : greatestFactor m x ≡ 1 → ⊥ = λ q. lacks (factor-one m x (modulus .least) .1 q) in
         (greatestFactor m x, told, greatest, omega arith, factor-less m x pos some less)
 
-  pub other-refusal : (k : ℕ) → v ≡ refused k → (k ≡ 13 → ⊥) → (inverses′ ≡ inverses) × (factors′ ≡ factors)
-  other-refusal k e n = (
-    call .written ∙ ap (λ w. after w (inverse m x ∷ []) inverses) e,
-    call .factor ∙ ap (λ w. afterFactor w (greatestFactor m x ∷ []) factors) e
-        ∙ ap (λ b. elim b as (λ t. List ℕ) [ true ↦ greatestFactor m x ∷ [] | false ↦ factors ]) (ne-eqb k 13 n),
-  )
+  pub refusal-keeps : (k : ℕ) → v ≡ refused k → inverses′ ≡ inverses
+  refusal-keeps k e = call .written ∙ ap (λ w. after w (inverse m x ∷ []) inverses) e
+
+  pub other-refusal : (k : ℕ) → v ≡ refused k → (k ≡ 13 → ⊥) → factors′ ≡ factors
+  other-refusal k e n =
+      call .factor ∙ ap (λ w. afterFactor w (greatestFactor m x ∷ []) factors) e
+      ∙ ap (λ b. elim b as (λ t. List ℕ) [ true ↦ greatestFactor m x ∷ [] | false ↦ factors ]) (ne-eqb k 13 n)

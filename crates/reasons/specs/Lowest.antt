@@ -79,6 +79,16 @@ pub record SharedFactor (m x : ℕ) : Type 0 where
   pub above : 1 < greatestFactor m x
   pub below : x < m → greatestFactor m x < m
 
+pub shared-factor-is : (m x : ℕ) → 2 ≤ m → ((0 < x) × (HasInverse m x → ⊥)) ↔ SharedFactor m x
+shared-factor-is m x two = (
+  λ p.
+      let pos : 0 < m = omega arith in
+      let other : greatestFactor m x ≡ 1 → ⊥ = λ e. p .1 (factor-one m x two .1 e) in
+      let least : 1 ≤ greatestFactor m x = factor-greatest m x pos .greatest 1 (one-dvd x) (one-dvd m) in
+      record { notZero = p .0; above = omega arith; below = factor-less m x pos (p .0) },
+  λ s. (s .notZero, λ has. let one : greatestFactor m x ≡ 1 = factor-one m x two .0 has in omega (arith, s .above)),
+)
+
 abbrev pub Shared : Family → ℕ → (Row → ℕ) → Type 0
 Shared f first entry = (i : ℕ) × Lacking f first entry i × SharedFactor (f .m) (entry (rowAt f i))
 
@@ -150,6 +160,4 @@ module _ (f : Family) (two : 2 ≤ f .m) (first : ℕ) (entry : Row → ℕ) whe
           let (i, row) = row-exists one in
           let x = entry (rowAt f i) in
           let some : 0 < x = zero-false x .0 (sym (lowest-row i row) ∙ none) in
-          let other : greatestFactor (f .m) x ≡ 1 → ⊥ = λ e. row .lacks (factor-one (f .m) x two .1 e) in
-          let least : 1 ≤ greatestFactor (f .m) x = factor-greatest (f .m) x pos .greatest 1 (one-dvd x) (one-dvd (f .m)) in
-          (i, row, record { notZero = some; above = omega arith; below = factor-less (f .m) x pos some })
+          (i, row, shared-factor-is (f .m) x two .0 (some, row .lacks))

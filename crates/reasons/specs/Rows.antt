@@ -1,6 +1,6 @@
 -- What the numbers of the rows say of a family, and of the call that gives one.
 --   Entries f, AInverses f   9 passes: every entry is below m; 17 and 10 pass: every a has an inverse
---   RowNumber k              a number of the tests on rows, of which the others of a call have none
+--   RowNumber k              k is 9 or more, and none of 12 to 16, as the numbers of the tests on rows are: no other test of a call has such a one
 -- Proved, from m = 2 on: of the tests on the rows 17 is given if and only if the entries are below m and the lowest row whose a has no inverse
 -- has a zero there, 10 if it shares a factor; 18 and 11 where besides every a has an inverse, of the c from row 2 on (seventeen-is and so on).
 -- Of each call on a family, the text call and the call that writes a job among them: where it gives such a number, m is a modulus and the
@@ -87,18 +87,21 @@ module _ (f : Family) (two : 2 ≤ f .m) where
 -- ---- the calls
 pub record RowNumber (k : ℕ) : Type 0 where
   pub least : 9 ≤ k
-  pub noCurve : k ≡ 12 → ⊥
+  pub apart : (12 ≤ k) × (k ≤ 16) → ⊥
 
 module _ (k : ℕ) (number : RowNumber k) where
-  -- a number below 9 is another, and so is 12
-  early : (j : ℕ) → j ≤ 8 → j ≡ k → ⊥
+  -- a number below 9 is another, and so is one from 12 to 16
+  pub early : (j : ℕ) → j ≤ 8 → j ≡ k → ⊥
   early j h e = omega (arith, number .least)
 
+  pub between : (j : ℕ) → (12 ≤ j) × (j ≤ 16) → j ≡ k → ⊥
+  between j h e = number .apart (rw (sym e) h)
+
   curve : 12 ≡ k → ⊥
-  curve e = number .noCurve (sym e)
+  curve = between 12 (omega arith)
 
   module _ (f : Family) (ts : List Test) (call : CallOf f ts) (values : List ℕ)
-      (before : Others k (call .before)) (between : Others k (call .between)) (after : Others k (call .after)) where
+      (before : Others k (call .before)) (middle : Others k (call .between)) (after : Others k (call .after)) where
     call-says : verdict ts values ≡ refused k → Modulus (f .m) × (verdict (familyRows f) [] ≡ refused k)
     unfolding familyRows shapeTests
     call-says e =
@@ -106,7 +109,7 @@ module _ (k : ℕ) (number : RowNumber k) where
         let behind = refused-past k values (call .before) _ before whole .1 in
         let other = shape-given (λ j. j ≡ k → ⊥) _ _ _ _ (early 3 (omega arith)) (early 4 (omega arith)) (early 5 (omega arith)) in
         let shape = refused-past k values (familyShape f) _ other behind in
-        let rest = refused-past k values (call .between) _ between (shape .1) .1 in
+        let rest = refused-past k values (call .between) _ middle (shape .1) .1 in
         (modulus-passes (f .m) .0 (shape .0 .0), refused-first k values (entriesTest f ∷ rowInverses firstC f) (call .after) after rest)
 
   module _ (f : Family) (u : List ℕ) (values : List ℕ) where
