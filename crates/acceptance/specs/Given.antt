@@ -10,7 +10,8 @@ use mathlib.Core.List.{List, [], _∷_, _++_}
 use Prim.Native.Nat.{ℕ}
 use Rattle.definitions.specs.Family.{Family}
 use Rattle.definitions.specs.Refusals.{Test, Verdict, finished, refused, verdict}
-use Rattle.definitions.specs.Refusals.{modulusTest, equalLengthsTest, rowCountTest, curveLengthTest, entriesTest, aZeroTest, aInverseTest, cZeroTest, cInverseTest}
+use Rattle.definitions.specs.Refusals.{modulusTest, equalLengthsTest, rowCountTest, curveLengthTest}
+use Rattle.definitions.specs.Refusals.{entriesTest, aZeroTest, aInverseTest, cZeroTest, cInverseTest}
 use Rattle.definitions.specs.Refusals.{curveEntriesTest, shapeTests, rowInverses, familyRows, valueTests}
 use Rattle.definitions.specs.TextCall.{textOutputTest, lengthTests}
 use Rattle.definitions.specs.declared.Operation.{Operation}

@@ -15,7 +15,8 @@ use Rattle.definitions.specs.Number.{HasInverse}
 use Rattle.definitions.specs.Family.{Family, firstC, rows, size, rowAt}
 use Rattle.definitions.specs.JobWriting.{jobOutputLength, writingTests}
 use Rattle.definitions.specs.Orthogonality.{momentCount}
-use Rattle.definitions.specs.Refusals.{Test, refused, verdict, test, modulusTest, entriesTest, aZeroTest, aInverseTest, cZeroTest, cInverseTest, shapeTests}
+use Rattle.definitions.specs.Refusals.{Test, refused, verdict, test, modulusTest, shapeTests}
+use Rattle.definitions.specs.Refusals.{entriesTest, aZeroTest, aInverseTest, cZeroTest, cInverseTest}
 use Rattle.definitions.specs.Refusals.{curveLengthTest, outputTest, workTest, curveEntriesTest, familyShape, rowInverses, familyRows, valueTests}
 use Rattle.definitions.specs.Refusals.{plainTests, treeTests, momentsTests, normsTests}
 use Rattle.definitions.specs.Reading.{found}

@@ -21,7 +21,8 @@ use Rattle.definitions.specs.Family.{Row, Family, Modulus, RowBelow, mostRows, 
 use Rattle.definitions.specs.Refusals.{Test, Verdict, finished, refused, verdict, some, someFrom, lowestFrom, someRow, lowestRow}
 use Rattle.definitions.specs.Refusals.{differ, notBelow, noInverse}
 use Rattle.definitions.specs.Refusals.{workLength, modulusTest, equalLengthsTest, rowCountTest, curveLengthTest, outputTest, workTest}
-use Rattle.definitions.specs.Refusals.{entriesTest, aZeroTest, aInverseTest, cZeroTest, cInverseTest, curveEntriesTest, numberTest, numberInverseTest}
+use Rattle.definitions.specs.Refusals.{entriesTest, aZeroTest, aInverseTest, cZeroTest, cInverseTest, curveEntriesTest}
+use Rattle.definitions.specs.Refusals.{numberTest, numberInverseTest}
 use Rattle.definitions.specs.TextCall.{mostBytes, textLengthTest, textOutputTest}
 use Rattle.numbers.specs.Inverse.{inverse-right}
 use Rattle.numbers.specs.Lists.{Each}
@@ -342,6 +343,7 @@ module _ (f : Family) where
     unfolding aZeroTest
     a-zeros-pass all = lowestRow-none f 0 _ _ (λ i l h. noInverse-false (f .m) (rowAt f i .a) pos .1 (all i h))
 
-    pub c-zeros-pass : (first : ℕ) → ((i : ℕ) → first ≤ i → i < size f → HasInverse (f .m) (rowAt f i .c)) → cZeroTest first f .holds ≡ false
+    pub c-zeros-pass : (first : ℕ) → ((i : ℕ) → first ≤ i → i < size f → HasInverse (f .m) (rowAt f i .c))
+        → cZeroTest first f .holds ≡ false
     unfolding cZeroTest
     c-zeros-pass first all = lowestRow-none f first _ _ (λ i l h. noInverse-false (f .m) (rowAt f i .c) pos .1 (all i l h))

@@ -61,7 +61,8 @@ module _ (m first r : ℕ) (list : List ℕ) (close zeroNumber sharedNumber : �
   column-finishes all = sym (verdict-finished (columnTests m first r list close zeroNumber sharedNumber) [] .1 (column-none all))
 
   -- the lowest without an inverse stands at place i
-  module _ (i : ℕ) (l : first ≤ i) (h : i ≤ r) (before : (j : ℕ) → first ≤ j → j < i → lacks j ≡ false) (here : lacks i ≡ true) where
+  module _ (i : ℕ) (l : first ≤ i) (h : i ≤ r) (before : (j : ℕ) → first ≤ j → j < i → lacks j ≡ false)
+      (here : lacks i ≡ true) where
     lowest : lowestFrom lacks (λ j. eqb (entry j) 0) first (suc r - first) ≡ eqb (entry i) 0
     lowest = lowest-is lacks _ first (suc r - first) i l (omega arith) (λ j k g. before j k (omega arith)) here
 
@@ -119,11 +120,13 @@ module _ (m first r : ℕ) (list : List ℕ) (close zeroNumber sharedNumber : �
 
     -- what the pass answers
     module _ (factors : Factors) (is : FactorAnswer m asked factors) where
-      pub pass-zero : (i : ℕ) (reason : Reason) → factors ≡ Factors.Without i reason → reason ≡ Reason.Zero → refused zeroNumber ≡ whole
+      pub pass-zero : (i : ℕ) (reason : Reason) → factors ≡ Factors.Without i reason → reason ≡ Reason.Zero
+          → refused zeroNumber ≡ whole
       pass-zero i reason e q =
           let said = subst (FactorAnswer m asked) (e ∙ ap (Factors.Without i) q) is in found-zero i (said .0) (said .1)
 
-      pub pass-shared : (i g : ℕ) (reason : Reason) → factors ≡ Factors.Without i reason → reason ≡ Reason.Shared g → refused sharedNumber ≡ whole
+      pub pass-shared : (i g : ℕ) (reason : Reason) → factors ≡ Factors.Without i reason → reason ≡ Reason.Shared g
+          → refused sharedNumber ≡ whole
       pass-shared i g reason e q =
           let said = subst (FactorAnswer m asked) (e ∙ ap (Factors.Without i) q) is in found-shared i (said .0) (said .1 .notZero)
 

@@ -18,7 +18,8 @@ use Rattle.definitions.specs.Orthogonality.{norm, norms, product, moment
 use Rattle.definitions.specs.Refusals.{Verdict, finished, refused, verdict, some, someFrom, lowestFrom, someRow, lowestRow}
 use Rattle.definitions.specs.Refusals.{differ, notBelow, noInverse}
 use Rattle.definitions.specs.Refusals.{workLength, modulusTest, equalLengthsTest, rowCountTest, curveLengthTest, outputTest, workTest}
-use Rattle.definitions.specs.Refusals.{entriesTest, aZeroTest, aInverseTest, cZeroTest, cInverseTest, curveEntriesTest, shapeTests, rowInverses}
+use Rattle.definitions.specs.Refusals.{entriesTest, aZeroTest, aInverseTest, cZeroTest, cInverseTest, curveEntriesTest}
+use Rattle.definitions.specs.Refusals.{shapeTests, rowInverses}
 use Rattle.definitions.specs.Refusals.{familyRows, valueTests, numberTest, numberInverseTest, plainTests, momentsTests, normsTests, inverseTests}
 use Rattle.definitions.specs.Answers.{afterFactor}
 
@@ -33,11 +34,11 @@ pub data Call : Type 0 where
 
 -- whoever unfolds it unfolds the definitions that it leads to
 unfoldable pub handed : Call → Verdict
-unfolding sum table negative inverseBelow inverse rowAt timesX term F G expand adjoint top lessTop decomposeBelow decompose
-    reversal nextQuotient quotient moments signedProduct norm norms product momentTotal normTotal verdict some differ notBelow
-    noInverse someFrom someRow lowestFrom lowestRow modulusTest equalLengthsTest rowCountTest curveLengthTest outputTest workTest entriesTest
-    aZeroTest aInverseTest cZeroTest cInverseTest curveEntriesTest shapeTests rowInverses familyRows valueTests numberTest numberInverseTest plainTests momentsTests
-    normsTests inverseTests
+unfolding sum table negative inverseBelow inverse rowAt timesX term F G expand adjoint top lessTop decomposeBelow decompose reversal
+    nextQuotient quotient moments signedProduct norm norms product momentTotal normTotal verdict some differ notBelow noInverse
+    someFrom someRow lowestFrom lowestRow modulusTest equalLengthsTest rowCountTest curveLengthTest outputTest workTest entriesTest
+    aZeroTest aInverseTest cZeroTest cInverseTest curveEntriesTest shapeTests rowInverses familyRows valueTests numberTest
+    numberInverseTest plainTests momentsTests normsTests inverseTests
 handed (Expand f u) = verdict (plainTests f u (size f)) (expand f u)
 handed (Adjoint f u) = verdict (plainTests f u (size f)) (adjoint f u)
 handed (Decompose f p) = verdict (plainTests f p (size f)) (decompose f p)

@@ -143,7 +143,8 @@ ofFifteen = prepared (family 15 (1 ∷ []) (0 ∷ []) (1 ∷ []))
 pub append-refusals : map told (
     Append wrong (rowOf 7 7 7) ∷ Append full (rowOf 2 2 2) ∷ Append recordOfR (rowOf 0 7 0) ∷ Append recordOfR (rowOf 0 0 0)
     ∷ Append recordOfR (rowOf 1 0 0) ∷ Append recordOfR (rowOf 1 0 1) ∷ Append noRows (rowOf 0 0 0) ∷ Append noRows (rowOf 1 0 0)
-    ∷ Append ofFifteen (rowOf 0 0 3) ∷ Append ofFifteen (rowOf 3 0 0) ∷ Append ofFifteen (rowOf 1 0 0) ∷ Append ofFifteen (rowOf 1 0 3) ∷ []
+    ∷ Append ofFifteen (rowOf 0 0 3) ∷ Append ofFifteen (rowOf 3 0 0) ∷ Append ofFifteen (rowOf 1 0 0)
+    ∷ Append ofFifteen (rowOf 1 0 3) ∷ []
     ) ≡ refused 14 ∷ refused 5 ∷ refused 9 ∷ refused 17 ∷ refused 18 ∷ finished [] ∷ refused 17 ∷ finished []
     ∷ refused 17 ∷ refused 10 ∷ refused 18 ∷ refused 11 ∷ []
 unfolding told

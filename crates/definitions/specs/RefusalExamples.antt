@@ -97,7 +97,8 @@ abbrev pub row : ℕ → ℕ → ℕ → Family
 row a b c = family 15 (a ∷ []) (b ∷ []) (c ∷ [])
 
 pub first-order : map (λ f. number (verdict (familyRows f) []))
-    (row 15 0 0 ∷ row 0 15 0 ∷ row 0 0 15 ∷ row 0 0 0 ∷ row 3 0 0 ∷ row 1 0 0 ∷ row 1 0 3 ∷ []) ≡ 9 ∷ 9 ∷ 9 ∷ 17 ∷ 10 ∷ 0 ∷ 0 ∷ []
+    (row 15 0 0 ∷ row 0 15 0 ∷ row 0 0 15 ∷ row 0 0 0 ∷ row 3 0 0 ∷ row 1 0 0 ∷ row 1 0 3 ∷ [])
+    ≡ 9 ∷ 9 ∷ 9 ∷ 17 ∷ 10 ∷ 0 ∷ 0 ∷ []
 unfolding handed
 first-order = refl
 

@@ -1,8 +1,8 @@
 -- What the numbers of a new row say, where an append or a replacement gives one.
--- Proved, from m = 2 on: of the tests on a new row 17 is given if and only if its numbers are below m and its a is zero, 10 if and only if its a shares
--- a factor with m; 18 and 11 where besides its a has an inverse and it is not row 1, of its c (row-seventeen-is and so on). An append gives such a number
--- if and only if 14 and 5 pass and the tests on the row give it, a replacement if and only if 14 and 16 do (append-says, replace-says).
--- Assumes nothing.
+-- Proved, from m = 2 on: of the tests on a new row 17 is given if and only if its numbers are below m and its a is zero, 10 if and only if
+-- its a shares a factor with m; 18 and 11 where besides its a has an inverse and it is not row 1, of its c (row-seventeen-is and so on).
+-- An append gives such a number if and only if 14 and 5 pass and the tests on the row give it, a replacement if and only if 14 and 16 do
+-- (append-says, replace-says). Assumes nothing.
 use mathlib.Core.Path.{_≡_, _∙_}
 use mathlib.Core.Bool.{true, false}
 use mathlib.Core.List.{[], _∷_}

@@ -17,16 +17,19 @@ use Rattle.definitions.specs.Family.{Family, Row, firstC, rows, rowAt, size}
 use Rattle.definitions.specs.JobWriting.{jobOutputLength, writingTests}
 use Rattle.definitions.specs.Number.{inverse}
 use Rattle.definitions.specs.Orthogonality.{momentCount}
-use Rattle.definitions.specs.Prepared.{Prepared, ownRows, prepared, anyHolds, differs, broken, recordTest, absentRowTest, rowTests, appendTests, replaceTests}
+use Rattle.definitions.specs.Prepared.{Prepared, ownRows, prepared, anyHolds, differs, broken, recordTest, absentRowTest}
+use Rattle.definitions.specs.Prepared.{rowTests, appendTests, replaceTests}
 use Rattle.definitions.specs.Reading.{Read, found, malformed, readJob}
 use Rattle.definitions.specs.Refusals.{Test, Verdict, finished, refused, verdict, test, someRow, lowestRow, noInverse}
-use Rattle.definitions.specs.Refusals.{rowCountTest, curveLengthTest, outputTest, workTest, entriesTest, aZeroTest, aInverseTest, cZeroTest, cInverseTest}
+use Rattle.definitions.specs.Refusals.{rowCountTest, curveLengthTest, outputTest, workTest}
+use Rattle.definitions.specs.Refusals.{entriesTest, aZeroTest, aInverseTest, cZeroTest, cInverseTest}
 use Rattle.definitions.specs.Refusals.{curveEntriesTest, familyShape, rowInverses, familyRows, plainTests, treeTests, momentsTests, normsTests}
 use Rattle.definitions.specs.Text.{Job, meant}
 use Rattle.definitions.specs.TextCall.{textOutputLength, textLengthTest, textOutputTest, formTests, textTests}
 use Rattle.acceptance.specs.Given.{Given, shape-given}
 use Rattle.acceptance.specs.NewRow.{nine, ten, eleven}
-use Rattle.acceptance.specs.Range.{CallOf, curveLength, curveEntries, jobCurve, jobEntries, plain-call, tree-call, moments-call, norms-call, writing-call, text-call}
+use Rattle.acceptance.specs.Range.{CallOf, curveLength, curveEntries, jobCurve, jobEntries}
+use Rattle.acceptance.specs.Range.{plain-call, tree-call, moments-call, norms-call, writing-call, text-call}
 use Rattle.acceptance.specs.Verdicts.{verdict-here, verdict-next}
 use Rattle.reasons.specs.Lowest.{lowest-some}
 
@@ -169,9 +172,8 @@ pub rows-hold-alike : (f : Family) → anyHolds (familyShape f ++ familyRows f)
 unfolding familyRows rowInverses
 rows-hold-alike f = any-behind (familyShape f) _ _ (rows-alike f)
 
-pub record-stays : (p : Prepared) → recordTest p
-    ≡ test 14 (anyHolds (familyShape (ownRows p) ++ (entriesTest (ownRows p) ∷ aInverseTest (ownRows p) ∷ cInverseTest firstC (ownRows p) ∷ []))
-    || differs p (prepared (ownRows p)))
+pub record-stays : (p : Prepared) → let f = ownRows p in recordTest p
+    ≡ test 14 (anyHolds (familyShape f ++ (entriesTest f ∷ aInverseTest f ∷ cInverseTest firstC f ∷ [])) || differs p (prepared f))
 unfolding recordTest broken
 record-stays p = ap (λ h. test 14 (h || differs p (prepared (ownRows p)))) (rows-hold-alike (ownRows p))
 

@@ -20,7 +20,8 @@ use Rattle.acceptance.specs.Acceptance.{InverseInput, inverse-finished}
 use Rattle.acceptance.specs.Verdicts.{None, modulus-passes, number-passes, noInverse-true}
 use Rattle.reasons.specs.Refused.{refused-here}
 
-module _ (m x : ℕ) (v : Verdict) (inverses inverses′ factors factors′ : List ℕ) (call : InverseCall m x v inverses inverses′ factors factors′) where
+module _ (m x : ℕ) (v : Verdict) (inverses inverses′ factors factors′ : List ℕ)
+    (call : InverseCall m x v inverses inverses′ factors factors′) where
   module _ (e : v ≡ finished []) where
     accepted : InverseInput m x
     accepted = inverse-finished m x [] .0 (sym (call .answer) ∙ e)

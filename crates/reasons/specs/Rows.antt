@@ -113,7 +113,8 @@ module _ (k : ℕ) (number : RowNumber k) where
         (modulus-passes (f .m) .0 (shape .0 .0), refused-first k values (entriesTest f ∷ rowInverses firstC f) (call .after) after rest)
 
   module _ (f : Family) (u : List ℕ) (values : List ℕ) where
-    pub plain-says : (output : ℕ) → verdict (plainTests f u output) values ≡ refused k → Modulus (f .m) × (verdict (familyRows f) [] ≡ refused k)
+    pub plain-says : (output : ℕ) → verdict (plainTests f u output) values ≡ refused k
+        → Modulus (f .m) × (verdict (familyRows f) [] ≡ refused k)
     unfolding plain-call curveLengthTest outputTest curveEntriesTest
     plain-says output = call-says f _ (plain-call f u output) values tt
         (λ e. early 6 (omega arith), (λ e. early 7 (omega arith), tt)) (λ e. curve, tt)
@@ -131,7 +132,8 @@ module _ (k : ℕ) (number : RowNumber k) where
     moments-says output work = call-says f _ (moments-call f output work) values tt
         (λ e. early 7 (omega arith), (λ e. early 8 (omega arith), tt)) tt
 
-    pub norms-says : (output : ℕ) → verdict (normsTests f output) values ≡ refused k → Modulus (f .m) × (verdict (familyRows f) [] ≡ refused k)
+    pub norms-says : (output : ℕ) → verdict (normsTests f output) values ≡ refused k
+        → Modulus (f .m) × (verdict (familyRows f) [] ≡ refused k)
     unfolding norms-call outputTest
     norms-says output = call-says f _ (norms-call f output) values tt (λ e. early 7 (omega arith), tt) tt
 
