@@ -4,6 +4,8 @@
  * (i = 1 to r) is a_i, b_i, c_i, at index i - 1 of the lists a, b and c. Its polynomials are F_{-1} = 0, F_0 = 1 and
  * F_i = (a_i x + b_i) F_{i-1} + c_i F_{i-2}. n is r + 1 throughout. Lists have the lowest index or power first.
  * c_1 multiplies F_{-1} = 0 only: it may be any number below m, 0 too, as in Legendre's recurrence, and no converted list depends on it.
+ * Numbers with a sign are in the two functions on two channels alone, zahupnik_join and zahupnik_expand_join; modulo m such a number
+ * leaves a remainder from 0 to m - 1 too, from which it differs by a multiple of m: -1 leaves m - 1.
  *
  * What a function returns: ZAHUPNIK_FINISHED, and then the result that its comment states is written; or the number of a
  * refusal, and then nothing is written, so that the output is what it was: look at the number before you use the output. Only
@@ -98,13 +100,15 @@ extern "C" {
 #define ZAHUPNIK_A_INVERSE 10     /* some a has no inverse modulo m: that of the lowest such row is not zero, and shares a factor with m */
 #define ZAHUPNIK_C_INVERSE 11     /* some c from row 2 on has no inverse modulo m: that of the lowest such row is not zero, and shares a
                                    * factor with m */
-#define ZAHUPNIK_CURVE_ENTRY 12   /* a curve entry, a coefficient or the number to invert is not below m */
+#define ZAHUPNIK_CURVE_ENTRY 12   /* a curve entry, a coefficient, a remainder to join or the number to invert is not below its m */
 #define ZAHUPNIK_NO_INVERSE 13    /* the number to invert has no inverse modulo m */
 #define ZAHUPNIK_RECORD 14        /* the prepared family is not the record of its own rows, or these are not accepted */
 #define ZAHUPNIK_NO_ROWS 15       /* there is no row to drop */
 #define ZAHUPNIK_ABSENT_ROW 16    /* there is no such row to replace */
 #define ZAHUPNIK_A_ZERO 17        /* some a has no inverse modulo m: that of the lowest such row is zero */
 #define ZAHUPNIK_C_ZERO 18        /* some c from row 2 on has no inverse modulo m: that of the lowest such row is zero */
+#define ZAHUPNIK_SHARED_FACTOR 19 /* m1 and m2 share a factor greater than 1 */
+#define ZAHUPNIK_REMAINDERS 20    /* the two lists of remainders are not equally long */
 
 /* Inverse: *inverse becomes the one number below m that times x leaves 1 modulo m, and *factor the greatest common factor of x and m,
  * which is then 1. Refuses with 3 12 13. With 13 *inverse is what it was, and *factor becomes the greatest common factor: m where x is
@@ -253,6 +257,26 @@ uint32_t zahupnik_prepared_tree_decompose(struct zahupnik_prepared family, const
 /* Lengths: output 2n - 1; work ZAHUPNIK_LEAST_WORK or more. Refuses with 14 7 8. */
 uint32_t zahupnik_prepared_moments(struct zahupnik_prepared family, uint32_t *output, size_t output_length, uint32_t *work,
                                    size_t work_length);
+
+/* Two channels. m1 and m2 are two channel numbers without a common factor. For every two remainders there is exactly one whole number v
+ * that leaves the first modulo m1 and the second modulo m2 and has 2 v greater than -(m1 m2) and at most m1 m2: the joined value. Half of
+ * m1 m2, where that is even, is joined to itself and not to its negative. It is never below -2305843005992468480 nor above
+ * 2305843005992468481. */
+
+/* Join: output[i] becomes the joined value of first[i] modulo m1 and second[i] modulo m2. Lengths: first and second the same, any;
+ * output the same. Refuses with 3 3 19 20 7 12 12: 3 of m1 and then of m2, 12 of first, all of it, and then of second. */
+uint32_t zahupnik_join(uint32_t m1, uint32_t m2, const uint32_t *first, size_t first_length, const uint32_t *second,
+                       size_t second_length, int64_t *output, size_t output_length);
+
+/* Expand and join: rows and curve are whole numbers with a sign, any that the type holds, and each channel takes their remainders.
+ * output[k] becomes the joined value of what zahupnik_plain_expand makes output[k] with m1 and the remainders modulo m1, and of what it
+ * makes it with m2 and the remainders modulo m2. So where the coefficient of x^k in the sum over i of curve[i] F_i, over the whole numbers,
+ * is in the range of the joined value, output[k] is that coefficient; where it is not, output[k] differs from it by a multiple of m1 m2,
+ * and nothing says so. Row by row. Lengths: a, b, c r; curve n; output n. Refuses with 3 3 19 4 5 6 7 17 10 17 10 18 11 18 11:
+ * 3 of m1 and then of m2; 17 and 10 of the remainders modulo m1 and then modulo m2, and likewise 18 and 11. */
+uint32_t zahupnik_expand_join(uint32_t m1, uint32_t m2, const int32_t *a, size_t a_length, const int32_t *b, size_t b_length,
+                              const int32_t *c, size_t c_length, const int32_t *curve, size_t curve_length,
+                              int64_t *output, size_t output_length);
 
 #ifdef __cplusplus
 }
