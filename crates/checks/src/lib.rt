@@ -234,7 +234,7 @@ fn row_entries(
 
 // The inverses of a column of rows, of its numbers from place first on up to row n: the entries of the list before place r, then the
 // closing number. The lowest without one decides: it is refused with the one number where it is zero, with the other where it is not.
-fn column(
+pub fn column(
     m: u32,
     list: &[u32],
     first: usize,

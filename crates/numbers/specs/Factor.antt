@@ -24,7 +24,7 @@ greatest-unique {m} {x} {g} {g′} p q =
     le-antisymm (q .greatest g (p .dividesNumber) (p .dividesModulus)) (p .greatest g′ (q .dividesNumber) (q .dividesModulus))
 
 -- ---- the search
-and-both : (s t : Bool) → ((s && t) ≡ true) ↔ ((s ≡ true) × (t ≡ true))
+pub and-both : (s t : Bool) → ((s && t) ≡ true) ↔ ((s ≡ true) × (t ≡ true))
 and-both true t = (λ e. (refl, e), λ p. p .1)
 and-both false t = (λ e. absurd (true≢false (sym e)), λ p. absurd (true≢false (sym (p .0))))
 

@@ -1,0 +1,1 @@
+// Two channels, as definitions: it has no code, only what specs/ says.
