@@ -1,8 +1,10 @@
 -- The two calls on two channels: their tests in their order, and what they promise on every input.
 --   moduliTests m m′       3 of m, 3 of m′, and 19: they share a factor greater than 1
---   joinTests              of Join: those, 20: the two lists differ in length, 7, 12 of the first list, 12 of the second
---   expandJoinTests        of Expand and join: those three, 4 5 6 7, and on the remainders of the rows 17 10 modulo m, 17 10 modulo m′,
---                          18 11 modulo m, 18 11 modulo m′
+--   listTests              20: the two lists differ in length, 7, 12 of the first list, 12 of the second
+--   sizeTests              4 5 6 7
+--   bothRows               on the remainders of the rows 17 10 modulo m, 17 10 modulo m′, 18 11 modulo m, 18 11 modulo m′
+--   joinTests              of Join: 3 3 19, listTests
+--   expandJoinTests        of Expand and join: 3 3 19, sizeTests, bothRows
 --   wholesAfter v new old  what the output holds after the verdict v: new if finished, what it held if refused
 --   WholesHanded           the promise of a call that hands out whole numbers;  JoinCall, ExpandJoinCall  of each
 -- 9 and 12 are not tested where the numbers are reduced first, since a remainder is below its modulus. Item 6 of the change requests.
@@ -30,11 +32,12 @@ remaindersTest first second = test 20 (differ second first)
 unfoldable pub moduliTests : ℕ → ℕ → List Test
 moduliTests m m′ = modulusTest m ∷ modulusTest m′ ∷ sharedFactorTest m m′ ∷ []
 
+unfoldable pub listTests : ℕ → ℕ → List ℕ → List ℕ → ℕ → List Test
+listTests m m′ xs ys output =
+    remaindersTest (length xs) (length ys) ∷ outputTest (length xs) output ∷ curveEntriesTest m xs ∷ curveEntriesTest m′ ys ∷ []
+
 unfoldable pub joinTests : ℕ → ℕ → List ℕ → List ℕ → ℕ → List Test
-joinTests m m′ xs ys output =
-    moduliTests m m′
-    ++ (remaindersTest (length xs) (length ys) ∷ outputTest (length xs) output
-    ∷ curveEntriesTest m xs ∷ curveEntriesTest m′ ys ∷ [])
+joinTests m m′ xs ys output = moduliTests m m′ ++ listTests m m′ xs ys output
 
 -- 17 and 10 of a family, and 18 and 11
 unfoldable pub aTests : Family → List Test
@@ -46,12 +49,15 @@ cTests f = cZeroTest firstC f ∷ cInverseTest firstC f ∷ []
 unfoldable pub bothRows : Family → Family → List Test
 bothRows f f′ = aTests f ++ (aTests f′ ++ (cTests f ++ cTests f′))
 
+-- 4 5 6 7, from the lengths of the rows' lists, the curve and the output
+unfoldable pub sizeTests : ℕ → ℕ → ℕ → ℕ → ℕ → List Test
+sizeTests a b c u output =
+    equalLengthsTest a b c ∷ rowCountTest a ∷ curveLengthTest (suc a) u ∷ outputTest (suc a) output ∷ []
+
 unfoldable pub expandJoinTests : ℕ → ℕ → Signed → List ℤ → ℕ → List Test
 expandJoinTests m m′ s u output =
     moduliTests m m′
-    ++ (equalLengthsTest (length (s .a)) (length (s .b)) (length (s .c)) ∷ rowCountTest (length (s .a))
-    ∷ curveLengthTest (suc (length (s .a))) (length u) ∷ outputTest (suc (length (s .a))) output
-    ∷ bothRows (reduced m s) (reduced m′ s))
+    ++ (sizeTests (length (s .a)) (length (s .b)) (length (s .c)) (length u) output ++ bothRows (reduced m s) (reduced m′ s))
 
 abbrev pub wholesAfter : Verdict → List ℤ → List ℤ → List ℤ
 wholesAfter (finished values) new old = new

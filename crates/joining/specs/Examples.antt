@@ -21,8 +21,8 @@ use Rattle.definitions.specs.Number.{divides, factorUpTo, greatestFactor}
 use Rattle.definitions.specs.Refusals.{Verdict, finished, refused, verdict}
 use Rattle.joining.specs.Whole.{remainder, inRange, joins, joinedUpTo, joined, joinedList}
 use Rattle.joining.specs.Expanding.{Signed, signed, wholeTimesX, wholeTerm, wholeSum, coefficient, wholeExpand, reducedExpand}
-use Rattle.joining.specs.Calls.{sharedFactorTest, remaindersTest, moduliTests, joinTests, aTests, cTests, bothRows, expandJoinTests}
-use Rattle.joining.specs.Calls.{wholesAfter}
+use Rattle.joining.specs.Calls.{sharedFactorTest, remaindersTest, moduliTests, listTests, joinTests, aTests, cTests, bothRows}
+use Rattle.joining.specs.Calls.{sizeTests, expandJoinTests, wholesAfter}
 
 -- a number with a sign before it
 abbrev minus : ℕ → ℤ
@@ -34,12 +34,12 @@ bothJoined m m′ s u = joinedList m m′ (reducedExpand m s u) (reducedExpand m
 -- what the output holds after a call; whoever unfolds these unfolds the definitions that they lead to
 unfoldable pub joinOutcome : ℕ → ℕ → List ℕ → List ℕ → List ℤ → List ℤ
 unfolding handed divides factorUpTo greatestFactor remainder inRange joins joinedUpTo joined joinedList sharedFactorTest remaindersTest
-    moduliTests joinTests
+    moduliTests listTests joinTests
 joinOutcome m m′ first second output =
     wholesAfter (verdict (joinTests m m′ first second (length output)) []) (joinedList m m′ first second) output
 
 unfoldable pub expandJoinOutcome : ℕ → ℕ → Signed → List ℤ → List ℤ → List ℤ
-unfolding joinOutcome wholeTimesX wholeTerm wholeSum coefficient wholeExpand aTests cTests bothRows expandJoinTests
+unfolding joinOutcome wholeTimesX wholeTerm wholeSum coefficient wholeExpand aTests cTests bothRows sizeTests expandJoinTests
 expandJoinOutcome m m′ s u output =
     wholesAfter (verdict (expandJoinTests m m′ s u (length output)) []) (bothJoined m m′ s u) output
 

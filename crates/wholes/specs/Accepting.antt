@@ -25,7 +25,8 @@ use Rattle.acceptance.specs.Verdicts.{curve-length-passes, output-passes, curve
 use Rattle.acceptance.specs.Verdicts.{a-inverses-pass, c-inverses-pass, a-zeros-pass, c-zeros-pass}
 use Rattle.joining.specs.Whole.{remainder}
 use Rattle.joining.specs.Expanding.{Signed, reducedList, reduced}
-use Rattle.joining.specs.Calls.{sharedFactorTest, remaindersTest, moduliTests, joinTests, aTests, cTests, bothRows, expandJoinTests}
+use Rattle.joining.specs.Calls.{sharedFactorTest, remaindersTest, moduliTests, listTests, joinTests, aTests, cTests, sizeTests, bothRows}
+use Rattle.joining.specs.Calls.{expandJoinTests}
 use Rattle.wholes.specs.Expanding.{reduced-size}
 use Rattle.wholes.specs.Reduction.{remainder-lt}
 
@@ -74,7 +75,7 @@ unfolding remaindersTest
 remainders-pass first second = differ-false second first
 
 pub join-passes : (m m′ : ℕ) (xs ys : List ℕ) (output : ℕ) → None (joinTests m m′ xs ys output) ↔ JoinInput m m′ xs ys output
-unfolding joinTests
+unfolding listTests joinTests
 join-passes m m′ xs ys output = Iff·trans (none-append (moduliTests m m′) _) (
   λ (moduli, (e20, (e7, (e12, (e12′, done))))). record {
     apart = moduli-pass m m′ .0 moduli;
@@ -156,9 +157,9 @@ module _ (m : ℕ) (s : Signed) where
 
 module _ (m m′ : ℕ) (s : Signed) (u : List ℤ) (output : ℕ) where
   pub expand-join-passes : None (expandJoinTests m m′ s u output) ↔ ExpandJoinInput m m′ s u output
-  unfolding expandJoinTests bothRows
+  unfolding sizeTests expandJoinTests bothRows
   expand-join-passes = simp none-append (
-    λ (moduli, (e4, (e5, (e6, (e7, (a, (a′, (c, c′)))))))).
+    λ (moduli, ((e4, (e5, (e6, (e7, done)))), (a, (a′, (c, c′))))).
         let apart : Apart m m′ = moduli-pass m m′ .0 moduli in
         let lengths = equal-lengths-pass (length (s .a)) (length (s .b)) (length (s .c)) .0 e4 in
         let few = row-count-passes (length (s .a)) .0 e5 in
@@ -181,7 +182,7 @@ module _ (m m′ : ℕ) (s : Signed) (u : List ℤ) (output : ℕ) where
         let a′ = a-pass m′ s (acc′ .modulus) .1 (acc′ .aInverse) in
         let c = c-pass m s (acc .modulus) .1 (acc .cInverse) in
         let c′ = c-pass m′ s (acc′ .modulus) .1 (acc′ .cInverse) in
-        (moduli-pass m m′ .1 (p .apart), (e4, (e5, (e6, (e7, (a, (a′, (c, c′)))))))),
+        (moduli-pass m m′ .1 (p .apart), ((e4, (e5, (e6, (e7, tt)))), (a, (a′, (c, c′))))),
   )
 
   pub expand-join-finished : (verdict (expandJoinTests m m′ s u output) [] ≡ finished []) ↔ ExpandJoinInput m m′ s u output
