@@ -14,6 +14,7 @@ import sys
 import check_classical
 import check_figures
 import check_identities
+import check_joining
 import check_prepared
 import check_refusals
 import check_texts
@@ -32,6 +33,7 @@ PARTS = (
     check_texts,
     check_written,
     check_prepared,
+    check_joining,
     check_vectors,
     check_classical,
     check_identities,
