@@ -20,6 +20,8 @@ import check_refusals
 import check_texts
 import check_vectors
 import check_written
+import check_wrong_join_tests
+import check_wrong_join_values
 import check_wrong_reasons
 import check_wrong_variants
 from splitmix import WORD, SplitMix64
@@ -34,6 +36,8 @@ PARTS = (
     check_written,
     check_prepared,
     check_joining,
+    check_wrong_join_tests,
+    check_wrong_join_values,
     check_vectors,
     check_classical,
     check_identities,
