@@ -14,11 +14,14 @@ import sys
 import check_classical
 import check_figures
 import check_identities
+import check_joining
 import check_prepared
 import check_refusals
 import check_texts
 import check_vectors
 import check_written
+import check_wrong_join_tests
+import check_wrong_join_values
 import check_wrong_reasons
 import check_wrong_variants
 from splitmix import WORD, SplitMix64
@@ -32,6 +35,9 @@ PARTS = (
     check_texts,
     check_written,
     check_prepared,
+    check_joining,
+    check_wrong_join_tests,
+    check_wrong_join_values,
     check_vectors,
     check_classical,
     check_identities,

@@ -9,9 +9,11 @@ import os
 
 import cases
 import check_texts
+import joining_cases
 import prepared_cases
 import second_ways
 import written_cases
+from joining import number_of
 
 KIND = "answers met"
 DIRECTORY = os.path.join(os.path.dirname(os.path.abspath(__file__)), os.pardir, "vectors")
@@ -24,12 +26,15 @@ CHANGES = {
 }
 
 
+def file_lines(name):
+    """The lines of a file of vectors."""
+    with open(os.path.join(DIRECTORY, name), encoding="ascii") as file:
+        return file.read().splitlines()
+
+
 def lines_of(name):
     """Each line of IN with the answer of its line of OUT."""
-    lists = []
-    for ending in (".in", ".out"):
-        with open(os.path.join(DIRECTORY, name + ending), encoding="ascii") as file:
-            lists.append(file.read().splitlines())
+    lists = (file_lines(name + ending) for ending in (".in", ".out"))
     return [(given, int(left.split()[0])) for given, left in zip(*lists, strict=True)]
 
 
@@ -84,13 +89,20 @@ def of_steps():
     return with_finished(CHANGES | operations) | made
 
 
+def of_joining():
+    """The answers of join and of expand and join, which are the calls 1 and 2 of their file."""
+    tests = joining_cases.TESTS.values()
+    return with_finished({str(call): map(number_of, names) for call, names in enumerate(tests, 1)})
+
+
 def check(tally, _source):
-    """The four pairs of files; the random source is not used."""
+    """The five pairs of files; the random source is not used."""
     for name, expected, met in (
         ("calls", of_calls(), met_by_first_word("calls")),
         ("texts", of_texts(), met_by_text()),
         ("written", of_writing(), met_by_first_word("written")),
         ("prepared", of_steps(), met_by_first_word("prepared")),
+        ("joined", of_joining(), met_by_first_word("joined")),
     ):
         for pair in sorted(expected | met, key=repr):
             tally.equal(KIND, (name, *pair), pair in expected, pair in met)
