@@ -4,19 +4,23 @@
 use mathlib.Core.List.{List, _++_}
 use Prim.Native.Nat.{ℕ, _<_}
 use native.Mathlib.Omega.{arith}
+use lib.IntN.{ℤ}
 use borrow.Author.Needs.{needs}
 use Rattle.definitions.specs.Family.{Family, Row}
 use Rattle.definitions.specs.Prepared.{Prepared, recordTest, noRowsTest, absentRowTest, rowTests}
 use Rattle.definitions.specs.Prepared.{emptyTests, appendTests, dropTests, replaceTests}
 use Rattle.definitions.specs.PreparedCalls.{preparedPlainTests, preparedTreeTests, preparedNormsTests, preparedMomentsTests}
 use Rattle.definitions.specs.Refusals.{Test, modulusTest, rowCountTest, curveLengthTest, outputTest, workTest, curveEntriesTest}
-use Rattle.definitions.specs.Refusals.{numberTest, numberInverseTest}
+use Rattle.definitions.specs.Refusals.{numberTest, numberInverseTest, equalLengthsTest, aZeroTest, aInverseTest, cZeroTest, cInverseTest}
 use Rattle.definitions.specs.Refusals.{familyShape, familyRows, valueTests, plainTests, treeTests, momentsTests, normsTests, inverseTests}
 use Rattle.definitions.specs.Text.{WrittenJob, meant}
 use Rattle.definitions.specs.Reading.{Read, found, malformed, readJob}
 use Rattle.definitions.specs.TextCall.{textLengthTest, sizeTests, lengthTests, jobTests, formTests, textTests}
 use Rattle.definitions.specs.JobWriting.{writingTests}
 use Rattle.definitions.specs.declared.Operation.{Operation}
+use Rattle.joining.specs.Calls as Calls
+use Rattle.joining.specs.Calls.{sharedFactorTest, remaindersTest, moduliTests, listTests, joinTests, aTests, cTests, bothRows, expandJoinTests}
+use Rattle.joining.specs.Expanding.{Signed, reduced}
 use Rattle.acceptance.specs.Given.{Given, given-append, shape-given, rows-given, values-given, lengths-given}
 use Rattle.zahupnik.specs.Returned.{chosenTests}
 use Rattle.zahupnik.specs.declared.Choice.{Choice}
@@ -122,3 +126,26 @@ module _ (p : Prepared) where
   pub prepared-moments-positive : (output work : ℕ) → Positive (preparedMomentsTests p output work)
   unfolding preparedMomentsTests recordTest outputTest workTest
   prepared-moments-positive output work = search needs
+
+-- ---- two channels
+moduli-positive : (m m′ : ℕ) → Positive (moduliTests m m′)
+unfolding moduliTests modulusTest sharedFactorTest
+moduli-positive m m′ = search needs
+
+pub join-positive : (m m′ : ℕ) (xs ys : List ℕ) (output : ℕ) → Positive (joinTests m m′ xs ys output)
+unfolding joinTests listTests remaindersTest outputTest curveEntriesTest
+join-positive m m′ xs ys output = given-append _ (moduliTests m m′) (listTests m m′ xs ys output) (moduli-positive m m′) (search needs)
+
+sizes-positive : (a b c u output : ℕ) → Positive (Calls.sizeTests a b c u output)
+unfolding Calls.sizeTests equalLengthsTest rowCountTest curveLengthTest outputTest
+sizes-positive a b c u output = search needs
+
+both-positive : (f f′ : Family) → Positive (bothRows f f′)
+unfolding bothRows aTests cTests aZeroTest aInverseTest cZeroTest cInverseTest
+both-positive f f′ = search needs
+
+pub expand-join-positive : (m m′ : ℕ) (s : Signed) (u : List ℤ) (output : ℕ) → Positive (expandJoinTests m m′ s u output)
+unfolding expandJoinTests
+expand-join-positive m m′ s u output =
+    given-append _ (moduliTests m m′) _ (moduli-positive m m′)
+    (given-append _ (Calls.sizeTests _ _ _ _ output) _ (sizes-positive _ _ _ _ output) (both-positive (reduced m s) (reduced m′ s)))

@@ -1,6 +1,6 @@
 -- From the answer of a public call to what its exported function returns and leaves.
 -- Proved: the number of a verdict says what the verdict does, where no test has the number 0 (returned-is); so a call that writes a list
--- keeps its promise when its answer is turned into a number, with a working list or without, and so do a change of a record, Inverse, whether
+-- keeps its promise when its answer is turned into a number, with a working list or without, and so do a call that writes whole numbers, a change of a record, Inverse, whether
 -- it finishes, finds no inverse or refuses before that, the text call, and the call that writes a job, whether its number names an operation
 -- or not. Assumes nothing.
 use mathlib.Core.Path.{_≡_, refl, sym, _∙_, ap, subst}
@@ -9,6 +9,7 @@ use mathlib.Core.List.{List, [], _∷_, _++_}
 use Prim.Native.Nat.{ℕ, zero, suc, _<_, _≤_}
 use native.Mathlib.Omega.{arith}
 use lib.Dec.{eqb}
+use lib.IntN.{ℤ}
 use lib.ListN.{length, drop}
 use Rattle.definitions.specs.Answers.{valued, inverseAnswered, inverseHanded, factorHanded, after, cleared, Converted, ConvertedIn, InverseCall}
 use Rattle.definitions.specs.Number.{greatestFactor}
@@ -20,6 +21,7 @@ use Rattle.definitions.specs.JobWriting.{writingTests, JobWritten}
 use Rattle.definitions.specs.declared.InverseAnswer.{InverseAnswer}
 use Rattle.definitions.specs.declared.Operation.{Operation}
 use Rattle.definitions.specs.declared.Valued.{Valued}
+use Rattle.joining.specs.Calls.{WholesHanded}
 use Rattle.acceptance.specs.Given.{revalued, refused-given}
 use Rattle.acceptance.specs.Verdicts.{refused-not-finished, verdict-next, withValues, verdict-values}
 use Rattle.zahupnik.specs.Returned.{returned, number, operations, choiceOf, choice, chosenTests, chosenText, JobReturned}
@@ -56,6 +58,12 @@ module _ (tests : List Test) (positive : Positive tests) where
       → ConvertedIn tests result (returned k) output output′ work work′
   list-returned-in {result} {output} {output′} {work} {work′} v k made e =
       subst (λ w. ConvertedIn tests result w output output′ work work′) (sym (returned-is v (made .answer) k e)) made
+
+  -- a call that writes whole numbers
+  pub wholes-returned : {result output output′ : List ℤ} (v : Verdict) (k : ℕ) → WholesHanded tests result v output output′
+      → k ≡ number v → WholesHanded tests result (returned k) output output′
+  wholes-returned {result} {output} {output′} v k made e =
+      subst (λ w. WholesHanded tests result w output output′) (sym (returned-is v (made .answer) k e)) made
 
   -- a change
   pub change-returned : {new old out out′ : Prepared} (v : Verdict) (k : ℕ) → Changed tests new old v out → k ≡ number v → out′ ≡ out

@@ -7,6 +7,8 @@ ghost use Rattle.definitions.specs.Conversion.{expand, adjoint, decompose};
 ghost use Rattle.definitions.specs.Family.{family, rowOf};
 ghost use Rattle.definitions.specs.Prepared.{EmptyCall, AppendCall, DropCall, ReplaceCall};
 ghost use Rattle.definitions.specs.PreparedCalls.{PreparedPlainCall, PreparedTreeCall, PreparedNormsCall, PreparedMomentsCall};
+ghost use Rattle.joining.specs.Calls.{JoinCall, ExpandJoinCall};
+ghost use Rattle.joining.specs.Expanding.{signed};
 ghost use Rattle.prepared.specs.Held.{held};
 ghost use Rattle.zahupnik.specs.Returned.{returned, number, TextReturned, choice, jobFor, JobReturned};
 use definitions::Answer;
@@ -401,4 +403,35 @@ pub extern "C" fn zahupnik_prepared_moments(
         (now (output .entry)) (now (output .exit)) (now (work .entry)) (now (work .exit)) ⌝ }
 {
     number(prepared_tree::moments(family, output, work))
+}
+
+// Join. Refused as join_calls::join is.
+#[no_mangle]
+pub extern "C" fn zahupnik_join(
+    m1: u32,
+    m2: u32,
+    first: &[u32],
+    second: &[u32],
+    output: &mut [i64],
+) -> u32
+    ensures { λ r. ⌜ JoinCall m1 m2 (now (first .entry)) (now (second .entry)) (returned r) (now (output .entry)) (now (output .exit)) ⌝ }
+{
+    number(join_calls::join(m1, m2, first, second, output))
+}
+
+// Expand and join. Refused as expand_join::expand_join is.
+#[no_mangle]
+pub extern "C" fn zahupnik_expand_join(
+    m1: u32,
+    m2: u32,
+    a: &[i32],
+    b: &[i32],
+    c: &[i32],
+    curve: &[i32],
+    output: &mut [i64],
+) -> u32
+    ensures { λ r. ⌜ ExpandJoinCall m1 m2 (signed (now (a .entry)) (now (b .entry)) (now (c .entry))) (now (curve .entry)) (returned r)
+        (now (output .entry)) (now (output .exit)) ⌝ }
+{
+    number(expand_join::expand_join(m1, m2, a, b, c, curve, output))
 }
