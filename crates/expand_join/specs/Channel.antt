@@ -24,7 +24,7 @@ use Rattle.joining.specs.Expanding.{Signed, signed, reducedList, reduced, reduc
 use Rattle.joining.specs.Calls.{moduliTests, sizeTests, bothRows, expandJoinTests}
 use Rattle.wholes.specs.Accepting.{ExpandJoinInput, expand-join-passes}
 use Rattle.wholes.specs.Expanding.{reduced-expand-length, reduced-expand-below}
-use Rattle.wholes.specs.Reduction.{remainder-lt}
+use Rattle.wholes.specs.Reduction.{remainders-below}
 use Rattle.join.specs.Joining.{Paired, Remainders}
 use Rattle.join_calls.specs.Pairs.{pair-none}
 use Rattle.expand_join.specs.Input.{ChannelInput}
@@ -40,14 +40,9 @@ module _ (m : ℕ) (p : 0 < m) (xs : List ℤ) (rest list : List ℕ) (e : list 
     below = below;
   }
     where
-      entry-below : (ys : List ℤ) (i : ℕ) → i < length ys → getD (reducedList m ys) i 0 < m
-      entry-below [] i h = absurd (omega arith)
-      entry-below (y ∷ ys) zero h = remainder-lt m p y
-      entry-below (y ∷ ys) (suc i) h = entry-below ys i (omega arith)
-
       below : (i : ℕ) → i < k → getD list i 0 < m
       below i h =
-          rw (e, List·getD-append (reducedList m xs) rest 0 i (omega (arith, length-map xs (remainder m)))) (entry-below xs i (omega arith))
+          rw (e, List·getD-append (reducedList m xs) rest 0 i (omega (arith, length-map xs (remainder m)))) (remainders-below m p xs i 0 p)
 
 -- ---- one channel
 module _ (m : ℕ) (a b c u : List ℤ) (l : ℕ) (s : ChannelInput m a b c u l) where

@@ -54,7 +54,10 @@ fn join_value(m: u32, n: u32, k: u32, big: u64, reciprocal: u64, x: u32, y: u32)
 {
     let gap = (y as u64) + (big - (x as u64));
     let times = reduction::remainder(n, reciprocal, gap * (k as u64));
-    balance((m as u64) * (n as u64), (x as u64) + (m as u64) * (times as u64))
+    balance(
+        (m as u64) * (n as u64),
+        (x as u64) + (m as u64) * (times as u64),
+    )
 }
 
 // The joined values of the first entries of two lists, as many as the output has places.

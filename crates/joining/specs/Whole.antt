@@ -28,8 +28,8 @@ unfoldable pub joinedUpTo : ℕ → ℕ → ℕ → ℕ → ℕ → ℤ
 joinedUpTo m m′ x y zero = pos 0
 joinedUpTo m m′ x y (suc k) =
     elim (joins m m′ x y (pos (suc k))) [
-      true ↦ pos (suc k)
-    | false ↦ elim (joins m m′ x y (negsuc k)) [ true ↦ negsuc k | false ↦ joinedUpTo m m′ x y k ]
+      | true ↦ pos (suc k)
+      | false ↦ elim (joins m m′ x y (negsuc k)) [ true ↦ negsuc k | false ↦ joinedUpTo m m′ x y k ]
     ]
 
 -- what is in the range of m m′ is in size at most m m′

@@ -28,7 +28,7 @@ use Rattle.joining.specs.Expanding.{Signed, reducedList, reduced}
 use Rattle.joining.specs.Calls.{sharedFactorTest, remaindersTest, moduliTests, listTests, joinTests, aTests, cTests, sizeTests, bothRows}
 use Rattle.joining.specs.Calls.{expandJoinTests}
 use Rattle.wholes.specs.Expanding.{reduced-size}
-use Rattle.wholes.specs.Reduction.{remainder-lt}
+use Rattle.wholes.specs.Reduction.{remainders-below}
 
 pub record Apart (m m′ : ℕ) : Type 0 where
   pub modulus : Modulus m
@@ -116,14 +116,13 @@ module _ (m : ℕ) (s : Signed) where
   length-same : (xs : List ℤ) → length (reducedList m xs) ≡ length (reducedList m (s .a)) → length xs ≡ length (s .a)
   length-same xs e = sym (length-map xs (remainder m)) ∙ e ∙ length-map (s .a) (remainder m)
 
-  entry-below : 2 ≤ m → (xs : List ℤ) (i : ℕ) → getD (reducedList m xs) i 1 < m
-  entry-below two [] i = omega arith
-  entry-below two (x ∷ xs) zero = remainder-lt m (omega arith) x
-  entry-below two (x ∷ xs) (suc i) = entry-below two xs i
-
   reduced-below : 2 ≤ m → (i : ℕ) → RowBelow m (rowAt (reduced m s) i)
   unfolding rowAt
-  reduced-below two i = record { aBelow = entry-below two (s .a) i; bBelow = entry-below two (s .b) i; cBelow = entry-below two (s .c) i }
+  reduced-below two i = record {
+    aBelow = remainders-below m (omega arith) (s .a) i 1 two;
+    bBelow = remainders-below m (omega arith) (s .b) i 1 two;
+    cBelow = remainders-below m (omega arith) (s .c) i 1 two;
+  }
 
   module _ (modulus : Modulus m) where
     some : 0 < m

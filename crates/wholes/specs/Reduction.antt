@@ -3,12 +3,13 @@
 --   reduction m p   the map of rings that takes z to it
 -- Proved: a remainder is below its modulus, has the residue of its number, and is the one number that does (remainder-is); two numbers that
 -- differ by a multiple of m leave the same (remainder-apart). Assumes nothing.
-use mathlib.Core.List.{[], _∷_}
+use mathlib.Core.List.{List, [], _∷_, map}
 use mathlib.Core.Path.{_≡_, refl, sym, _∙_, ap, ap₂}
 use Prim.Native.Nat.{ℕ, zero, suc, _+_, _*_, _-_, _%_, _<_, _≤_}
 use native.Mathlib.Nat.{mod-lt, zero-mod}
 use native.Mathlib.Omega.{arith}
 use lib.IntN.{ℤ, pos, negsuc, _+ℤ_, _*ℤ_}
+use lib.ListN.{getD}
 use Rattle.algebra.specs.Map.{RingMap}
 use Rattle.algebra.specs.Residues.{Zmod, res, res-zero, res-one, res-add, res-mul, res-mod, res-neg, res-of-mod, mod-of-res, res-injective}
 use Rattle.algebra.specs.Ring.{CommRing}
@@ -21,6 +22,12 @@ pub remainder-lt : (m : ℕ) → 0 < m → (z : ℤ) → remainder m z < m
 unfolding remainder
 remainder-lt m p (pos n) = mod-lt n p
 remainder-lt m p (negsuc n) = mod-lt (negative m (suc n)) p
+
+-- an entry of a list of remainders, where what is read past its end is below m too
+pub remainders-below : (m : ℕ) → 0 < m → (xs : List ℤ) (i d : ℕ) → d < m → getD (map (remainder m) xs) i d < m
+remainders-below m p [] i d h = h
+remainders-below m p (x ∷ xs) zero d h = remainder-lt m p x
+remainders-below m p (x ∷ xs) (suc i) d h = remainders-below m p xs i d h
 
 module _ (m : ℕ) (p : 0 < m) where
   abbrev R : CommRing

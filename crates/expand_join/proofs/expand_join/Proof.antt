@@ -58,9 +58,9 @@ join-lists-requires c κs =
     let pair = answer-pair _ _ (paired k .moduli .ensures) (k .k2 .given .1) in (
       pair,
       both-held _ _ _ pair (lent .a .now) (lent .b .now) (lent .c .now) (lent .curve .now) _ (tested told .tests .result)
-      (tested told .tests .ensures) (told .enum-told .given .1) _ _ (drop (length (lent .curve .now)) (first .before .before .before .zeros .result))
-      (drop (length (lent .curve .now)) (first .before .before .zeros2 .result)) (first .expand-channel .ensures)
-      (second .expand-channel2 .ensures),
+          (tested told .tests .ensures) (told .enum-told .given .1) _ _ (drop (length (lent .curve .now)) (first .before .before .before .zeros .result))
+          (drop (length (lent .curve .now)) (first .before .before .zeros2 .result)) (first .expand-channel .ensures)
+          (second .expand-channel2 .ensures),
     )
 
 returns-2 : tie.Need-returns-2
