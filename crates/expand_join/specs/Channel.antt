@@ -2,16 +2,16 @@
 -- Proved: what the core asks and writes where its lists begin with remainders (channel-input, channel-result); what joining asks of two outputs that
 -- begin with expanded curves, and what it writes (both-held, both-joined); what each channel asks, from the call's tests (channel-asked).
 -- Assumes nothing.
-use mathlib.Core.List.{List, [], _∷_, _++_}
+use mathlib.Core.List.{List, [], _++_}
 use mathlib.Core.Path.{_≡_, refl, sym, _∙_, ap, ap₂}
-use Prim.Native.Nat.{ℕ, zero, suc, _-_, _<_, _≤_}
+use Prim.Native.Nat.{ℕ, suc, _-_, _<_, _≤_}
 use native.Mathlib.Omega.{arith}
 use lib.IntN.{ℤ}
 use lib.ListN.{length, getD, take, drop, replicate, length-append, length-map, length-replicate, List·getD-append}
 use lib.Seq.{take-at}
 use Rattle.definitions.specs.Answers.{answered}
 use Rattle.definitions.specs.Conversion.{expand}
-use Rattle.definitions.specs.Family.{Family, Row, Modulus, family, ones}
+use Rattle.definitions.specs.Family.{Modulus, family, ones}
 use Rattle.definitions.specs.Refusals.{verdict}
 use Rattle.definitions.specs.declared.Answer.{Answer}
 use Rattle.acceptance.specs.Stages.{stage-none}

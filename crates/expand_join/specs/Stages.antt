@@ -3,7 +3,7 @@
 -- (first-a-refuses and those after it); where 4 to 7 pass, the lists are sized as the rows' tests ask (sizes-pass). Assumes nothing.
 use mathlib.Core.List.{List, [], _∷_, _++_}
 use mathlib.Core.Path.{_≡_, sym, _∙_, ap}
-use Prim.Native.Nat.{ℕ, suc, _≤_}
+use Prim.Native.Nat.{ℕ}
 use lib.IntN.{ℤ}
 use lib.ListN.{length}
 use Rattle.definitions.specs.Answers.{answered}
@@ -13,7 +13,7 @@ use Rattle.definitions.specs.declared.Answer.{Answer}
 use Rattle.acceptance.specs.Stages.{Remaining, all-remain, stage-none, stage-refuses, stage-passes, stages-end}
 use Rattle.acceptance.specs.Verdicts.{verdict-next, modulus-passes, equal-lengths-pass, row-count-passes}
 use Rattle.checks.specs.Columns.{columnTests}
-use Rattle.joining.specs.Expanding.{Signed, signed, reducedList, reduced}
+use Rattle.joining.specs.Expanding.{signed, reducedList, reduced}
 use Rattle.joining.specs.Calls.{aTests, cTests, bothRows, sizeTests}
 use Rattle.expand_join.specs.Input.{Sized}
 use Rattle.expand_join.specs.Rows.{a-column, c-column}

@@ -2,7 +2,7 @@
 --   Reducing   a pass over a list in progress: the first i places are reduced, and the others are as they were
 -- Proved: what -1 - x is for x below 0, and that the remainder is found from it; how a pass begins, goes on and ends. Assumes nothing.
 use mathlib.Core.Bool.{true, false, true≢false}
-use mathlib.Core.List.{List, [], _∷_, _++_, append-assoc, map}
+use mathlib.Core.List.{List, [], _∷_, _++_, append-assoc}
 use mathlib.Core.Path.{_≡_, refl, sym, _∙_, ap}
 use Prim.Native.Nat.{ℕ, suc, _+_, _*_, _-_, _/_, _%_, _≤_, _<_}
 use native.Mathlib.Nat.{mod-lt, mod-eq-of-lt, mod-add-div, mul-mod-right, mul-suc}

@@ -3,7 +3,7 @@
 -- call has finished. Of Join: where its tests pass, its lists are as joining asks. Assumes nothing.
 use mathlib.Core.List.{List, [], _∷_, _++_}
 use mathlib.Core.Path.{_≡_, refl, sym, _∙_, ap, ap₂}
-use Prim.Native.Nat.{ℕ, _<_}
+use Prim.Native.Nat.{ℕ}
 use native.Mathlib.Omega.{arith}
 use lib.IntN.{ℤ}
 use lib.ListN.{length, take}
@@ -11,7 +11,7 @@ use lib.Seq.{take-all}
 use Rattle.definitions.specs.Answers.{answered}
 use Rattle.definitions.specs.Refusals.{Test, finished, refused, verdict, outputTest, curveEntriesTest}
 use Rattle.definitions.specs.declared.Answer.{Answer}
-use Rattle.acceptance.specs.Stages.{Remaining, all-remain, none-remain, stage-none, stage-refuses, stages-end}
+use Rattle.acceptance.specs.Stages.{Remaining, all-remain, none-remain, stage-none, stages-end}
 use Rattle.acceptance.specs.Verdicts.{none-append, verdict-stops}
 use Rattle.checks.specs.Settling.{refuses}
 use Rattle.joining.specs.Whole.{joinedList}

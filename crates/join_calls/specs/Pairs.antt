@@ -1,9 +1,9 @@
 -- The tests 3, 3 and 19 of two moduli.
 --   PairAnswer m m′ r   what the answer r says: the inverse of m modulo m′, or the refusal that the tests give
 -- Proved: it, from the answers of the two checks and of Euclid's algorithm; where there is the inverse, no test holds. Assumes nothing.
-use mathlib.Core.List.{List, [], _∷_, _++_}
+use mathlib.Core.List.{[], _∷_}
 use mathlib.Core.Path.{_≡_, _∙_, subst}
-use Prim.Native.Nat.{ℕ, _<_}
+use Prim.Native.Nat.{ℕ}
 use native.Mathlib.Omega.{arith}
 use Rattle.definitions.specs.Answers.{answered}
 use Rattle.definitions.specs.Family.{Modulus}

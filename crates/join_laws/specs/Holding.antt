@@ -2,7 +2,7 @@
 -- Assumes nothing.
 use mathlib.Core.Bool.{true}
 use mathlib.Core.List.{List, []}
-use mathlib.Core.Path.{_≡_, refl, sym, _∙_, ap, ap₂, subst}
+use mathlib.Core.Path.{_≡_, sym, _∙_, ap, ap₂, subst}
 use Prim.Native.Nat.{ℕ, suc, _*_, _<_, _≤_}
 use native.Mathlib.Omega.{arith}
 use lib.IntN.{ℤ, pos}
@@ -16,7 +16,7 @@ use Rattle.acceptance.specs.Acceptance.{plain-finished}
 use Rattle.acceptance.specs.Verdicts.{refused-not-finished}
 use Rattle.numbers.specs.Lists.{Each}
 use Rattle.joining.specs.Whole.{remainder, inRange, joined, joinedList}
-use Rattle.joining.specs.Expanding.{Signed, coefficient, wholeExpand, reducedList, reduced, reducedExpand}
+use Rattle.joining.specs.Expanding.{Signed, coefficient, reducedList, reduced, reducedExpand}
 use Rattle.joining.specs.Calls.{wholesAfter, JoinCall, ExpandJoinCall}
 use Rattle.wholes.specs.Accepting.{Apart, JoinInput, ExpandJoinInput, join-finished, expand-join-finished}
 use Rattle.wholes.specs.Expanding.{coefficient-remainder, reduced-expand-length, reduced-expand-below, whole-reduced, joined-true}
@@ -24,7 +24,7 @@ use Rattle.wholes.specs.Joined.{joined-exact}
 use Rattle.wholes.specs.Reduction.{remainders-below}
 use Rattle.wholes.specs.Lists.{joined-list-entry, joined-list-range, joined-list-first, joined-list-second}
 use Rattle.join_laws.specs.Laws.{JoinHolds, JoinLaw, ExpandJoinHolds, ExpandJoinLaw}
-use Rattle.join_laws.specs.Laws.{Lists, lists, remainders, ChannelsInput, ChannelsHold, ChannelsLaw}
+use Rattle.join_laws.specs.Laws.{Lists, remainders, ChannelsInput, ChannelsHold, ChannelsLaw}
 
 -- ---- two moduli and two lists of remainders below them
 module _ (m m′ : ℕ) (apart : Apart m m′) (xs ys : List ℕ) (same : length ys ≡ length xs)

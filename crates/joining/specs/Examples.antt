@@ -1,10 +1,9 @@
 -- The definitions of two channels, computed.
---   remainders-of            remainders of whole numbers on both sides of zero, and of the least and the greatest of 32 bits
---   ranges                   which numbers are in the range of 6 and of 35
+--   remainders-of, ranges    remainders on both sides of zero and of the ends of 32 bits; which numbers are in the range of 6 and of 35
 --   all-of-six, ends-of-35   the joined values modulo 2 and 3, all six, and modulo 3 and 2; the ends of the range modulo 5 and 7
 --   hermite, laguerre        H_4 and 3! L_3 as published: the true coefficients, and the same joined modulo 11 and 13
 --   past-range               H_4 modulo 5 and 7, whose range is too small for it: the joined value differs by a multiple of 35
---   sum-of-curve             a curve of all entries, with the least number of 32 bits among them
+--   least-numbers            true coefficients of a curve with the least number of 32 bits, and of rows with it
 --   mended, joinMended       inputs whose faults are all from the first 3 on, then from the second on, and so on to none
 -- expand-join-order, join-order: the number that each input gives. So no test of a call is left out, none stands before an earlier one, and
 -- each condition holds where it must; but two tests with one number, as 12 and 12, look alike from outside.
@@ -14,7 +13,7 @@ use mathlib.Core.Bool.{true, false}
 use mathlib.Core.List.{List, [], _∷_, map}
 use mathlib.Core.Path.{_≡_, refl}
 use Prim.Native.Nat.{ℕ}
-use lib.IntN.{ℤ, pos, negsuc, negℤ}
+use lib.IntN.{ℤ, pos, negℤ}
 use lib.ListN.{length, replicate}
 use Rattle.definitions.specs.Figures.{handed}
 use Rattle.definitions.specs.Number.{divides, factorUpTo, greatestFactor}
@@ -107,6 +106,12 @@ laguerre-joined = refl
 past-range : bothJoined 5 7 hermiteRows fourth ≡ pos 12 ∷ pos 0 ∷ minus 13 ∷ pos 0 ∷ pos 16 ∷ []
 unfolding expandJoinOutcome
 past-range = refl
+
+-- one row -2147483648 1 0, closed by nothing that shows
+least-numbers : wholeExpand (signed (minus 2147483648 ∷ []) (pos 1 ∷ []) (pos 0 ∷ [])) (minus 2147483648 ∷ minus 2147483648 ∷ [])
+    ≡ minus 4294967296 ∷ pos 4611686018427387904 ∷ []
+unfolding expandJoinOutcome
+least-numbers = refl
 
 -- ---- the order of the tests
 abbrev number : Verdict → ℕ

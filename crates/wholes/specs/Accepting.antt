@@ -5,15 +5,15 @@
 -- 19 is not given if and only if there is that inverse (apart-passes), which is so in either order of the moduli (apart-swaps).
 -- Assumes nothing.
 use mathlib.Core.Bool.{false}
-use mathlib.Core.List.{List, [], _∷_, _++_}
+use mathlib.Core.List.{List, []}
 use mathlib.Core.Logic.{_↔_, Iff·trans}
-use mathlib.Core.Path.{_≡_, sym, _∙_, ap, subst}
-use Prim.Native.Nat.{ℕ, zero, suc, _<_, _≤_}
+use mathlib.Core.Path.{_≡_, sym, _∙_}
+use Prim.Native.Nat.{ℕ, suc, _<_, _≤_}
 use native.Mathlib.Nat.{one-dvd}
 use native.Mathlib.Omega.{arith}
 use borrow.Author.Tests.{ltb-false, le-ltb}
 use lib.IntN.{ℤ}
-use lib.ListN.{length, getD, length-map}
+use lib.ListN.{length, length-map}
 use Rattle.definitions.specs.Family.{Modulus, Accepted, RowBelow, mostRows, firstC, rowAt, size}
 use Rattle.definitions.specs.Number.{HasInverse, greatestFactor}
 use Rattle.definitions.specs.Refusals.{finished, verdict}
@@ -27,7 +27,6 @@ use Rattle.joining.specs.Whole.{remainder}
 use Rattle.joining.specs.Expanding.{Signed, reducedList, reduced}
 use Rattle.joining.specs.Calls.{sharedFactorTest, remaindersTest, moduliTests, listTests, joinTests, aTests, cTests, sizeTests, bothRows}
 use Rattle.joining.specs.Calls.{expandJoinTests}
-use Rattle.wholes.specs.Expanding.{reduced-size}
 use Rattle.wholes.specs.Reduction.{remainders-below}
 
 pub record Apart (m m′ : ℕ) : Type 0 where

@@ -16,8 +16,7 @@ use Rattle.algebra.specs.Residues.{Zmod, res, res-injective}
 use Rattle.algebra.specs.Ring.{CommRing}
 use Rattle.algebra.specs.Sum.{sum}
 use Rattle.algebra.specs.Variable.{shift}
-use Rattle.definitions.specs.Conversion.{expand}
-use Rattle.definitions.specs.Family.{Family, size, rowAt}
+use Rattle.definitions.specs.Family.{size, rowAt}
 use Rattle.definitions.specs.Number.{HasInverse, table}
 use Rattle.numbers.specs.Lists.{getD-default, table-length, table-entry}
 use Rattle.theory.specs.Bridge.{entries, rowsOf, entries-expand, expand-curve}

@@ -5,19 +5,18 @@
 --   lift m m′ k big x y      the number below m m′ that leaves x modulo m and y modulo m′
 -- Proved, for moduli without a common factor and remainders below them: joined-joins, the joined value is in the range and leaves both;
 -- joined-only, no other whole number does; joined-exact, a whole number in the range is joined from its own remainders; joined-lift, it is
--- the balanced lift; joined-size, it is less than half of m m′ and one in size, and so fits 64 bits with a sign (joined-fits).
+-- the balanced lift. What is in the range of two moduli of 31 bits fits 64 bits with a sign (range-fits).
 -- Assumes nothing.
-use mathlib.Core.Bool.{Bool, true, false, _&&_, true≢false}
+use mathlib.Core.Bool.{Bool, true, false, true≢false}
 use mathlib.Core.List.{[], _∷_}
 use mathlib.Core.Logic.{_↔_, Iff·trans}
 use mathlib.Core.Path.{_≡_, refl, sym, _∙_, ap, subst}
 use Prim.Native.Nat.{ℕ, zero, suc, _+_, _*_, _-_, _/_, _%_, _≤_, _<_, _^_}
-use native.Mathlib.Decide.{decLt}
 use native.Mathlib.Nat.{mod-lt, mod-eq-of-lt, mod-add-div, add-mul-mod-self-left, mul-comm, mul-le-mul, mul-le-mul-left, mul-mod-right, mul-mod-left}
 use native.Mathlib.Nat.{div-lt-iff-lt-mul, zero-mod}
 use native.Mathlib.Omega.{arith}
 use borrow.Author.Tests.{eqb-true, eq-eqb, ltb-true, ltb-false, lt-ltb, le-ltb}
-use lib.Dec.{eqb, ltb}
+use lib.Dec.{ltb}
 use lib.IntN.{ℤ, pos, negsuc, negℤ, _*ℤ_}
 use lib.Signed.{mag}
 use Rattle.algebra.specs.Residues.{Zmod, res, res-zero, res-one, res-add, res-mul, res-mod, res-of-mod, mod-of-res, res-injective}
@@ -183,13 +182,7 @@ module _ (m m′ k big : ℕ) (c : Whole m m′ k big) where
   unfolding times
   times-lt x y = mod-lt _ (c .some′)
 
-  pub product-some : 0 < m * m′
-  product-some = let h : m * 1 ≤ m * m′ = mul-le-mul-left m (c .some′) in let p : 0 < m = c .some in omega arith
-
   module _ (x y : ℕ) (l : x < m) where
-    abbrev below : x < big
-    below = omega (arith, c .above)
-
     res-gap : ι (big - x) ⊕ ι x ≡ 𝟘
     res-gap = sym (res-add m′ (c .some′) (big - x) x) ∙ ap (res m′ (c .some′)) (omega (arith, c .above)) ∙ none
 
