@@ -1,11 +1,11 @@
 /* Zahupnik: conversion between orthogonal bases and powers of x, modulo m.
  *
- * m need not be prime. All numbers are whole, and results are remainders from 0 to m - 1. A family has r rows, and row i
- * (i = 1 to r) is a_i, b_i, c_i, at index i - 1 of the lists a, b and c. Its polynomials are F_{-1} = 0, F_0 = 1 and
- * F_i = (a_i x + b_i) F_{i-1} + c_i F_{i-2}. n is r + 1 throughout. Lists have the lowest index or power first.
+ * m need not be prime. All numbers are whole, and results are remainders from 0 to m - 1, but those of zahupnik_join and
+ * zahupnik_expand_join, which have a sign. A family has r rows, and row i (i = 1 to r) is a_i, b_i, c_i, at index i - 1 of the lists a, b
+ * and c. Its polynomials are F_{-1} = 0, F_0 = 1 and F_i = (a_i x + b_i) F_{i-1} + c_i F_{i-2}. n is r + 1 throughout. Lists have the
+ * lowest index or power first.
  * c_1 multiplies F_{-1} = 0 only: it may be any number below m, 0 too, as in Legendre's recurrence, and no converted list depends on it.
- * Numbers with a sign are in the two functions on two channels alone, zahupnik_join and zahupnik_expand_join; modulo m such a number
- * leaves a remainder from 0 to m - 1 too, from which it differs by a multiple of m: -1 leaves m - 1.
+ * A number with a sign leaves a remainder from 0 to m - 1 too, from which it differs by a multiple of m: -1 leaves m - 1.
  *
  * What a function returns: ZAHUPNIK_FINISHED, and then the result that its comment states is written; or the number of a
  * refusal, and then nothing is written, so that the output is what it was: look at the number before you use the output. Only
@@ -13,11 +13,12 @@
  * record. A function tests all that it is lent, so no number and no length is asked of the caller. Its comment lists the refusals
  * that it tests, in this order, each over all rows or entries before the next; the first that is the case is returned. 17 and 10 look
  * at one row: where some a have no inverse modulo m, the lowest row of these decides, 17 if its a is zero, a fault of the family, and 10
- * if it is not and so shares a factor with m, which another m may mend. Likewise 18 and 11 for the c from row 2 on.
+ * if it is not and so shares a factor with m, which another m may mend. Likewise 18 and 11 for the c from row 2 on. zahupnik_expand_join
+ * looks at remainders: there 17 and 18 say that the number leaves zero, and if it is not zero itself, another m may mend that too.
  *
- * Which way to take: the plain way is the quicker one at every size that bench/run measures, and the tree way gives the same list. A
- * prepared family saves Norms much of its time, Decompose and Moments of many rows a little, and costs Expand, Adjoint and families of few
- * rows some, since its test looks at the whole record (docs/PERFORMANCE.md).
+ * Which way to take: the plain way is the quicker one at every size that bench/run measures, and the tree way gives the same list;
+ * zahupnik_expand_join goes by the plain way. A prepared family saves Norms much of its time, Decompose and Moments of many rows a little,
+ * and costs Expand, Adjoint and families of few rows some, since its test looks at the whole record (docs/PERFORMANCE.md).
  *
  * A function of the tree way, on a record too, zahupnik_moments, zahupnik_prepared_moments and zahupnik_convert_text are lent a working
  * list besides, of any length from ZAHUPNIK_LEAST_WORK on, and what it holds does not matter. When the function has finished, the first
@@ -59,8 +60,8 @@
  *
  * Build the library with `rt staticlib zahupnik` and link target/staticlib/libzahupnik.a; it is for x86-64 Linux. The functions
  * are proved to do this on every input (crates/zahupnik; that a job that is written is carried out, crates/text_laws; that a record
- * comes back when a row is put back, and that a record answers as the lists do, crates/prepared_laws); that these declarations fit
- * them is tested (tests/library).
+ * comes back when a row is put back, and that a record answers as the lists do, crates/prepared_laws; that joined numbers are the only
+ * ones, and exact in their range, crates/join_laws); that these declarations fit them is tested (tests/library).
  */
 #ifndef ZAHUPNIK_H
 #define ZAHUPNIK_H
@@ -89,7 +90,7 @@ extern "C" {
 #define ZAHUPNIK_FINISHED 0
 #define ZAHUPNIK_TEXT_TOO_LONG 1  /* the job text has more than ZAHUPNIK_MOST_TEXT bytes */
 #define ZAHUPNIK_TEXT_FORM 2      /* the job text is not of the form; or no job text has this operation */
-#define ZAHUPNIK_MODULUS 3        /* m is below 2 or above ZAHUPNIK_GREATEST_MODULUS */
+#define ZAHUPNIK_MODULUS 3        /* m, or m1 or m2, is below 2 or above ZAHUPNIK_GREATEST_MODULUS */
 #define ZAHUPNIK_LENGTHS 4        /* the lists a, b and c are not equally long */
 #define ZAHUPNIK_ROWS 5           /* there are more than ZAHUPNIK_MOST_ROWS rows, or an append would make them */
 #define ZAHUPNIK_CURVE_LENGTH 6   /* the curve, or the list of coefficients, is not n long; or not empty in a job for moments or norms */
@@ -105,8 +106,9 @@ extern "C" {
 #define ZAHUPNIK_RECORD 14        /* the prepared family is not the record of its own rows, or these are not accepted */
 #define ZAHUPNIK_NO_ROWS 15       /* there is no row to drop */
 #define ZAHUPNIK_ABSENT_ROW 16    /* there is no such row to replace */
-#define ZAHUPNIK_A_ZERO 17        /* some a has no inverse modulo m: that of the lowest such row is zero */
-#define ZAHUPNIK_C_ZERO 18        /* some c from row 2 on has no inverse modulo m: that of the lowest such row is zero */
+#define ZAHUPNIK_A_ZERO 17        /* some a has no inverse modulo m: that of the lowest such row is zero; of zahupnik_expand_join, it leaves
+                                   * zero */
+#define ZAHUPNIK_C_ZERO 18        /* some c from row 2 on has no inverse modulo m: that of the lowest such row is zero, or leaves zero */
 #define ZAHUPNIK_SHARED_FACTOR 19 /* m1 and m2 share a factor greater than 1 */
 #define ZAHUPNIK_REMAINDERS 20    /* the two lists of remainders are not equally long */
 
@@ -258,17 +260,19 @@ uint32_t zahupnik_prepared_tree_decompose(struct zahupnik_prepared family, const
 uint32_t zahupnik_prepared_moments(struct zahupnik_prepared family, uint32_t *output, size_t output_length, uint32_t *work,
                                    size_t work_length);
 
-/* Two channels. m1 and m2 are two channel numbers without a common factor. For every two remainders there is exactly one whole number v
- * that leaves the first modulo m1 and the second modulo m2 and has 2 v greater than -(m1 m2) and at most m1 m2: the joined value. Half of
- * m1 m2, where that is even, is joined to itself and not to its negative. It is never below -2305843005992468480 nor above
- * 2305843005992468481. */
+/* Two channels, that is two moduli, m1 and m2, without a common factor. For every two remainders there is exactly one whole number v that
+ * leaves the first modulo m1 and the second modulo m2 and has 2 v greater than -(m1 m2) and at most m1 m2: the joined value. Where m1 m2 is
+ * even, its half is a joined value, and the negative of its half is none. A joined value is never below -2305843005992468480 nor above
+ * 2305843005992468481. Of 3, 12, 17, 10, 18 and 11 the number does not say which of the two it was. Whether 17, 10, 18 or 11 was of m1:
+ * zahupnik_norms on m1 and the remainders of the rows modulo m1 then returns the same number, and otherwise another. */
 
 /* Join: output[i] becomes the joined value of first[i] modulo m1 and second[i] modulo m2. Lengths: first and second the same, any;
  * output the same. Refuses with 3 3 19 20 7 12 12: 3 of m1 and then of m2, 12 of first, all of it, and then of second. */
 uint32_t zahupnik_join(uint32_t m1, uint32_t m2, const uint32_t *first, size_t first_length, const uint32_t *second,
                        size_t second_length, int64_t *output, size_t output_length);
 
-/* Expand and join: rows and curve are whole numbers with a sign, any that the type holds, and each channel takes their remainders.
+/* Expand and join: rows and curve are whole numbers with a sign, any that the type holds, and each channel takes their remainders; c_1 may
+ * be any of them.
  * output[k] becomes the joined value of what zahupnik_plain_expand makes output[k] with m1 and the remainders modulo m1, and of what it
  * makes it with m2 and the remainders modulo m2. So where the coefficient of x^k in the sum over i of curve[i] F_i, over the whole numbers,
  * is in the range of the joined value, output[k] is that coefficient; where it is not, output[k] differs from it by a multiple of m1 m2,

@@ -1,7 +1,7 @@
--- Joining remainders modulo m and n by words of 64 bits.
---   Paired m n k            two moduli, and k, below n, is the inverse of m modulo n
---   Prepared m n k big      and big, at most m + n, is a multiple of n not below m
---   Remainders m n xs ys l  two lists of l entries at least, of which the first l are below m and below n
+-- Joining remainders modulo m and m′ by words of 64 bits.
+--   Paired m m′ k           two moduli, and k, below m′, is the inverse of m modulo m′
+--   Prepared m m′ k big     and big, at most m + m′, is a multiple of m′ not below m
+--   Remainders m m′ xs ys l two lists of l entries at least, of which the first l are below m and below m′
 --   Balancing w u           u is below w, and w is a product of two moduli at most
 --   Joined                  a pass over two lists in progress: the first i places of the output are joined
 -- Proved: no product and no sum is too large, what each step comes to, and how a pass begins, goes on and ends. Assumes nothing.
@@ -23,23 +23,23 @@ use Rattle.wholes.specs.Integers.{z-ext, add-law, neg-law}
 use Rattle.wholes.specs.Joined.{Whole, times, lift, balanced, balanced-small, balanced-large, lift-lt, joined-lift, product-small}
 use Rattle.wholes.specs.Lists.{joined-list-is}
 
-pub record Paired (m n k : ℕ) : Type 0 where
+pub record Paired (m m′ k : ℕ) : Type 0 where
   pub first : Modulus m
-  pub second : Modulus n
-  pub below : k < n
-  pub inverse : m * k % n ≡ 1
+  pub second : Modulus m′
+  pub below : k < m′
+  pub inverse : m * k % m′ ≡ 1
 
-pub record Prepared (m n k big : ℕ) : Type 0 where
-  pub pair : Paired m n k
-  pub multiple : big % n ≡ 0
+pub record Prepared (m m′ k big : ℕ) : Type 0 where
+  pub pair : Paired m m′ k
+  pub multiple : big % m′ ≡ 0
   pub least : m ≤ big
-  pub most : big ≤ m + n
+  pub most : big ≤ m + m′
 
-pub record Remainders (m n : ℕ) (xs ys : List ℕ) (l : ℕ) : Type 0 where
+pub record Remainders (m m′ : ℕ) (xs ys : List ℕ) (l : ℕ) : Type 0 where
   pub firstLong : l ≤ length xs
   pub secondLong : l ≤ length ys
   pub firstBelow : (i : ℕ) → i < l → getD xs i 0 < m
-  pub secondBelow : (i : ℕ) → i < l → getD ys i 0 < n
+  pub secondBelow : (i : ℕ) → i < l → getD ys i 0 < m′
 
 abbrev pub mostProduct : ℕ
 mostProduct = 4611686014132420609
@@ -64,23 +64,23 @@ module _ (w u : ℕ) (b : Balancing w u) where
   balance-kept h = toZ-pos w64 u (omega (arith, b .small)) ∙ sym (balanced-small w u h)
 
 -- ---- what is found once
-pub rest-most : (m n k : ℕ) → Paired m n k → m % n ≤ n
-rest-most m n k p = let rest : m % n < n = mod-lt m (omega (arith, p .second .least)) in omega arith
+pub rest-most : (m m′ k : ℕ) → Paired m m′ k → m % m′ ≤ m′
+rest-most m m′ k p = let rest : m % m′ < m′ = mod-lt m (omega (arith, p .second .least)) in omega arith
 
-pub prepare : (m n k : ℕ) → Paired m n k → Prepared m n k (m + (n - m % n))
-prepare m n k p =
-    let rest : m % n < n = mod-lt m (omega (arith, p .second .least)) in
+pub prepare : (m m′ k : ℕ) → Paired m m′ k → Prepared m m′ k (m + (m′ - m % m′))
+prepare m m′ k p =
+    let rest : m % m′ < m′ = mod-lt m (omega (arith, p .second .least)) in
     record { pair = p; multiple = divided; least = omega arith; most = omega arith }
   where
-    divided : (m + (n - m % n)) % n ≡ 0
+    divided : (m + (m′ - m % m′)) % m′ ≡ 0
     divided =
-        let rest : m % n < n = mod-lt m (omega (arith, p .second .least)) in
-        let whole : n * suc (m / n) ≡ n * (m / n) + n = mul-suc n (m / n) in
-        let e : m + (n - m % n) ≡ n * suc (m / n) = omega (arith, mod-add-div m n) in
-        ap (λ z. z % n) e ∙ mul-mod-right n (suc (m / n))
+        let rest : m % m′ < m′ = mod-lt m (omega (arith, p .second .least)) in
+        let whole : m′ * suc (m / m′) ≡ m′ * (m / m′) + m′ = mul-suc m′ (m / m′) in
+        let e : m + (m′ - m % m′) ≡ m′ * suc (m / m′) = omega (arith, mod-add-div m m′) in
+        ap (λ z. z % m′) e ∙ mul-mod-right m′ (suc (m / m′))
 
-module _ (m n k big : ℕ) (p : Prepared m n k big) where
-  prepared-whole : Whole m n k big
+module _ (m m′ k big : ℕ) (p : Prepared m m′ k big) where
+  prepared-whole : Whole m m′ k big
   prepared-whole = record {
     some = omega (arith, p .pair .first .least);
     some′ = omega (arith, p .pair .second .least);
@@ -93,13 +93,13 @@ module _ (m n k big : ℕ) (p : Prepared m n k big) where
   gap-small : (gap : ℕ) → gap ≤ 6442450941 → gap * k ≤ 13835058042397261827
   gap-small gap h = mul-le-mul {n₂ = 6442450941} {m₂ = greatestModulus} h (omega (arith, p .pair .below, p .pair .second .greatest))
 
-  pub whole-small : m * n ≤ mostProduct
-  whole-small = product-small m n (p .pair .first .greatest) (p .pair .second .greatest)
+  pub whole-small : m * m′ ≤ mostProduct
+  whole-small = product-small m m′ (p .pair .first .greatest) (p .pair .second .greatest)
 
-  pub whole-fits : Fits w64 (m * n)
+  pub whole-fits : Fits w64 (m * m′)
   whole-fits = record { fits = omega (arith, whole-small) }
 
-  module _ (x y : ℕ) (l : x < m) (l′ : y < n) where
+  module _ (x y : ℕ) (l : x < m) (l′ : y < m′) where
     pub gap-fits : Fits w64 ((y + (big - x)) * k)
     gap-fits = record {
       fits = omega (
@@ -108,13 +108,13 @@ module _ (m n k big : ℕ) (p : Prepared m n k big) where
       );
     }
 
-    module _ (t : ℕ) (e : t ≡ (y + (big - x)) * k % n) where
-      is-lift : x + m * t ≡ lift m n k big x y
+    module _ (t : ℕ) (e : t ≡ (y + (big - x)) * k % m′) where
+      is-lift : x + m * t ≡ lift m m′ k big x y
       unfolding lift times
       is-lift = ap (λ z. x + m * z) e
 
-      pub lift-below : x + m * t < m * n
-      lift-below = rw is-lift (lift-lt m n k big prepared-whole x y l)
+      pub lift-below : x + m * t < m * m′
+      lift-below = rw is-lift (lift-lt m m′ k big prepared-whole x y l)
 
       pub step-fits : Fits w64 (m * t)
       step-fits = record { fits = omega (arith, lift-below, whole-small) }
@@ -122,24 +122,24 @@ module _ (m n k big : ℕ) (p : Prepared m n k big) where
       pub lift-fits : Fits w64 (x + m * t)
       lift-fits = record { fits = omega (arith, lift-below, whole-small) }
 
-      pub lift-balances : Balancing (m * n) (x + m * t)
+      pub lift-balances : Balancing (m * m′) (x + m * t)
       lift-balances = record { below = lift-below; small = whole-small }
 
-      pub joined-is : (v : ℤ) → v ≡ balanced (m * n) (x + m * t) → v ≡ joined m n x y
-      joined-is v f = f ∙ ap (balanced (m * n)) is-lift ∙ sym (joined-lift m n k big prepared-whole x y l l′)
+      pub joined-is : (v : ℤ) → v ≡ balanced (m * m′) (x + m * t) → v ≡ joined m m′ x y
+      joined-is v f = f ∙ ap (balanced (m * m′)) is-lift ∙ sym (joined-lift m m′ k big prepared-whole x y l l′)
 
 -- ---- a pass over two lists
-pub record Joined (m n : ℕ) (xs ys : List ℕ) (old out : List ℤ) (i : ℕ) : Type 0 where
+pub record Joined (m m′ : ℕ) (xs ys : List ℕ) (old out : List ℤ) (i : ℕ) : Type 0 where
   pub size : length out ≡ length old
   pub within : i ≤ length out
-  pub done : (j : ℕ) → j < i → getD out j (pos 0) ≡ joined m n (getD xs j 0) (getD ys j 0)
+  pub done : (j : ℕ) → j < i → getD out j (pos 0) ≡ joined m m′ (getD xs j 0) (getD ys j 0)
 
-module _ (m n : ℕ) (xs ys : List ℕ) (old : List ℤ) where
-  pub joined-starts : Joined m n xs ys old old 0
+module _ (m m′ : ℕ) (xs ys : List ℕ) (old : List ℤ) where
+  pub joined-starts : Joined m m′ xs ys old old 0
   joined-starts = record { size = refl; within = omega arith; done = λ j h. absurd (omega arith) }
 
-  module _ (out : List ℤ) (i : ℕ) (g : Joined m n xs ys old out i) where
-    pub joined-next : (v : ℤ) → i < length out → v ≡ joined m n (getD xs i 0) (getD ys i 0) → Joined m n xs ys old (set out i v) (i + 1)
+  module _ (out : List ℤ) (i : ℕ) (g : Joined m m′ xs ys old out i) where
+    pub joined-next : (v : ℤ) → i < length out → v ≡ joined m m′ (getD xs i 0) (getD ys i 0) → Joined m m′ xs ys old (set out i v) (i + 1)
     joined-next v l e = record {
       size = length-set out i v ∙ g .size;
       within = omega (arith, length-set out i v);
@@ -147,10 +147,10 @@ module _ (m n : ℕ) (xs ys : List ℕ) (old : List ℤ) where
     }
 
     pub joined-ends : length out ≤ i → length old ≤ length xs → length old ≤ length ys
-        → out ≡ joinedList m n (take (length old) xs) (take (length old) ys)
+        → out ≡ joinedList m m′ (take (length old) xs) (take (length old) ys)
     joined-ends l h h′ =
         let xLong : length (take (length old) xs) ≡ length old = length-take-le (length old) xs h in
         let yLong : length (take (length old) ys) ≡ length old = length-take-le (length old) ys h′ in
-        joined-list-is m n (take (length old) xs) (take (length old) ys) out (yLong ∙ sym xLong) (g .size ∙ sym xLong)
+        joined-list-is m m′ (take (length old) xs) (take (length old) ys) out (yLong ∙ sym xLong) (g .size ∙ sym xLong)
         (λ j b. g .done j (omega (arith, g .size))
-        ∙ sym (ap₂ (joined m n) (getD-take (length old) xs j 0 (omega arith)) (getD-take (length old) ys j 0 (omega arith))))
+        ∙ sym (ap₂ (joined m m′) (getD-take (length old) xs j 0 (omega arith)) (getD-take (length old) ys j 0 (omega arith))))

@@ -1,4 +1,4 @@
-// Leaves of the calls on two channels, on input that is already checked: signed numbers reduced modulo m, and remainders modulo m and n
+// Leaves of the calls on two channels, on input that is already checked: signed numbers reduced modulo m, and remainders modulo m1 and m2
 // joined. Of what a pair of moduli needs, the inverse of the one modulo the other is handed in, and the rest is found once for a list; an entry
 // is joined without a division.
 ghost use mathlib.Core.List.{_++_};
@@ -11,14 +11,14 @@ ghost use Rattle.reduction.specs.Reciprocal.{Reciprocal};
 ghost use Rattle.wholes.specs.Joined.{balanced};
 ghost use Rattle.join.specs.Joining.{Paired, Prepared, Remainders, Balancing};
 
-// The remainder of a signed number. Of x below 0, -1 - x is the number n with x = -(n + 1), and no difference is too large.
+// The remainder of a signed number. Of x below 0, -1 - x is the number k with x = -(k + 1), and no difference is too large.
 pub fn reduce(m: u32, x: i32) -> u32
     requires { ⌜ 0 < m ⌝ }
     ensures { λ r. ⌜ r ≡ remainder m x ⌝ }
 {
     if x < 0 {
-        let n = (-1 - x) as u32;
-        return m - 1 - n % m;
+        let k = (-1 - x) as u32;
+        return m - 1 - k % m;
     }
     (x as u32) % m
 }
@@ -46,31 +46,31 @@ fn balance(whole: u64, u: u64) -> i64
     u as i64
 }
 
-// The joined value of x modulo m and y modulo n: x and so many m that y is left modulo n, k times the gap between them. k is the inverse of m modulo
-// n, and big a multiple of n not below m.
-fn join_value(m: u32, n: u32, k: u32, big: u64, reciprocal: u64, x: u32, y: u32) -> i64
-    requires { ⌜ Prepared m n k big × Reciprocal n reciprocal × (x < m) × (y < n) ⌝ }
-    ensures { λ r. ⌜ r ≡ joined m n x y ⌝ }
+// The joined value of x modulo m1 and y modulo m2: x and so many m1 that y is left modulo m2, k times the gap between them. k is the inverse of m1
+// modulo m2, and big a multiple of m2 not below m1.
+fn join_value(m1: u32, m2: u32, k: u32, big: u64, reciprocal: u64, x: u32, y: u32) -> i64
+    requires { ⌜ Prepared m1 m2 k big × Reciprocal m2 reciprocal × (x < m1) × (y < m2) ⌝ }
+    ensures { λ r. ⌜ r ≡ joined m1 m2 x y ⌝ }
 {
     let gap = (y as u64) + (big - (x as u64));
-    let times = reduction::remainder(n, reciprocal, gap * (k as u64));
+    let times = reduction::remainder(m2, reciprocal, gap * (k as u64));
     balance(
-        (m as u64) * (n as u64),
-        (x as u64) + (m as u64) * (times as u64),
+        (m1 as u64) * (m2 as u64),
+        (x as u64) + (m1 as u64) * (times as u64),
     )
 }
 
 // The joined values of the first entries of two lists, as many as the output has places.
-pub fn join_lists(m: u32, n: u32, k: u32, first: &[u32], second: &[u32], output: &mut [i64])
-    requires { ⌜ Paired m n k × Remainders m n (now first) (now second) (length (now output)) ⌝ }
+pub fn join_lists(m1: u32, m2: u32, k: u32, first: &[u32], second: &[u32], output: &mut [i64])
+    requires { ⌜ Paired m1 m2 k × Remainders m1 m2 (now first) (now second) (length (now output)) ⌝ }
     ensures { λ _. ⌜ now (output .exit)
-        ≡ joinedList m n (take (length (now (output .entry))) (now (first .entry))) (take (length (now (output .entry))) (now (second .entry))) ⌝ }
+        ≡ joinedList m1 m2 (take (length (now (output .entry))) (now (first .entry))) (take (length (now (output .entry))) (now (second .entry))) ⌝ }
 {
-    let big = (m as u64) + ((n - m % n) as u64);
-    let reciprocal = reduction::reciprocal(n);
+    let big = (m1 as u64) + ((m2 - m1 % m2) as u64);
+    let reciprocal = reduction::reciprocal(m2);
     let mut i: usize = 0;
     while i < output.len() {
-        output[i] = join_value(m, n, k, big, reciprocal, first[i], second[i]);
+        output[i] = join_value(m1, m2, k, big, reciprocal, first[i], second[i]);
         i += 1;
     }
 }

@@ -6,7 +6,7 @@ use mathlib.Core.Path.{_≡_, sym, _∙_, ap, ap₂, subst}
 use Prim.Native.Nat.{ℕ, suc, _*_, _<_, _≤_}
 use native.Mathlib.Omega.{arith}
 use lib.IntN.{ℤ, pos}
-use lib.ListN.{length, getD, length-map}
+use lib.ListN.{length, getD, length-map, List·getD-map}
 use Rattle.definitions.specs.Answers.{answered, after, PlainCall}
 use Rattle.definitions.specs.Conversion.{expand}
 use Rattle.definitions.specs.Family.{Accepted, Curve, family}
@@ -14,35 +14,36 @@ use Rattle.definitions.specs.Refusals.{Verdict, finished}
 use Rattle.definitions.specs.declared.Answer.{Answer}
 use Rattle.acceptance.specs.Acceptance.{plain-finished}
 use Rattle.acceptance.specs.Verdicts.{refused-not-finished}
-use Rattle.numbers.specs.Lists.{Each}
+use Rattle.numbers.specs.Lists.{Each, getD-default}
 use Rattle.joining.specs.Whole.{remainder, inRange, joined, joinedList}
 use Rattle.joining.specs.Expanding.{Signed, coefficient, reducedList, reduced, reducedExpand}
 use Rattle.joining.specs.Calls.{wholesAfter, JoinCall, ExpandJoinCall}
 use Rattle.wholes.specs.Accepting.{Apart, JoinInput, ExpandJoinInput, join-finished, expand-join-finished}
-use Rattle.wholes.specs.Expanding.{coefficient-remainder, reduced-expand-length, reduced-expand-below, whole-reduced, joined-true}
-use Rattle.wholes.specs.Joined.{joined-exact}
+use Rattle.wholes.specs.Expanding.{coefficient-remainder, reduced-expand-length, reduced-expand-below, joined-true}
+use Rattle.wholes.specs.Joined.{joined-exact, same-modulo-both}
 use Rattle.wholes.specs.Reduction.{remainders-below}
-use Rattle.wholes.specs.Lists.{joined-list-entry, joined-list-range, joined-list-first, joined-list-second}
+use Rattle.wholes.specs.Lists.{joined-list-entry, joined-list-range, joined-list-joins, joined-list-only, joined-list-first, joined-list-second}
 use Rattle.join_laws.specs.Laws.{JoinHolds, JoinLaw, ExpandJoinHolds, ExpandJoinLaw}
 use Rattle.join_laws.specs.Laws.{Lists, remainders, ChannelsInput, ChannelsHold, ChannelsLaw}
 
 -- ---- two moduli and two lists of remainders below them
-module _ (m m′ : ℕ) (apart : Apart m m′) (xs ys : List ℕ) (same : length ys ≡ length xs)
-    (below : Each (λ x. x < m) xs 0) (below′ : Each (λ y. y < m′) ys 0) where
+module _ (m m′ : ℕ) (apart : Apart m m′) where
   some : 0 < m
   some = omega (arith, apart .modulus .least)
 
   some′ : 0 < m′
   some′ = omega (arith, apart .modulus′ .least)
 
+module _ (m m′ : ℕ) (apart : Apart m m′) (xs ys : List ℕ) (same : length ys ≡ length xs)
+    (below : Each (λ x. x < m) xs 0) (below′ : Each (λ y. y < m′) ys 0) where
   in-range : (i : ℕ) → i < length xs → inRange (m * m′) (getD (joinedList m m′ xs ys) i (pos 0)) ≡ true
-  in-range = joined-list-range m m′ some some′ (apart .inverse) xs ys same below below′
+  in-range = joined-list-range m m′ (some m m′ apart) (some′ m m′ apart) (apart .inverse) xs ys same below below′
 
   leaves-first : reducedList m (joinedList m m′ xs ys) ≡ xs
-  leaves-first = joined-list-first m m′ some some′ (apart .inverse) xs ys same below below′
+  leaves-first = joined-list-first m m′ (some m m′ apart) (some′ m m′ apart) (apart .inverse) xs ys same below below′
 
   leaves-second : reducedList m′ (joinedList m m′ xs ys) ≡ ys
-  leaves-second = joined-list-second m m′ some some′ (apart .inverse) xs ys same below below′
+  leaves-second = joined-list-second m m′ (some m m′ apart) (some′ m m′ apart) (apart .inverse) xs ys same below below′
 
 -- ---- Join
 pub join-law : (m m′ : ℕ) (xs ys : List ℕ) (v : Verdict) (out out′ : List ℤ) → JoinCall m m′ xs ys v out out′
@@ -55,7 +56,8 @@ join-law m m′ xs ys v out out′ made = record { made = made; holds = holds }
         let is : out′ ≡ joinedList m m′ xs ys = made .written ∙ ap (λ w. wholesAfter w (joinedList m m′ xs ys) out) done in
         record {
           finishes = done;
-          ranged = rw is (in-range m m′ (p .apart) xs ys (p .same) (p .below) (p .below′));
+          each = rw is (joined-list-joins m m′ (some m m′ (p .apart)) (some′ m m′ (p .apart)) (p .apart .inverse) xs ys (p .same) (p .below) (p .below′));
+          only = rw is (joined-list-only m m′ (some m m′ (p .apart)) (some′ m m′ (p .apart)) (p .apart .inverse) xs ys (p .same) (p .below) (p .below′));
           first = rw is (leaves-first m m′ (p .apart) xs ys (p .same) (p .below) (p .below′));
           second = rw is (leaves-second m m′ (p .apart) xs ys (p .same) (p .below) (p .below′));
         }
@@ -96,6 +98,21 @@ module _ (m m′ : ℕ) (s : Signed) (u : List ℤ) (apart : Apart m m′) where
       ∙ ap₂ (joined m m′) (sym (coefficient-remainder m two s u i h)) (sym (coefficient-remainder m′ two′ s u i h))
       ∙ joined-exact m m′ (omega (arith, two)) (omega (arith, two′)) (apart .inverse) (coefficient s u i) small
 
+  -- an entry of a list of remainders
+  entry-left : (k : ℕ) (zs : List ℤ) (ws : List ℕ) (i : ℕ) → reducedList k zs ≡ ws → i < length ws
+      → remainder k (getD zs i (pos 0)) ≡ getD ws i 0
+  entry-left k zs ws i e h =
+      sym (List·getD-map (remainder k) zs i (pos 0)) ∙ ap (λ l. getD l i (remainder k (pos 0))) e ∙ getD-default ws i (remainder k (pos 0)) 0 h
+
+  each-congruent : (i : ℕ) → i ≤ length (s .a)
+      → remainder (m * m′) (getD (joinedList m m′ xs ys) i (pos 0)) ≡ remainder (m * m′) (coefficient s u i)
+  each-congruent i h =
+      same-modulo-both m m′ (some m m′ apart) (some′ m m′ apart) (apart .inverse) (getD (joinedList m m′ xs ys) i (pos 0)) (coefficient s u i)
+      (entry-left m (joinedList m m′ xs ys) xs i first-left (omega (arith, reduced-expand-length m two s u))
+      ∙ sym (coefficient-remainder m two s u i h))
+      (entry-left m′ (joinedList m m′ xs ys) ys i second-left (omega (arith, reduced-expand-length m′ two′ s u))
+      ∙ sym (coefficient-remainder m′ two′ s u i h))
+
 -- what a call that finishes has written
 both-written : (m m′ : ℕ) (s : Signed) (u : List ℤ) (v : Verdict) (out out′ : List ℤ) → ExpandJoinCall m m′ s u v out out′
     → v ≡ finished [] → out′ ≡ joinedList m m′ (reducedExpand m s u) (reducedExpand m′ s u)
@@ -117,8 +134,7 @@ expand-join-law m m′ s u v out out′ made = record { made = made; holds = hol
               (xs-below m m′ s u apart) (ys-below m m′ s u apart) i (omega (arith, reduced-expand-length m (two m m′ s u apart) s u)));
           first = rw is (first-left m m′ s u apart);
           second = rw is (second-left m m′ s u apart);
-          trueFirst = rw is (first-left m m′ s u apart) ∙ sym (whole-reduced m (two m m′ s u apart) s u);
-          trueSecond = rw is (second-left m m′ s u apart) ∙ sym (whole-reduced m′ (two′ m m′ s u apart) s u);
+          congruent = λ i h. rw is (each-congruent m m′ s u apart i h);
           each = λ i h small. rw is (each-exact m m′ s u apart i h small);
           exact = λ small. is ∙ joined-true m m′ (two m m′ s u apart) (two′ m m′ s u apart) (apart .inverse) s u small;
         }
@@ -186,7 +202,7 @@ module _ (m m′ : ℕ) (s : Signed) (u : List ℤ) (one two : Lists) (first sec
           → Promise (answered r₃) first′ second′ joined′
       channels-law r₃ joined′ made₃ = record { holds = holds }
         where
-          holds : Input → ChannelsHold m m′ (answered r₃) first′ second′ joined′ output′
+          holds : Input → ChannelsHold m m′ s u (answered r₃) first′ second′ joined′ output′
           holds p =
               let apart : Apart m m′ = p .input .apart in
               let x : first′ ≡ reducedExpand m s u =
@@ -204,6 +220,9 @@ module _ (m m′ : ℕ) (s : Signed) (u : List ℤ) (one two : Lists) (first sec
               let done : answered r₃ ≡ finished [] = made₃ .answer ∙ join-finished m m′ first′ second′ (length joined) .1 lists-lent in
               record {
                 finishes = done;
+                firstIs = x;
+                secondIs = y;
+                outputIs = is ∙ sym (ap₂ (joinedList m m′) x y);
                 firstLeft = x ∙ sym (first-left m m′ s u apart) ∙ ap (reducedList m) (sym is);
                 secondLeft = y ∙ sym (second-left m m′ s u apart) ∙ ap (reducedList m′) (sym is);
                 law = made₃ .written ∙ ap (λ w. wholesAfter w (joinedList m m′ first′ second′) joined) done

@@ -1,9 +1,12 @@
 -- The laws over the calls on two channels, as the functions of this crate promise them: all that is to be believed of `join_laws`, and nothing
 -- proved. Each is over the very lists that the calls hand out, on what they accept (`wholes`, Accepting).
---   JoinHolds          Join finishes, each number handed out lies in the range, and the remainders of the list are the two lists
---   ExpandJoinHolds    Expand and join finishes; the remainders of the list are those of Expand on each channel, and those of the true
---                      coefficients; a true coefficient in the range is handed out, and so all of them where each is
---   ChannelsHold       the calls finish, the lists of Expand on each channel are what the joined list leaves, and Join of these is that list
+--   JoinHolds          Join finishes, each number handed out is in the range and leaves both remainders of its place, no other whole
+--                      number does, and the remainders of the list are the two lists
+--   ExpandJoinHolds    Expand and join finishes; each number handed out is in the range; the remainders of the list are those of Expand on
+--                      each channel; each number differs from the true coefficient by a multiple of m m′; a true coefficient in the range is
+--                      handed out, and so all of them where each is
+--   ChannelsHold       the calls finish; what Expand hands out on each channel is the definition's list and what the joined list leaves; what
+--                      Join makes of the two is what Expand and join hands out
 --   JoinLaw, ExpandJoinLaw   the promises: that of the call on every input, and the law on what it accepts
 --   ChannelsLaw        the promise of four calls, on what Expand and join accepts where the other lists are the remainders of its lists
 -- Item 6 of the change requests. Assumes nothing.
@@ -14,29 +17,29 @@ use Prim.Native.Nat.{ℕ, suc, _*_, _<_, _≤_}
 use lib.IntN.{ℤ, pos}
 use lib.ListN.{length, getD}
 use Rattle.definitions.specs.Refusals.{Verdict, finished}
-use Rattle.joining.specs.Whole.{inRange}
+use Rattle.joining.specs.Whole.{remainder, inRange, joins, joinedList}
 use Rattle.joining.specs.Expanding.{Signed, coefficient, wholeExpand, reducedList, reducedExpand}
 use Rattle.joining.specs.Calls.{JoinCall, ExpandJoinCall}
 use Rattle.wholes.specs.Accepting.{JoinInput, ExpandJoinInput}
 
 -- v: what the answer says; primes mark a list at exit
-pub record JoinHolds (m m′ : ℕ) (xs ys : List ℕ) (v : Verdict) (joined′ : List ℤ) : Type 0 where
+pub record JoinHolds (m m′ : ℕ) (xs ys : List ℕ) (v : Verdict) (output′ : List ℤ) : Type 0 where
   pub finishes : v ≡ finished []
-  pub ranged : (i : ℕ) → i < length xs → inRange (m * m′) (getD joined′ i (pos 0)) ≡ true
-  pub first : reducedList m joined′ ≡ xs
-  pub second : reducedList m′ joined′ ≡ ys
+  pub each : (i : ℕ) → i < length xs → joins m m′ (getD xs i 0) (getD ys i 0) (getD output′ i (pos 0)) ≡ true
+  pub only : (i : ℕ) → i < length xs → (z : ℤ) → joins m m′ (getD xs i 0) (getD ys i 0) z ≡ true → getD output′ i (pos 0) ≡ z
+  pub first : reducedList m output′ ≡ xs
+  pub second : reducedList m′ output′ ≡ ys
 
-pub record JoinLaw (m m′ : ℕ) (xs ys : List ℕ) (v : Verdict) (joined joined′ : List ℤ) : Type 0 where
-  pub made : JoinCall m m′ xs ys v joined joined′
-  pub holds : JoinInput m m′ xs ys (length joined) → JoinHolds m m′ xs ys v joined′
+pub record JoinLaw (m m′ : ℕ) (xs ys : List ℕ) (v : Verdict) (output output′ : List ℤ) : Type 0 where
+  pub made : JoinCall m m′ xs ys v output output′
+  pub holds : JoinInput m m′ xs ys (length output) → JoinHolds m m′ xs ys v output′
 
 pub record ExpandJoinHolds (m m′ : ℕ) (s : Signed) (u : List ℤ) (v : Verdict) (output′ : List ℤ) : Type 0 where
   pub finishes : v ≡ finished []
   pub ranged : (i : ℕ) → i ≤ length (s .a) → inRange (m * m′) (getD output′ i (pos 0)) ≡ true
   pub first : reducedList m output′ ≡ reducedExpand m s u
   pub second : reducedList m′ output′ ≡ reducedExpand m′ s u
-  pub trueFirst : reducedList m output′ ≡ reducedList m (wholeExpand s u)
-  pub trueSecond : reducedList m′ output′ ≡ reducedList m′ (wholeExpand s u)
+  pub congruent : (i : ℕ) → i ≤ length (s .a) → remainder (m * m′) (getD output′ i (pos 0)) ≡ remainder (m * m′) (coefficient s u i)
   pub each : (i : ℕ) → i ≤ length (s .a) → inRange (m * m′) (coefficient s u i) ≡ true → getD output′ i (pos 0) ≡ coefficient s u i
   pub exact : ((i : ℕ) → i ≤ length (s .a) → inRange (m * m′) (coefficient s u i) ≡ true) → output′ ≡ wholeExpand s u
 
@@ -65,12 +68,15 @@ pub record ChannelsInput (m m′ : ℕ) (s : Signed) (u : List ℤ) (one two : L
   pub secondLength : length second ≡ suc (length (s .a))
   pub joinedLength : length joined ≡ suc (length (s .a))
 
-pub record ChannelsHold (m m′ : ℕ) (v : Verdict) (first′ second′ : List ℕ) (joined′ output′ : List ℤ) : Type 0 where
+pub record ChannelsHold (m m′ : ℕ) (s : Signed) (u : List ℤ) (v : Verdict) (first′ second′ : List ℕ) (joined′ output′ : List ℤ) : Type 0 where
   pub finishes : v ≡ finished []
+  pub firstIs : first′ ≡ reducedExpand m s u
+  pub secondIs : second′ ≡ reducedExpand m′ s u
+  pub outputIs : output′ ≡ joinedList m m′ first′ second′
   pub firstLeft : first′ ≡ reducedList m output′
   pub secondLeft : second′ ≡ reducedList m′ output′
   pub law : joined′ ≡ output′
 
 pub record ChannelsLaw (m m′ : ℕ) (s : Signed) (u : List ℤ) (one two : Lists) (v : Verdict) (first first′ second second′ : List ℕ)
     (joined joined′ output output′ : List ℤ) : Type 0 where
-  pub holds : ChannelsInput m m′ s u one two first second joined output → ChannelsHold m m′ v first′ second′ joined′ output′
+  pub holds : ChannelsInput m m′ s u one two first second joined output → ChannelsHold m m′ s u v first′ second′ joined′ output′

@@ -5,11 +5,11 @@ ghost use Rattle.joining.specs.Expanding.{signed};
 ghost use Rattle.join_laws.specs.Laws.{lists, JoinLaw, ExpandJoinLaw, ChannelsLaw};
 use definitions::Answer;
 
-// What Join hands out leaves the two lists that it was lent, and lies in the range.
-fn join_leaves_both(m1: u32, m2: u32, first: &[u32], second: &[u32], joined: &mut [i64]) -> Answer
-    ensures { λ r. ⌜ JoinLaw m1 m2 (now (first .entry)) (now (second .entry)) (answered r) (now (joined .entry)) (now (joined .exit)) ⌝ }
+// What Join hands out lies in the range and leaves the two lists that it was lent, and nothing else does.
+fn join_leaves_both(m1: u32, m2: u32, first: &[u32], second: &[u32], output: &mut [i64]) -> Answer
+    ensures { λ r. ⌜ JoinLaw m1 m2 (now (first .entry)) (now (second .entry)) (answered r) (now (output .entry)) (now (output .exit)) ⌝ }
 {
-    join_calls::join(m1, m2, first, second, joined)
+    join_calls::join(m1, m2, first, second, output)
 }
 
 // What Expand and join hands out leaves what Expand makes of the remainders on each channel, and is exact in its range.

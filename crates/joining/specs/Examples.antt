@@ -1,12 +1,13 @@
 -- The definitions of two channels, computed.
 --   remainders-of, ranges    remainders on both sides of zero and of the ends of 32 bits; which numbers are in the range of 6 and of 35
 --   all-of-six, ends-of-35   the joined values modulo 2 and 3, all six, and modulo 3 and 2; the ends of the range modulo 5 and 7
---   hermite, laguerre        H_4 and 3! L_3 as published: the true coefficients, and the same joined modulo 11 and 13
+--   hermite, laguerre        H_4 and 3! L_3 as published: the true coefficients, and the same joined modulo 11 and 13; laguerre-sum a sum of i! L_i
 --   past-range               H_4 modulo 5 and 7, whose range is too small for it: the joined value differs by a multiple of 35
 --   least-numbers            true coefficients of a curve with the least number of 32 bits, and of rows with it
 --   mended, joinMended       inputs whose faults are all from the first 3 on, then from the second on, and so on to none
 -- expand-join-order, join-order: the number that each input gives. So no test of a call is left out, none stands before an earlier one, and
--- each condition holds where it must; but two tests with one number, as 12 and 12, look alike from outside.
+-- each condition holds where it must, over all rows of the first channel before the second; but two tests with one number, as 12 and 12,
+-- look alike from outside.
 -- join-outcomes, expand-join-outcomes: what the output holds after a call that finishes, and after one that is refused.
 -- Assumes nothing.
 use mathlib.Core.Bool.{true, false}
@@ -103,6 +104,15 @@ laguerre-joined : bothJoined 11 13 laguerreRows third ≡ pos 6 ∷ minus 18 ∷
 unfolding expandJoinOutcome
 laguerre-joined = refl
 
+-- 2 - 3 (1 - x) + (2 - 4 x + x^2) - (6 - 18 x + 9 x^2 - x^3), of a curve with every entry
+laguerre-sum : wholeExpand laguerreRows (pos 2 ∷ minus 3 ∷ pos 1 ∷ minus 1 ∷ []) ≡ minus 5 ∷ pos 17 ∷ minus 8 ∷ pos 1 ∷ []
+unfolding expandJoinOutcome
+laguerre-sum = refl
+
+laguerre-sum-joined : bothJoined 11 13 laguerreRows (pos 2 ∷ minus 3 ∷ pos 1 ∷ minus 1 ∷ []) ≡ minus 5 ∷ pos 17 ∷ minus 8 ∷ pos 1 ∷ []
+unfolding expandJoinOutcome
+laguerre-sum-joined = refl
+
 past-range : bothJoined 5 7 hermiteRows fourth ≡ pos 12 ∷ pos 0 ∷ minus 13 ∷ pos 0 ∷ pos 16 ∷ []
 unfolding expandJoinOutcome
 past-range = refl
@@ -163,11 +173,18 @@ abbrev lendRows : ℕ → ℕ → Signed → List ℤ → ℕ → ExpandLent
 lendRows m m′ rows curve output = record { m = m; m′ = m′; rows = rows; curve = curve; output = output }
 
 -- two rows, of which the first is -1 0 0
-abbrev second : ℤ → ℤ → Signed
-second a c = signed (minus 1 ∷ a ∷ []) (pos 0 ∷ pos 0 ∷ []) (pos 0 ∷ c ∷ [])
+abbrev rowTwo : ℤ → ℤ → Signed
+rowTwo a c = signed (minus 1 ∷ a ∷ []) (pos 0 ∷ pos 0 ∷ []) (pos 0 ∷ c ∷ [])
 
 abbrev zeros : ℕ → List ℤ
 zeros k = replicate k (pos 0)
+
+-- three rows whose a, or whose c from row 2 on, are 14 and then 3: zero modulo 14, and then a factor shared with 15
+abbrev lowerOnTheSecond : Signed
+lowerOnTheSecond = signed (pos 14 ∷ pos 3 ∷ pos 1 ∷ []) (zeros 3) (pos 0 ∷ pos 1 ∷ pos 1 ∷ [])
+
+abbrev lowerOnTheSecondForC : Signed
+lowerOnTheSecondForC = signed (pos 1 ∷ pos 1 ∷ pos 1 ∷ []) (zeros 3) (pos 0 ∷ pos 14 ∷ pos 3 ∷ [])
 
 -- modulo 15 and 14: 210 is zero on both; 42 shares 3 with 15 and is zero modulo 14; -15 is zero modulo 15, -14 modulo 14; -2 shares 2 with 14
 abbrev mended : List ExpandLent
@@ -179,25 +196,27 @@ mended =
     ∷ lendRows 15 14 (signed (zeros 128) (zeros 128) []) [] 2
     ∷ lendRows 15 14 (signed (zeros 128) [] (zeros 128)) [] 2
     ∷ lendRows 15 14 (signed (zeros 128) (zeros 128) (zeros 128)) [] 2
-    ∷ lendRows 15 14 (second (pos 210) (pos 210)) (zeros 2) 2
-    ∷ lendRows 15 14 (second (pos 210) (pos 210)) (zeros 4) 2
-    ∷ lendRows 15 14 (second (pos 210) (pos 210)) (zeros 3) 2
-    ∷ lendRows 15 14 (second (pos 210) (pos 210)) (zeros 3) 4
-    ∷ lendRows 15 14 (second (pos 210) (pos 210)) (zeros 3) 3
-    ∷ lendRows 15 14 (second (minus 15) (pos 210)) (zeros 3) 3
-    ∷ lendRows 15 14 (second (pos 42) (pos 210)) (zeros 3) 3
-    ∷ lendRows 15 14 (second (minus 14) (pos 210)) (zeros 3) 3
-    ∷ lendRows 15 14 (second (minus 2) (pos 210)) (zeros 3) 3
-    ∷ lendRows 15 14 (second (minus 1) (pos 210)) (zeros 3) 3
-    ∷ lendRows 15 14 (second (minus 1) (minus 15)) (zeros 3) 3
-    ∷ lendRows 15 14 (second (minus 1) (pos 42)) (zeros 3) 3
-    ∷ lendRows 15 14 (second (minus 1) (minus 14)) (zeros 3) 3
-    ∷ lendRows 15 14 (second (minus 1) (minus 2)) (zeros 3) 3
-    ∷ lendRows 15 14 (second (minus 1) (minus 1)) (zeros 3) 3
+    ∷ lendRows 15 14 (rowTwo (pos 210) (pos 210)) (zeros 2) 2
+    ∷ lendRows 15 14 (rowTwo (pos 210) (pos 210)) (zeros 4) 2
+    ∷ lendRows 15 14 (rowTwo (pos 210) (pos 210)) (zeros 3) 2
+    ∷ lendRows 15 14 (rowTwo (pos 210) (pos 210)) (zeros 3) 4
+    ∷ lendRows 15 14 (rowTwo (pos 210) (pos 210)) (zeros 3) 3
+    ∷ lendRows 15 14 (rowTwo (minus 15) (pos 210)) (zeros 3) 3
+    ∷ lendRows 15 14 (rowTwo (pos 42) (pos 210)) (zeros 3) 3
+    ∷ lendRows 15 14 (rowTwo (minus 14) (pos 210)) (zeros 3) 3
+    ∷ lendRows 15 14 (rowTwo (minus 2) (pos 210)) (zeros 3) 3
+    ∷ lendRows 15 14 (rowTwo (minus 1) (pos 210)) (zeros 3) 3
+    ∷ lendRows 15 14 (rowTwo (minus 1) (minus 15)) (zeros 3) 3
+    ∷ lendRows 15 14 (rowTwo (minus 1) (pos 42)) (zeros 3) 3
+    ∷ lendRows 15 14 (rowTwo (minus 1) (minus 14)) (zeros 3) 3
+    ∷ lendRows 15 14 (rowTwo (minus 1) (minus 2)) (zeros 3) 3
+    ∷ lendRows 15 14 (rowTwo (minus 1) (minus 1)) (zeros 3) 3
+    ∷ lendRows 15 14 lowerOnTheSecond (zeros 4) 4
+    ∷ lendRows 15 14 lowerOnTheSecondForC (zeros 4) 4
     ∷ []
 
 expand-join-order : map (λ l. number (verdict (expandJoinTests (l .m) (l .m′) (l .rows) (l .curve) (l .output)) [])) mended
-    ≡ 3 ∷ 3 ∷ 19 ∷ 4 ∷ 4 ∷ 4 ∷ 5 ∷ 6 ∷ 6 ∷ 7 ∷ 7 ∷ 17 ∷ 17 ∷ 10 ∷ 17 ∷ 10 ∷ 18 ∷ 18 ∷ 11 ∷ 18 ∷ 11 ∷ 0 ∷ []
+    ≡ 3 ∷ 3 ∷ 19 ∷ 4 ∷ 4 ∷ 4 ∷ 5 ∷ 6 ∷ 6 ∷ 7 ∷ 7 ∷ 17 ∷ 17 ∷ 10 ∷ 17 ∷ 10 ∷ 18 ∷ 18 ∷ 11 ∷ 18 ∷ 11 ∷ 0 ∷ 10 ∷ 11 ∷ []
 unfolding expandJoinOutcome
 expand-join-order = refl
 

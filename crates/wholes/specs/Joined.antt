@@ -5,7 +5,7 @@
 --   lift m m′ k big x y      the number below m m′ that leaves x modulo m and y modulo m′
 -- Proved, for moduli without a common factor and remainders below them: joined-joins, the joined value is in the range and leaves both;
 -- joined-only, no other whole number does; joined-exact, a whole number in the range is joined from its own remainders; joined-lift, it is
--- the balanced lift. What is in the range of two moduli of 31 bits fits 64 bits with a sign (range-fits).
+-- the balanced lift; same-modulo-both, what two numbers leave modulo both settles what they leave modulo m m′. What is in the range of two moduli of 31 bits fits 64 bits with a sign (range-fits).
 -- Assumes nothing.
 use mathlib.Core.Bool.{Bool, true, false, true≢false}
 use mathlib.Core.List.{[], _∷_}
@@ -27,7 +27,7 @@ use Rattle.definitions.specs.Number.{HasInverse}
 use Rattle.numbers.specs.Factor.{and-both}
 use Rattle.joining.specs.Whole.{remainder, inRange, joins, joinedUpTo, joined}
 use Rattle.wholes.specs.Integers.{up, down, z-ext, neg-law, mul-law, lt-law, le-law}
-use Rattle.wholes.specs.Reduction.{remainder-lt, remainder-apart}
+use Rattle.wholes.specs.Reduction.{remainder-lt, remainder-apart, remainder-multiple}
 
 -- ---- the range
 pub record InRange (w : ℕ) (v : ℤ) : Type 0 where
@@ -283,6 +283,20 @@ module _ (m m′ : ℕ) (p : 0 < m) (p′ : 0 < m′) (apart : HasInverse m′ m
   pub joined-exact : (v : ℤ) → inRange (m * m′) v ≡ true → joined m m′ (remainder m v) (remainder m′ v) ≡ v
   joined-exact v r =
       sym (joined-only (remainder m v) (remainder m′ v) v (joins-law m m′ _ _ v .1 (record { range = range-law (m * m′) v .0 r; first = refl; second = refl })))
+
+  -- two whole numbers that leave the same modulo both leave the same modulo m m′
+  pub same-modulo-both : (z w : ℤ) → remainder m z ≡ remainder m w → remainder m′ z ≡ remainder m′ w
+      → remainder (m * m′) z ≡ remainder (m * m′) w
+  same-modulo-both z w e f = lifted z refl refl ∙ sym (lifted w (sym e) (sym f))
+    where
+      some : 0 < m * m′
+      some = let h : m * 1 ≤ m * m′ = mul-le-mul-left m p′ in omega arith
+
+      lifted : (v : ℤ) → remainder m v ≡ remainder m z → remainder m′ v ≡ remainder m′ z
+          → remainder (m * m′) v ≡ lift m m′ (found-once .0) (m * m′) (remainder m z) (remainder m′ z)
+      lifted v g h = lift-only m m′ (found-once .0) (m * m′) (found-once .1) (remainder m z) (remainder m′ z) (remainder-lt m p z)
+          (remainder (m * m′) v) (remainder-lt (m * m′) some v) (remainder-multiple m p m′ some v ∙ g)
+          (ap (λ k. remainder k v % m′) (mul-comm m m′) ∙ remainder-multiple m′ p′ m (rw mul-comm some) v ∙ h)
 
 -- ---- it fits 64 bits with a sign
 pub product-small : (m m′ : ℕ) → m ≤ greatestModulus → m′ ≤ greatestModulus → m * m′ ≤ 4611686014132420609

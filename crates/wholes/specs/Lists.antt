@@ -1,6 +1,7 @@
 -- The joined values of two lists of one length.
--- Proved: there are as many, and each is that of its place (joined-list-entry); a list of these is theirs (joined-list-is); each lies in the
--- range of m m′ (joined-list-range), and their remainders are the two lists (joined-list-first, joined-list-second). Assumes nothing.
+-- Proved: there are as many, and each is that of its place (joined-list-entry); a list of these is theirs (joined-list-is); each joins, and
+-- nothing else does at its place (joined-list-joins, joined-list-only); each lies in the range of m m′ (joined-list-range), and their
+-- remainders are the two lists (joined-list-first, joined-list-second). Assumes nothing.
 use mathlib.Core.Bool.{true}
 use mathlib.Core.List.{List, [], _∷_, map}
 use mathlib.Core.Path.{_≡_, refl, sym, _∙_, ap}
@@ -11,8 +12,8 @@ use lib.ListN.{length, getD, length-map, List·getD-map}
 use lib.Seq.{ext-getD}
 use Rattle.definitions.specs.Number.{HasInverse}
 use Rattle.numbers.specs.Lists.{Each, getD-default}
-use Rattle.joining.specs.Whole.{remainder, inRange, joined, joinedList}
-use Rattle.wholes.specs.Joined.{Joins, range-law, joined-has}
+use Rattle.joining.specs.Whole.{remainder, inRange, joins, joined, joinedList}
+use Rattle.wholes.specs.Joined.{Joins, range-law, joined-has, joined-joins, joined-only}
 
 pub joined-list-length : (m m′ : ℕ) (xs ys : List ℕ) → length ys ≡ length xs → length (joinedList m m′ xs ys) ≡ length xs
 unfolding joinedList
@@ -41,6 +42,15 @@ module _ (m m′ : ℕ) (p : 0 < m) (p′ : 0 < m′) (apart : HasInverse m′ m
 
   pub joined-list-range : (i : ℕ) → i < length xs → inRange (m * m′) (getD (joinedList m m′ xs ys) i (pos 0)) ≡ true
   joined-list-range i h = rw (joined-list-entry m m′ xs ys i (pos 0) same h) (range-law (m * m′) _ .1 (joins-at i h .range))
+
+  pub joined-list-joins : (i : ℕ) → i < length xs → joins m m′ (getD xs i 0) (getD ys i 0) (getD (joinedList m m′ xs ys) i (pos 0)) ≡ true
+  joined-list-joins i h =
+      rw (joined-list-entry m m′ xs ys i (pos 0) same h)
+      (joined-joins m m′ p p′ apart (getD xs i 0) (getD ys i 0) (below i h) (below′ i (omega arith)))
+
+  pub joined-list-only : (i : ℕ) → i < length xs → (v : ℤ) → joins m m′ (getD xs i 0) (getD ys i 0) v ≡ true
+      → getD (joinedList m m′ xs ys) i (pos 0) ≡ v
+  joined-list-only i h v e = joined-list-entry m m′ xs ys i (pos 0) same h ∙ sym (joined-only m m′ p p′ apart _ _ v e)
 
   -- the remainders modulo a number, where each is the entry of a list
   remainders-are : (k : ℕ) (zs : List ℕ) → length zs ≡ length xs

@@ -2,15 +2,17 @@
 --   image m p z     the residue of z; p says that m is not zero
 --   reduction m p   the map of rings that takes z to it
 -- Proved: a remainder is below its modulus, has the residue of its number, and is the one number that does (remainder-is); two numbers that
--- differ by a multiple of m leave the same (remainder-apart). Assumes nothing.
+-- differ by a multiple of m leave the same (remainder-apart), and so does the remainder modulo a multiple of m (remainder-multiple).
+-- Assumes nothing.
 use mathlib.Core.List.{List, [], _∷_, map}
 use mathlib.Core.Path.{_≡_, sym, _∙_, ap, ap₂}
 use Prim.Native.Nat.{ℕ, zero, suc, _+_, _*_, _-_, _%_, _<_}
-use native.Mathlib.Nat.{mod-lt, zero-mod}
+use native.Mathlib.Nat.{mod-lt, zero-mod, mod-mod-of-dvd, dvd-mul-right, mul-mod-right}
+use native.Mathlib.Omega.{arith}
 use lib.IntN.{ℤ, pos, negsuc, _+ℤ_, _*ℤ_}
 use lib.ListN.{getD}
 use Rattle.algebra.specs.Map.{RingMap}
-use Rattle.algebra.specs.Residues.{Zmod, res, res-zero, res-one, res-add, res-mul, res-mod, res-neg, res-of-mod, res-injective}
+use Rattle.algebra.specs.Residues.{Zmod, res, res-zero, res-one, res-add, res-mul, res-mod, res-neg, res-of-mod, mod-of-res, res-injective}
 use Rattle.algebra.specs.Ring.{CommRing}
 use Rattle.algebra.specs.Solver.{ring, linear, scaled, both, reify}
 use Rattle.definitions.specs.Number.{negative}
@@ -97,3 +99,23 @@ module _ (m : ℕ) (p : 0 < m) where
 
       none : ι w ≡ 𝟘
       none = res-of-mod m p w 0 (e ∙ sym (zero-mod m)) ∙ res-zero m p
+
+  -- the remainder modulo a multiple of m leaves the same
+  pub remainder-multiple : (q : ℕ) → 0 < m * q → (z : ℤ) → remainder (m * q) z % m ≡ remainder m z
+  unfolding remainder negative
+  remainder-multiple q h (pos n) = mod-mod-of-dvd m n (dvd-mul-right m q)
+  remainder-multiple q h (negsuc n) =
+      mod-mod-of-dvd m (m * q - suc n % (m * q)) (dvd-mul-right m q)
+      ∙ mod-of-res m p (m * q - suc n % (m * q)) (m - suc n % m)
+      (linear R (ι (m * q - suc n % (m * q)) ∷ ι (suc n % (m * q)) ∷ ι (suc n) ∷ ι (m - suc n % m) ∷ [])
+      (both R (both R (scaled R 𝟙 whole-none) (scaled R (⊖ 𝟙) again)) (scaled R (⊖ 𝟙) (res-neg m p (suc n)))) (search reify depth 20) tt)
+    where
+      again : ι (suc n % (m * q)) ≡ ι (suc n)
+      again = res-of-mod m p (suc n % (m * q)) (suc n) (mod-mod-of-dvd m (suc n) (dvd-mul-right m q))
+
+      all : m * q - suc n % (m * q) + suc n % (m * q) ≡ m * q
+      all = let l : suc n % (m * q) < m * q = mod-lt (suc n) h in omega arith
+
+      whole-none : ι (m * q - suc n % (m * q)) ⊕ ι (suc n % (m * q)) ≡ 𝟘
+      whole-none = sym (res-add m p (m * q - suc n % (m * q)) (suc n % (m * q))) ∙ ap (res m p) all
+          ∙ res-of-mod m p (m * q) 0 (mul-mod-right m q ∙ sym (zero-mod m)) ∙ res-zero m p

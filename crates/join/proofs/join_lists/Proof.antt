@@ -11,10 +11,10 @@ use Rattle.join.proofs.join_lists.Statement.{statement}
 use Rattle.join.proofs.join_lists.Tie as tie
 
 abbrev Inv-loop : tie.InvT-loop
-Inv-loop m n k first second output₀ big reciprocal i₀ output i = Joined m n first second output₀ output i
+Inv-loop m1 m2 k first second output₀ big reciprocal i₀ output i = Joined m1 m2 first second output₀ output i
 
 abbrev μ-loop : tie.MeasureT-loop
-μ-loop m n k first second output₀ big reciprocal i₀ output i = length output₀ - i
+μ-loop m1 m2 k first second output₀ big reciprocal i₀ output i = length output₀ - i
 
 rem-big : tie.Need-rem-big Inv-loop μ-loop
 rem-big c = search needs

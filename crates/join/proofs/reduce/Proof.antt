@@ -1,4 +1,4 @@
--- `reduce` answers the remainder: of x below 0 by the number n with x = -(n + 1). Assumes nothing.
+-- `reduce` answers the remainder: of x below 0 by the number k with x = -(k + 1). Assumes nothing.
 use native.Mathlib.Nat.{mod-lt}
 use native.Mathlib.Omega.{arith}
 use lib.Signed.{mag}
@@ -7,11 +7,11 @@ use borrow.Author.Needs.{needs}
 use Rattle.join.proofs.reduce.Statement.{statement}
 use Rattle.join.proofs.reduce.Tie as tie
 
-sub-n : tie.Need-sub-n
-sub-n c = rw (flipped (c .before .args .x) (c .before .fits .x) (c .if1 .taken)) (record { sfits = c .before .fits .x .sfits })
+sub-k : tie.Need-sub-k
+sub-k c = rw (flipped (c .before .args .x) (c .before .fits .x) (c .if1 .taken)) (record { sfits = c .before .fits .x .sfits })
 
-cast-n : tie.Need-cast-n
-cast-n c =
+cast-k : tie.Need-cast-k
+cast-k c =
     rw (flipped-word (c .before .args .x) (c .before .fits .x) (c .if1 .taken))
     (tt, record { fits = omega (arith, c .before .fits .x .sfits) })
 
@@ -48,8 +48,8 @@ pub reduce-spec : {M : Type 1} → statement M
 reduce-spec =
     tie.close
     (tie.spec
-    sub-n
-    cast-n
+    sub-k
+    cast-k
     sub-result
     rem-result
     sub-result-2
