@@ -2,11 +2,12 @@
  *
  * usage: differential [CASES [SEED [FIRST]]]
  *
- * Of the first 1,200,000 cases each sixth is of a call on two channels, join and expand_join in turn: 200,000. Of the first 180,000 others
+ * Of the first 720,000 cases each sixth is of a call on two channels, join and expand_join in turn: 120,000. Of the first 180,000 others
  * each twelfth is a sequence of up to 48 calls on a prepared family: 15,000 sequences. Of the first 1,100,000 of the rest each eleventh is
  * of write_job, and each of those left is of any of the other ten calls on lists and texts. Those after them, 4,550,000 if CASES is not
- * stated, are of the five quick calls in turn. So each quick call has a million cases and more, each of the others about 100,000, and the
- * twelve on a prepared family have 370,000 together. What write_job wrote is read by the text call in the same case.
+ * stated, are of the five quick calls in turn. So each quick call has a million cases and more, the two on two channels have 60,000 each, the
+ * twelve on a prepared family 370,000 together, and each of the others about 100,000. What write_job wrote is read by the text call in the
+ * same case.
  *
  * Compares the number and the record returned, all that a call writes, and that it writes nothing else (trial.h). Prints how many cases
  * each call had, how often it gave each answer, how often it finished with a c_1 that is 0 and with one that shares a factor with m, and
@@ -29,7 +30,7 @@
 #include "trial.h"
 #include "zahupnik.h"
 
-static const uint64_t JOININGS = 200000, SEQUENCES = 15000, ALL_CALLS = 1100000, QUICK_CALLS = 4550000, SEED = 20240229;
+static const uint64_t JOININGS = 120000, SEQUENCES = 15000, ALL_CALLS = 1100000, QUICK_CALLS = 4550000, SEED = 20240229;
 
 enum { ANSWERS = 21, QUICK = 5, EACH_JOINING = 6, EACH_SEQUENCE = 12, MOST_STEPS = 48 };
 

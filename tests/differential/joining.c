@@ -293,10 +293,10 @@ static struct signed_list lend_signed(struct trial *trial, struct random *random
  * there is one. */
 static void note_channels(struct trial *trial, const struct joining *x) {
     static struct channel channel;
-    reduce(x, trial->number && trial->of_second, &channel);
+    make_channel(x, trial->number && trial->of_second, &channel);
     note_family(trial, &channel.lent);
     if (trial->number || trial->first_c != INVERTIBLE) return;
-    reduce(x, 1, &channel);
+    make_channel(x, 1, &channel);
     note_family(trial, &channel.lent);
 }
 

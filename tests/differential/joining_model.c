@@ -22,7 +22,7 @@ static void reduce_list(struct signed_list list, uint32_t m, uint32_t *reduced, 
     *target = (struct list){reduced, list.length};
 }
 
-void reduce(const struct joining *x, unsigned which, struct channel *channel) {
+void make_channel(const struct joining *x, unsigned which, struct channel *channel) {
     struct lent *lent = &channel->lent;
     *lent = (struct lent){.operation = EXPAND, .way = PLAIN, .m = x->m[which]};
     reduce_list(x->a, lent->m, channel->a, &lent->a);
@@ -47,7 +47,7 @@ static uint32_t rows_refusal(const struct joining *x, bool *of_second) {
     struct channel channel;
     uint32_t numbers[CHANNELS];
     for (unsigned which = 0; which < CHANNELS; which++) {
-        reduce(x, which, &channel);
+        make_channel(x, which, &channel);
         numbers[which] = refusal(&channel.lent);
     }
     *of_second = !is_for_a(numbers[0]) && (is_for_a(numbers[1]) || !numbers[0]);
@@ -99,7 +99,7 @@ void hand_out_joined(const struct joining *x, int64_t *result) {
     }
     for (unsigned which = 0; which < CHANNELS; which++) {
         struct channel channel;
-        reduce(x, which, &channel);
+        make_channel(x, which, &channel);
         hand_out(&channel.lent, expanded[which]);
     }
     join_lists(x->m, expanded[0], expanded[1], joined_length(x), result);

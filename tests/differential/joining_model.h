@@ -37,7 +37,7 @@ uint64_t product_of(const uint32_t m[CHANNELS]);
 int64_t greatest_joined(const uint32_t m[CHANNELS]);
 
 /* Reduces for a channel a call that has no more rows than there may be, and the curve that they ask for. Channel is not to be copied. */
-void reduce(const struct joining *x, unsigned which, struct channel *channel);
+void make_channel(const struct joining *x, unsigned which, struct channel *channel);
 
 /* How long the list is that a call hands out. */
 size_t joined_length(const struct joining *x);
