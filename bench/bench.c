@@ -5,12 +5,14 @@
  * full   r = 15, 31, 63 and 127, modulo a prime and a composite number: the least of SAMPLES samples of SAMPLE_TIME or more each,
  *        where the participants take turns, so that what else the machine does hits all alike. Times are processor time. An operation
  *        on a record and the same on lists, which differ by little, take TURNS short turns, and medians are told. Transposed multiplication
- *        by itself, at lengths from 16 to 256.
- * short  r = 15 and 127, lengths 16 and 256 modulo the prime, and single samples of a fraction of that: for the gate, where no time matters.
- * count  r = 127, each call once: for a run under callgrind, which writes the instructions of each call to a file of its own.
+ *        by itself, at lengths from 16 to 256. Lists of 128 and 4,096 remainders joined, and curves expanded and joined, on the two moduli.
+ * short  r = 15 and 127, lengths 16 and 256 modulo the prime, two channels in one order, and single samples of a fraction of that: for the
+ *        gate, where no time matters.
+ * count  r = 127, each call but those on two channels once: for a run under callgrind, which writes the instructions of each call to a file of
+ *        its own.
  *
  * Before it times anything it compares the answers of all participants on all FAMILIES families, or on all operands where it times
- * transposed multiplication, and ends with 1 where two differ. The first family has c_1 = 0: it is Legendre's
+ * transposed multiplication or two channels, and ends with 1 where two differ. The first family has c_1 = 0: it is Legendre's
  * where m takes it. Every call has another family than the call before it, but where the first family is held against the others: there
  * each is timed by itself. Buffers are not cleared between calls: an output holds the last result, the working list the zeros that each tree
  * call leaves, and clearing it is part of such a call.
@@ -30,6 +32,7 @@
 
 #include "../tests/differential/random.h"
 #include "contest.h"
+#include "joined.h"
 #include "transposed.h"
 #include "zahupnik.h"
 
@@ -39,6 +42,8 @@ enum { FAMILIES = 16 };
 #define TURNS 1001
 #define MOST_FOR_ZERO_C_1 1.05
 #define MOST_FOR_TRANSPOSED 0.60
+#define MOST_FOR_JOIN 1.00
+#define MOST_FOR_EXPAND_JOIN 1.00
 #define TEXT_OF(number) QUOTED(number)
 #define QUOTED(number) #number
 
@@ -281,13 +286,15 @@ static void compare(void) {
     }
 }
 
-/* Converts on these families in turn, or transposes on these operands. The time is of one call: the least over the samples, but in
- * measure_two. */
+/* Converts on these families in turn, transposes on these operands, joins these lists, or expands and joins on these rows. The time is of
+ * one call: the least over the samples, but in measure_two. */
 struct participant {
     convert *convert;
     const struct job *families;
     transpose *transpose;
     struct operands *operands;
+    join *join;
+    expand_and_join *expand_and_join;
     unsigned count, repetitions;
     double time;
 };
@@ -304,6 +311,10 @@ static double sample_of(const struct participant *p) {
     double start = seconds();
     if (p->convert)
         for (unsigned i = 0; i < p->repetitions; i++) p->convert(&p->families[i % p->count], result);
+    else if (p->join)
+        for (unsigned i = 0; i < p->repetitions; i++) p->join(&lists[i % LISTS]);
+    else if (p->expand_and_join)
+        for (unsigned i = 0; i < p->repetitions; i++) p->expand_and_join(&signed_jobs[i % LISTS]);
     else
         for (unsigned i = 0; i < p->repetitions; i++) p->transpose(&p->operands[i % p->count]);
     return seconds() - start;
@@ -385,8 +396,13 @@ static double quicker_package(enum operation operation) {
     return least;
 }
 
+/* The calls on two channels, over those that stand beside them. */
+struct joined_ratios {
+    double join, expand_join;
+};
+
 /* The ratios that are held to a bound (docs/PERFORMANCE.md), the calls' at the most rows. */
-static void print_bounds(uint32_t m, double transposed) {
+static void print_bounds(uint32_t m, double transposed, struct joined_ratios joined) {
     printf("\nm = %" PRIu32 ", r = %d: the ratios that have a bound\n\n", m, MOST_ROWS);
     printf("| call | against | ratio | at most |\n|---|---|---:|---:|\n");
     for (size_t i = 0; i < CALLS; i++) {
@@ -400,6 +416,8 @@ static void print_bounds(uint32_t m, double transposed) {
         if (other > 0) printf("| %s | %s | %.2f | %.2f |\n", calls[i].name, against[calls[i].rival], own / other, calls[i].most);
     }
     printf("| transposed multiplication, at its greatest | whole product in C, cut | %.2f | %.2f |\n", transposed, MOST_FOR_TRANSPOSED);
+    printf("| join, at its greatest | the quickest of straightforward C, GMP and FLINT | %.2f | %.2f |\n", joined.join, MOST_FOR_JOIN);
+    printf("| expand_join | two Expands and a join of straightforward C | %.2f | %.2f |\n", joined.expand_join, MOST_FOR_EXPAND_JOIN);
 }
 
 /* The first family, whose c_1 is 0, held against the mean of the others, each timed by itself. Inverse looks at no family. */
@@ -477,6 +495,47 @@ static double print_transposed(uint32_t m, bool brief) {
     return greatest;
 }
 
+/* Two channels, the first of them m: lists of remainders joined, and curves expanded and joined. Answers the greatest of the ratios of join to
+ * the quickest beside it, best C left out, and that of expand_join to straightforward C at the most rows. */
+static struct joined_ratios print_joined(uint32_t m, uint32_t other, bool brief) {
+    static const size_t lengths[] = {128, MOST_JOINED}, rows[] = {15, MOST_ROWS};
+    struct joined_ratios ratios = {0, 0};
+    printf("\nm = %" PRIu32 " and %" PRIu32 ": microseconds for joining two lists of remainders, and the library's time over the others'\n\n", m, other);
+    printf("| length | library |");
+    for (size_t k = BEST_JOIN; k < JOINS; k++) printf(" %s | ratio |", join_ways[k].name);
+    printf(" but to best C at most |\n|---:|---:|");
+    for (size_t k = BEST_JOIN; k < JOINS; k++) printf("---:|---:|");
+    printf("---:|\n");
+    for (size_t i = 0; i < sizeof lengths / sizeof *lengths; i++) {
+        struct participant by[JOINS];
+        make_lists(m, other, lengths[i]);
+        for (size_t k = 0; k < JOINS; k++) by[k] = (struct participant){.join = join_ways[k].join};
+        measure(by, JOINS, brief);
+        printf("| %zu | %.3f |", lengths[i], by[OWN_JOIN].time * 1e6);
+        for (size_t k = BEST_JOIN; k < JOINS; k++) {
+            double ratio = by[OWN_JOIN].time / by[k].time;
+            printf(" %.3f | %.2f |", by[k].time * 1e6, ratio);
+            if (k != BEST_JOIN && ratio > ratios.join) ratios.join = ratio;
+        }
+        printf(" %.2f |\n", MOST_FOR_JOIN);
+    }
+    printf("\nm = %" PRIu32 " and %" PRIu32 ": microseconds for a curve expanded on both channels and joined\n\n| rows | library |", m, other);
+    for (size_t k = STRAIGHTFORWARD_EXPAND_JOIN; k < EXPAND_JOINS; k++) printf(" %s | ratio |", expand_join_ways[k].name);
+    printf(" to straightforward C, at most |\n|---:|---:|---:|---:|---:|---:|---:|\n");
+    for (size_t i = 0; i < sizeof rows / sizeof *rows; i++) {
+        struct participant by[EXPAND_JOINS];
+        make_signed_jobs(m, other, rows[i]);
+        for (size_t k = 0; k < EXPAND_JOINS; k++) by[k] = (struct participant){.expand_and_join = expand_join_ways[k].expand_and_join};
+        measure(by, EXPAND_JOINS, brief);
+        printf("| %zu | %.2f |", rows[i], by[OWN_EXPAND_JOIN].time * 1e6);
+        for (size_t k = STRAIGHTFORWARD_EXPAND_JOIN; k < EXPAND_JOINS; k++)
+            printf(" %.2f | %.2f |", by[k].time * 1e6, by[OWN_EXPAND_JOIN].time / by[k].time);
+        printf(" %.2f |\n", MOST_FOR_EXPAND_JOIN);
+        ratios.expand_join = by[OWN_EXPAND_JOIN].time / by[STRAIGHTFORWARD_EXPAND_JOIN].time;
+    }
+    return ratios;
+}
+
 static void time_all(uint32_t m, size_t r, bool brief) {
     for (size_t i = 0; i < CALLS; i++)
         participants[i] = (struct participant){.convert = calls[i].convert, .families = jobs, .count = FAMILIES};
@@ -489,10 +548,10 @@ static void time_all(uint32_t m, size_t r, bool brief) {
     print_records(m, r, brief);
     if (r != MOST_ROWS) return;
     print_zero_c_1(m, r, brief);
-    if (!brief)
-        print_bounds(m, print_transposed(m, brief));
-    else if (m == moduli[0])
-        print_transposed(m, brief);
+    if (brief && m != moduli[0]) return;
+    double transposed = print_transposed(m, brief);
+    struct joined_ratios joined = print_joined(m, m == moduli[0] ? moduli[1] : moduli[0], brief);
+    if (!brief) print_bounds(m, transposed, joined);
 }
 
 /* The second call is counted. A dump sets all counts to zero; this one is named by the modulus, the contestant and the operation, or
@@ -526,7 +585,7 @@ int main(int words, char **word) {
         return 2;
     }
     if (!counts)
-        printf("Each table stands after all in it gave equal answers on %d families, or %d sets of operands, which then take turns. The\n"
+        printf("Each table stands after all in it gave equal answers on %d families, or %d sets of operands or lists, which then take turns. The\n"
                "library's calls make all of their tests and the others none; transposed multiplication by itself has none. Those that go\n"
                "by a tree build it in each call. Buffers are not cleared between calls: a tree call clears its working list itself, and\n"
                "that is in its time. Times are processor time, %s.\n",

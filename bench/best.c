@@ -5,11 +5,15 @@
  * from division. A list has a zero before its first entry and zeros behind its last.
  *
  * Moments: by the product law moment j + k is the sum over i of d_i X_j[i] X_k[i], where X_k is the curve of x^k and d are the norms.
+ *
+ * Joining two channels: two entries at a time too. With the division of a machine where that is quick, one remainder for each entry, it takes
+ * some 20 percent longer.
  */
 #include <emmintrin.h>
 #include <string.h>
 
 #include "contest.h"
+#include "joined.h"
 
 enum { N = MOST_ROWS + 1, SPARE = 2, LIST = SPARE + N + 2 };
 
@@ -224,3 +228,26 @@ static void moments(const struct job *x, uint32_t *result) {
 }
 
 const struct contestant best = {"best C", {invert, expand, adjoint, decompose, norms, moments}};
+
+/* The value is the first remainder, and m1 as often as the second over m1, less the first over m1, modulo m2, says. */
+void join_by_best(struct lists *x) {
+    const struct modulus mod = modulus_of(x->m2);
+    const uint64_t over = inverse(x->m1 % x->m2, x->m2), under = x->m2 - over;
+    const int64_t m1_m2 = (int64_t)x->m1 * x->m2;
+    const __m128i by_first = both(&mod, (uint32_t)under), by_second = both(&mod, (uint32_t)over), m1 = _mm_set1_epi64x(x->m1);
+    const __m128i product = _mm_set1_epi64x(m1_m2), half = _mm_set1_epi64x(m1_m2 / 2), zero = _mm_setzero_si128();
+    size_t i = 0;
+    for (; i + 2 <= x->length; i += 2) {
+        __m128i first = _mm_unpacklo_epi32(_mm_loadl_epi64((const __m128i *)(x->first + i)), zero);
+        __m128i second = _mm_unpacklo_epi32(_mm_loadl_epi64((const __m128i *)(x->second + i)), zero);
+        __m128i factor = remainders(_mm_add_epi64(_mm_mul_epu32(second, by_second), _mm_mul_epu32(first, by_first)), &mod);
+        __m128i value = _mm_add_epi64(first, _mm_mul_epu32(factor, m1));
+        /* all ones where the value is above half: the upper half of a word has its sign */
+        __m128i above = _mm_shuffle_epi32(_mm_srai_epi32(_mm_sub_epi64(half, value), 31), 0xF5);
+        _mm_storeu_si128((__m128i *)(x->result + i), _mm_sub_epi64(value, _mm_and_si128(above, product)));
+    }
+    for (; i < x->length; i++) {
+        int64_t value = (int64_t)(x->first[i] + (x->second[i] * over + x->first[i] * under) % x->m2 * x->m1);
+        x->result[i] = 2 * value > m1_m2 ? value - m1_m2 : value;
+    }
+}

@@ -2,9 +2,11 @@
  *
  * The tree covers n rows, the least power of two. Level 0 are the pairs of rows; node i of level l covers 2^(l+1) rows. As in Figure 1 the
  * last node of each level is not built. Rows past the family are zero, and products with zero cost nothing. */
+#include <flint/fmpz.h>
 #include <flint/nmod_poly.h>
 
 #include "contest.h"
+#include "joined.h"
 #include "transposed.h"
 
 enum { LEVELS = 8, LEAVES = 1 << (LEVELS - 1) };
@@ -270,4 +272,15 @@ void transpose_by_flint(struct operands *x) {
         nmod_poly_mul(list, factors[0][0], factors[0][1]);
     for (size_t i = 0; i < x->length; i++)
         x->numbers[TERMS + i] = (uint32_t)nmod_poly_get_coeff_ui(list, (slong)(x->length - 1 + i));
+}
+
+/* The last argument asks for the value that is at most half of m1 m2, and above minus half of it. */
+void join_by_flint(struct lists *x) {
+    static fmpz_t m1, remainder, value; /* zeros, as fmpz_init makes them */
+    fmpz_set_ui(m1, x->m1);
+    for (size_t i = 0; i < x->length; i++) {
+        fmpz_set_ui(remainder, x->first[i]);
+        fmpz_CRT_ui(value, remainder, m1, x->second[i], x->m2, 1);
+        x->result[i] = fmpz_get_si(value);
+    }
 }

@@ -1,8 +1,10 @@
 /* The definitions in C as one would first write them: row by row, and each product that is added takes its remainder, so that a step of
- * Expand, Adjoint and Decompose has two: one in the recurrence, one in the sum. */
+ * Expand, Adjoint and Decompose has two: one in the recurrence, one in the sum. Joining two channels takes one inverse for a list, and two
+ * remainders for each entry. */
 #include <string.h>
 
 #include "contest.h"
+#include "joined.h"
 
 enum { N = MOST_ROWS + 1 };
 
@@ -106,3 +108,22 @@ static void moments(const struct job *x, uint32_t *result) {
 }
 
 const struct contestant straightforward = {"straightforward", {invert, expand, adjoint, decompose, norms, moments}};
+
+/* The value is the first remainder, and m1 as often as the difference over m1 modulo m2 says. */
+static int64_t joined(const struct lists *x, uint32_t first, uint64_t factor) {
+    int64_t product = (int64_t)x->m1 * x->m2, value = (int64_t)(first + factor * x->m1);
+    return 2 * value > product ? value - product : value;
+}
+
+static uint64_t difference(const struct lists *x, size_t i) { return x->second[i] + (uint64_t)x->m2 - x->first[i] % x->m2; }
+
+void join_by_wide_products(struct lists *x) {
+    uint64_t over = inverse(x->m1 % x->m2, x->m2);
+    for (size_t i = 0; i < x->length; i++)
+        x->result[i] = joined(x, x->first[i], (uint64_t)((unsigned __int128)difference(x, i) * over % x->m2));
+}
+
+void join_by_products(struct lists *x) {
+    uint64_t over = inverse(x->m1 % x->m2, x->m2);
+    for (size_t i = 0; i < x->length; i++) x->result[i] = joined(x, x->first[i], difference(x, i) * over % x->m2);
+}

@@ -7,7 +7,8 @@ product each, if the compiler makes one of it. A loop is a cycle of a function's
 of them stand around it: none, one, or more.
 
 Prints the counts in the form of the table. Fails if a count differs from the table, if a function is in one of them alone, if a
-function of ROWS has a division in more than one loop or one of PRODUCTS in any, and if a function's jumps cannot be followed.
+function of ROWS has a division in more than one loop or one of PRODUCTS in any, and if a function's jumps cannot be followed. That join
+has none in its loop over the remainders, beside that of Euclid's algorithm, euclid.c counts.
 """
 
 import re
@@ -47,6 +48,7 @@ ROWS = (
     "plain_calls::norms",
     "zahupnik_prepared_plain_expand",
     "zahupnik_prepared_plain_adjoint",
+    "zahupnik_join",
 )
 PRODUCTS = ("products::add_products", "products::transposed", "subproduct::descend", "record_check::record", "prepared::prepare")
 
@@ -204,7 +206,7 @@ def main():
         if counts != wanted.get(name, (0, 0, 0)):
             faults.append(f"{name} has {counts}, and in the table {wanted.get(name, 'it is not')}")
         if name in ROWS and counts[2] or name in PRODUCTS and any(counts[1:]):
-            faults.append(f"{name} has a division for each coefficient of a row or a product")
+            faults.append(f"{name} has a division for each coefficient of a row or a product, or Euclid's algorithm for each entry of a list")
     for fault in faults:
         print(f"divisions: {fault}", file=sys.stderr)
     if faults:

@@ -120,8 +120,7 @@ static struct list *some_list(struct random *random, struct lent *x) {
     return ONE_OF(random, lists);
 }
 
-/* A length that is not what it should be: near it, none, or any. */
-static size_t other_length(struct random *random, size_t length) {
+size_t other_length(struct random *random, size_t length) {
     switch (below(random, 4)) {
     case 0: return length + 1;
     case 1: return length ? length - 1 : 1;

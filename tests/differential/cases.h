@@ -16,6 +16,9 @@ struct lent make_case(struct random *random, enum operation operation, enum way 
  * as a list of make_case does. */
 void complete_case(struct random *random, struct lent *x);
 
+/* A length that is not what it should be: near it, none, or any up to 299. */
+size_t other_length(struct random *random, size_t length);
+
 /* A modulus in its range, and one that is not. */
 uint32_t some_modulus(struct random *random);
 uint32_t some_wrong_modulus(struct random *random);

@@ -2,18 +2,21 @@
  *
  * usage: differential [CASES [SEED [FIRST]]]
  *
- * Of the first 180,000 cases each twelfth is a sequence of up to 48 calls on a prepared family: 15,000 sequences. Of the first 1,100,000
- * others each eleventh is of write_job, and each of the rest is of any of the other ten calls on lists and texts. Those after them,
- * 4,550,000 if CASES is not stated, are of the five quick calls in turn. So each quick call has a million cases and more, each of the
- * others about 100,000, and the twelve on a prepared family have 370,000 together. What write_job wrote is read by the text call in the
+ * Of the first 720,000 cases each sixth is of a call on two channels, join and expand_join in turn: 120,000. Of the first 180,000 others
+ * each twelfth is a sequence of up to 48 calls on a prepared family: 15,000 sequences. Of the first 1,100,000 of the rest each eleventh is
+ * of write_job, and each of those left is of any of the other ten calls on lists and texts. Those after them, 4,550,000 if CASES is not
+ * stated, are of the five quick calls in turn. So each quick call has a million cases and more, the two on two channels have 60,000 each, the
+ * twelve on a prepared family 370,000 together, and each of the others about 100,000. What write_job wrote is read by the text call in the
  * same case.
  *
  * Compares the number and the record returned, all that a call writes, and that it writes nothing else (trial.h). Prints how many cases
  * each call had, how often it gave each answer, how often it finished with a c_1 that is 0 and with one that shares a factor with m, and
  * how often it was refused with 17, 10, 18 and 11 for a list that has zeros and shared factors both, so that the lowest row had to
- * decide; and exits 0. Shows the first case that differs and exits 1. It exits 1 too if some call never gave one of the answers that it
- * can give, if one on families never finished with such a c_1, or if one on lists was never refused so for such a list, unless FIRST, the
- * number of the first case, is stated. Bad arguments exit with 2.
+ * decide. Of a call on two channels, how often an answer was for the second channel or the second list, how often half of m1 m2 was handed
+ * out, and how often the coefficients were those over the whole numbers; and exits 0. Shows the first case that differs and exits 1. It
+ * exits 1 too if some call never gave one of the answers that it can give, on two channels for either of them, if one on families never
+ * finished with such a c_1, if one on lists was never refused so for such a list, or if half or whole numbers were never met, unless
+ * FIRST, the number of the first case, is stated. Bad arguments exit with 2.
  */
 #include <inttypes.h>
 #include <stdio.h>
@@ -21,14 +24,15 @@
 
 #include "cases.h"
 #include "job.h"
+#include "joining.h"
 #include "prepared.h"
 #include "text.h"
 #include "trial.h"
 #include "zahupnik.h"
 
-static const uint64_t SEQUENCES = 15000, ALL_CALLS = 1100000, QUICK_CALLS = 4550000, SEED = 20240229;
+static const uint64_t JOININGS = 120000, SEQUENCES = 15000, ALL_CALLS = 1100000, QUICK_CALLS = 4550000, SEED = 20240229;
 
-enum { ANSWERS = 19, QUICK = 5, EACH_SEQUENCE = 12, MOST_STEPS = 48 };
+enum { ANSWERS = 21, QUICK = 5, EACH_JOINING = 6, EACH_SEQUENCE = 12, MOST_STEPS = 48 };
 
 /* The refusals for which the lowest row decides. */
 static const int BY_LOWEST_ROW[] = {17, 10, 18, 11};
@@ -36,7 +40,9 @@ enum { BY_LOWEST_ROW_COUNT = sizeof BY_LOWEST_ROW / sizeof *BY_LOWEST_ROW };
 
 /* A call by its name in the header without zahupnik_, which answers it can give, how it is run on lists, how often it gave each
  * answer, and how often for a list with both kinds, whether it finished with so many rows, and how often with such a c_1. What writes a
- * text is not run on lists: its cases are run alone. Nor is what is on a prepared family: its cases are steps of a sequence. */
+ * text, or is on two channels, is not run on lists: its cases are run alone. Nor is what is on a prepared family: its cases are steps of a
+ * sequence. Of what is on two channels, the answers that are of one of them, how often each was of the second, and how often it handed
+ * out half of m1 m2 and whole coefficients. */
 struct call {
     const char *name;
     const char *answers;
@@ -48,6 +54,8 @@ struct call {
     unsigned long finished_with[KINDS_OF_FIRST_C];
     uint32_t (*run_alone)(struct trial *trial, struct random *random);
     step *run_step;
+    const char *of_either;
+    unsigned long met_second[ANSWERS], met_half, met_whole;
 };
 
 #define LIST(list) x->list.entries, x->list.length
@@ -70,40 +78,47 @@ RUN(tree_adjoint, FAMILY, LIST(curve), OUTPUT, WORK)
 RUN(tree_decompose, FAMILY, LIST(curve), OUTPUT, WORK)
 RUN(moments, FAMILY, OUTPUT, WORK)
 
-/* Answers: a sign for each number from 0 to 18, a point where the call cannot give it. The quick calls come first, and write_job comes
- * last of those that are not run in steps. Of those that are, the changes come first, in the order of their kinds. */
-#define ON_LISTS(call, can_give, operation, way) {#call, can_give, operation, way, call, {0}, {0}, {0}, {0}, NULL, NULL}
+/* Answers: a sign for each number from 0 to 20, a point where the call cannot give it. The quick calls come first, and write_job comes
+ * last of those that are not run in steps. Of those that are, the changes come first, in the order of their kinds. Those on two channels
+ * come last of all. */
+#define ON_LISTS(call, can_give, by, by_way) {.name = #call, .answers = can_give, .operation = by, .way = by_way, .run = call}
 #define ALONE(call, can_give, function) {.name = #call, .answers = can_give, .run_alone = function}
 #define IN_STEPS(call, can_give) {.name = #call, .answers = can_give, .run_step = call}
+#define JOINED(call, can_give, of_one, function) {.name = #call, .answers = can_give, .of_either = of_one, .run_alone = function}
 static struct call calls[] = {
-    ON_LISTS(invert, "0..3........CD.....", INVERSE, PLAIN),
-    ON_LISTS(plain_expand, "0..34567.9ABC....HI", EXPAND, PLAIN),
-    ON_LISTS(plain_adjoint, "0..34567.9ABC....HI", ADJOINT, PLAIN),
-    ON_LISTS(plain_decompose, "0..34567.9ABC....HI", DECOMPOSE, PLAIN),
-    ON_LISTS(norms, "0..345.7.9AB.....HI", NORMS, PLAIN),
-    ON_LISTS(tree_expand, "0..3456789ABC....HI", EXPAND, TREE),
-    ON_LISTS(tree_adjoint, "0..3456789ABC....HI", ADJOINT, TREE),
-    ON_LISTS(tree_decompose, "0..3456789ABC....HI", DECOMPOSE, TREE),
-    ON_LISTS(moments, "0..345.789AB.....HI", MOMENTS, TREE),
-    ALONE(convert_text, "0123456789ABC....HI", run_on_text),
-    ALONE(write_job, "0.234567.9ABC....HI", run_on_job),
-    IN_STEPS(prepared_empty, "0..3..............."),
-    IN_STEPS(prepared_append, "0....5...9AB..E..HI"),
-    IN_STEPS(prepared_drop_last, "0.............EF..."),
-    IN_STEPS(prepared_replace, "0........9AB..E.GHI"),
-    IN_STEPS(prepared_plain_expand, "0.....67....C.E...."),
-    IN_STEPS(prepared_plain_adjoint, "0.....67....C.E...."),
-    IN_STEPS(prepared_plain_decompose, "0.....67....C.E...."),
-    IN_STEPS(prepared_norms, "0......7......E...."),
-    IN_STEPS(prepared_tree_expand, "0.....678...C.E...."),
-    IN_STEPS(prepared_tree_adjoint, "0.....678...C.E...."),
-    IN_STEPS(prepared_tree_decompose, "0.....678...C.E...."),
-    IN_STEPS(prepared_moments, "0......78.....E...."),
+    ON_LISTS(invert, "0..3........CD.......", INVERSE, PLAIN),
+    ON_LISTS(plain_expand, "0..34567.9ABC....HI..", EXPAND, PLAIN),
+    ON_LISTS(plain_adjoint, "0..34567.9ABC....HI..", ADJOINT, PLAIN),
+    ON_LISTS(plain_decompose, "0..34567.9ABC....HI..", DECOMPOSE, PLAIN),
+    ON_LISTS(norms, "0..345.7.9AB.....HI..", NORMS, PLAIN),
+    ON_LISTS(tree_expand, "0..3456789ABC....HI..", EXPAND, TREE),
+    ON_LISTS(tree_adjoint, "0..3456789ABC....HI..", ADJOINT, TREE),
+    ON_LISTS(tree_decompose, "0..3456789ABC....HI..", DECOMPOSE, TREE),
+    ON_LISTS(moments, "0..345.789AB.....HI..", MOMENTS, TREE),
+    ALONE(convert_text, "0123456789ABC....HI..", run_on_text),
+    ALONE(write_job, "0.234567.9ABC....HI..", run_on_job),
+    IN_STEPS(prepared_empty, "0..3................."),
+    IN_STEPS(prepared_append, "0....5...9AB..E..HI.."),
+    IN_STEPS(prepared_drop_last, "0.............EF....."),
+    IN_STEPS(prepared_replace, "0........9AB..E.GHI.."),
+    IN_STEPS(prepared_plain_expand, "0.....67....C.E......"),
+    IN_STEPS(prepared_plain_adjoint, "0.....67....C.E......"),
+    IN_STEPS(prepared_plain_decompose, "0.....67....C.E......"),
+    IN_STEPS(prepared_norms, "0......7......E......"),
+    IN_STEPS(prepared_tree_expand, "0.....678...C.E......"),
+    IN_STEPS(prepared_tree_adjoint, "0.....678...C.E......"),
+    IN_STEPS(prepared_tree_decompose, "0.....678...C.E......"),
+    IN_STEPS(prepared_moments, "0......78.....E......"),
+    JOINED(join, "0..3...7....C......JK", "...3........C........", run_on_remainders),
+    JOINED(expand_join, "0..34567..AB.....HIJ.", "...3......AB.....HI..", run_on_two_channels),
 };
-enum { COUNT = sizeof calls / sizeof *calls, CHANGES = 4, OPERATIONS = 8, IN_NO_STEPS = COUNT - CHANGES - OPERATIONS };
-enum { WRITE_JOB = IN_NO_STEPS - 1 };
+enum { COUNT = sizeof calls / sizeof *calls, CHANGES = 4, OPERATIONS = 8, ON_TWO_CHANNELS = 2 };
+enum { IN_NO_STEPS = COUNT - CHANGES - OPERATIONS - ON_TWO_CHANNELS, WRITE_JOB = IN_NO_STEPS - 1, FIRST_JOINED = COUNT - ON_TWO_CHANNELS };
 
 static bool can_give(const struct call *call, int answer) { return call->answers[answer] != '.'; }
+
+/* Whether an answer is one of either channel, or of either list. */
+static bool is_of_either(const struct call *call, int answer) { return call->of_either && call->of_either[answer] != '.'; }
 
 static bool is_on_families(const struct call *call) { return can_give(call, 11) || can_give(call, 14); }
 
@@ -113,7 +128,10 @@ static bool is_on_rows(const struct call *call) { return can_give(call, 11) && !
 static void count(struct call *call, const struct trial *trial, uint32_t answer) {
     call->met[answer]++;
     call->met_mixed[answer] += trial->mixed;
+    call->met_second[answer] += trial->of_second;
     if (answer != 0) return;
+    call->met_half += trial->half;
+    call->met_whole += trial->whole;
     call->finished[trial->rows] = true;
     call->finished_with[trial->first_c]++;
 }
@@ -168,17 +186,31 @@ static void run_sequence(uint64_t seed, uint64_t number_of_case, struct random r
     }
 }
 
-/* The sequences are counted apart too. */
-static void run_case(uint64_t seed, uint64_t number_of_case) {
-    uint64_t sequences = number_of_case / EACH_SEQUENCE;
-    if (sequences < SEQUENCES && number_of_case % EACH_SEQUENCE == EACH_SEQUENCE - 1) {
-        run_sequence(seed, number_of_case, random_of_case(mixed(~seed), sequences));
-        return;
-    }
-    struct random random;
-    struct call *call = call_of_case(seed, number_of_case - (sequences < SEQUENCES ? sequences : SEQUENCES), &random);
+static void run_one(struct call *call, uint64_t seed, uint64_t number_of_case, struct random random) {
     struct trial trial = {.call = call->name, .seed = seed, .number_of_case = number_of_case};
     count(call, &trial, call->run ? run_on_lists(call, &trial, &random) : call->run_alone(&trial, &random));
+}
+
+/* Each of so many cases, up to a count of these, is of a kind that is counted apart: whether this one is, and how many of them and of the
+ * others come before it. */
+static bool is_apart(uint64_t number, uint64_t each, uint64_t most, uint64_t *apart, uint64_t *others) {
+    *apart = number / each < most ? number / each : most;
+    *others = number - *apart;
+    return *apart < most && number % each == each - 1;
+}
+
+/* The calls on two channels and the sequences are counted apart too, so that they move no other case. */
+static void run_case(uint64_t seed, uint64_t number_of_case) {
+    uint64_t joinings, sequences, others;
+    struct random random;
+    if (is_apart(number_of_case, EACH_JOINING, JOININGS, &joinings, &others)) {
+        run_one(&calls[FIRST_JOINED + joinings % ON_TWO_CHANNELS], seed, number_of_case, random_of_case(mixed(seed), joinings));
+    } else if (is_apart(others, EACH_SEQUENCE, SEQUENCES, &sequences, &others)) {
+        run_sequence(seed, number_of_case, random_of_case(mixed(~seed), sequences));
+    } else {
+        struct call *call = call_of_case(seed, others, &random);
+        run_one(call, seed, number_of_case, random);
+    }
 }
 
 /* How often something was met, where it can be. */
@@ -207,6 +239,18 @@ static void print_table(void) {
         printf(" %5d", numbers_of_rows);
         for (int kind = ZERO; kind <= SHARES_FACTOR; kind++) print_met(is_on_families(&calls[i]), calls[i].finished_with[kind]);
         for (int k = 0; k < BY_LOWEST_ROW_COUNT; k++) print_met(is_on_rows(&calls[i]), calls[i].met_mixed[BY_LOWEST_ROW[k]]);
+        printf("\n");
+    }
+}
+
+/* Of the calls on two channels, how often each answer that is of either of them was of the second, and what else is to be met. */
+static void print_second(void) {
+    for (size_t i = FIRST_JOINED; i < COUNT; i++) {
+        printf("%s: of the second channel or list", calls[i].name);
+        for (int answer = 0; answer < ANSWERS; answer++)
+            if (is_of_either(&calls[i], answer)) printf(" %d %lu times,", answer, calls[i].met_second[answer]);
+        printf(" half of m1 m2 handed out in %lu cases", calls[i].met_half);
+        if (is_on_rows(&calls[i])) printf(", coefficients found over the whole numbers in %lu", calls[i].met_whole);
         printf("\n");
     }
 }
@@ -246,9 +290,26 @@ static bool met_lowest_rows(const struct call *call) {
     return true;
 }
 
+/* Whether the call, if it is on two channels, gave each answer that is of one of them for either, and handed out half of m1 m2 and, if it
+ * expands, coefficients over the whole numbers, and others. */
+static bool met_either(const struct call *call) {
+    if (!call->of_either) return true;
+    for (int answer = 0; answer < ANSWERS; answer++) {
+        unsigned long second = call->met_second[answer];
+        if (is_of_either(call, answer) && (second == 0 || second == call->met[answer])) {
+            fprintf(stderr, "differential: no case of %s had the answer %d for the %s channel or list: take more cases\n", call->name, answer,
+                    second ? "first" : "second");
+            return false;
+        }
+    }
+    if (call->met_half && (!is_on_rows(call) || (call->met_whole && call->met_whole < call->met[0]))) return true;
+    fprintf(stderr, "differential: no case of %s had half of m1 m2, or whole coefficients, or others: take more cases\n", call->name);
+    return false;
+}
+
 static bool met_all(void) {
     for (size_t i = 0; i < COUNT; i++)
-        if (!met_answers(&calls[i]) || !met_first_c(&calls[i]) || !met_lowest_rows(&calls[i])) return false;
+        if (!met_answers(&calls[i]) || !met_first_c(&calls[i]) || !met_lowest_rows(&calls[i]) || !met_either(&calls[i])) return false;
     return true;
 }
 
@@ -271,11 +332,12 @@ int main(int argc, char **argv) {
         fprintf(stderr, "usage: differential [CASES [SEED [FIRST]]]\n");
         return 2;
     }
-    uint64_t cases = argument(argc, argv, 1, SEQUENCES + ALL_CALLS + QUICK_CALLS);
+    uint64_t cases = argument(argc, argv, 1, JOININGS + SEQUENCES + ALL_CALLS + QUICK_CALLS);
     uint64_t seed = argument(argc, argv, 2, SEED), first = argument(argc, argv, 3, 0);
     prepare_trials(WORK_ROOM * sizeof(uint32_t));
     for (uint64_t i = 0; i < cases; i++) run_case(seed, first + i);
     print_table();
+    print_second();
     if (argc < 4 && !met_all()) return 1;
     printf("differential: %" PRIu64 " cases agree, seed %" PRIu64 "\n", cases, seed);
     return 0;

@@ -57,7 +57,7 @@ uint32_t run_on_job(struct trial *trial, struct random *random) {
     if (trial->number == 0) job_length = write_job(&x, job);
     struct lent lent = lend_lists(trial, random, &x);
     const void *before = dirt(random, x.output_length);
-    uint8_t *output = lend(trial, random, (struct lending){"output", 1, before, x.output_length, job, job_length, 0});
+    uint8_t *output = lend(trial, random, (struct lending){"output", BYTES, before, x.output_length, job, job_length, 0});
     uint32_t *length = lend_numbers(trial, random, "length", 1, &job_length, 1);
     compare(trial, zahupnik_write_job(x.m, LIST(a), LIST(b), LIST(c), operation, LIST(curve), output, x.output_length, length));
     if (trial->number == 0) {

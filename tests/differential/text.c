@@ -10,8 +10,8 @@ void hold_text_call(struct trial *trial, struct random *random, const uint8_t *t
     uint8_t answer[ANSWER_ROOM];
     uint32_t answer_length = trial->number ? 0 : write_answer(x, answer);
     const void *before = dirt(random, x->output_length);
-    uint8_t *lent = lend(trial, random, (struct lending){"text", 1, text, length, NULL, 0, 0});
-    uint8_t *output = lend(trial, random, (struct lending){"output", 1, before, x->output_length, answer, answer_length, 0});
+    uint8_t *lent = lend(trial, random, (struct lending){"text", BYTES, text, length, NULL, 0, 0});
+    uint8_t *output = lend(trial, random, (struct lending){"output", BYTES, before, x->output_length, answer, answer_length, 0});
     uint32_t *work = lend_numbers(trial, random, "working list", x->work_length, zeros, LEAST_WORK);
     uint32_t *counted = lend_numbers(trial, random, "length", 1, &answer_length, 1);
     compare(trial, zahupnik_convert_text(lent, length, output, x->output_length, work, x->work_length, counted));

@@ -19,20 +19,32 @@ static const struct trial *volatile running;
 
 static const char *plural(size_t count) { return count == 1 ? "" : "s"; }
 
-static uint32_t number_at(const void *numbers, size_t width, size_t place) {
-    return width == 1 ? ((const unsigned char *)numbers)[place] : ((const uint32_t *)numbers)[place];
+static size_t width_of(enum numbers kind) {
+    static const size_t widths[] = {[BYTES] = 1, [NUMBERS] = 4, [SIGNED_NUMBERS] = 4, [WIDE_NUMBERS] = 8};
+    return widths[kind];
+}
+
+/* What is lent before a call begins at a multiple of 4 bytes. */
+static int64_t number_at(const void *numbers, enum numbers kind, size_t place) {
+    int64_t wide;
+    switch (kind) {
+    case BYTES: return ((const unsigned char *)numbers)[place];
+    case NUMBERS: return ((const uint32_t *)numbers)[place];
+    case SIGNED_NUMBERS: return ((const int32_t *)numbers)[place];
+    default: memcpy(&wide, (const unsigned char *)numbers + place * sizeof wide, sizeof wide); return wide;
+    }
 }
 
 /* A byte of a text as it is written in C, a number in decimal. */
-static void show(const void *numbers, size_t width, size_t length) {
+static void show(const void *numbers, enum numbers kind, size_t length) {
     for (size_t i = 0; i < length; i++) {
-        uint32_t number = number_at(numbers, width, i);
-        if (width != 1)
-            fprintf(stderr, " %" PRIu32, number);
+        int64_t number = number_at(numbers, kind, i);
+        if (kind != BYTES)
+            fprintf(stderr, " %" PRId64, number);
         else if (number == '\n')
             fprintf(stderr, "\\n");
         else if (number < ' ' || number > '~' || number == '\\' || number == '"')
-            fprintf(stderr, "\\%03" PRIo32, number);
+            fprintf(stderr, "\\%03o", (unsigned)number);
         else
             fprintf(stderr, "%c", (int)number);
     }
@@ -46,7 +58,7 @@ static void show_record(struct record *record) {
         struct record_list list = record_list(record, i);
         while (list.length && !list.places[list.length - 1]) list.length--;
         fprintf(stderr, "  %s", list.name);
-        show(list.places, sizeof *list.places, list.length);
+        show(list.places, NUMBERS, list.length);
     }
 }
 
@@ -65,16 +77,17 @@ static void show_case(const struct trial *trial) {
         show_record(trial->handed);
     }
     if (trial->change) show_change(trial->change);
-    if (trial->m) fprintf(stderr, " m %" PRIu32 "\n", *trial->m);
+    if (trial->m) fprintf(stderr, " m%s %" PRIu32 "\n", trial->second_m ? "1" : "", *trial->m);
+    if (trial->second_m) fprintf(stderr, " m2 %" PRIu32 "\n", *trial->second_m);
     if (trial->operation) fprintf(stderr, " operation %" PRIu32 "\n", *trial->operation);
     for (size_t i = 0; i < trial->lendings; i++) {
         const struct lending *x = &trial->lending[i];
-        fprintf(stderr, " %s, %zu %s%s", x->name, x->length, x->width == 1 ? "byte" : "number", plural(x->length));
+        fprintf(stderr, " %s, %zu %s%s", x->name, x->length, x->numbers == BYTES ? "byte" : "number", plural(x->length));
         if (x->front) {
             fprintf(stderr, "\n");
         } else {
-            fprintf(stderr, x->width == 1 ? ": " : ":");
-            show(x->before, x->width, x->length);
+            fprintf(stderr, x->numbers == BYTES ? ": " : ":");
+            show(x->before, x->numbers, x->length);
         }
     }
 }
@@ -142,7 +155,7 @@ void note_family(struct trial *trial, const struct lent *x) {
 void watch(const struct trial *trial) { running = trial; }
 
 void *lend(struct trial *trial, struct random *random, struct lending lending) {
-    size_t place = trial->lendings++, bytes = lending.length * lending.width;
+    size_t place = trial->lendings++, bytes = lending.length * width_of(lending.numbers);
     trial->lending[place] = lending;
     trial->at[place] = NULL;
     if (bytes || one_in(random, 2)) {
@@ -155,7 +168,7 @@ void *lend(struct trial *trial, struct random *random, struct lending lending) {
 }
 
 struct list lend_list(struct trial *trial, struct random *random, const char *name, struct list list) {
-    struct lending lending = {name, sizeof *list.entries, list.entries, list.length, NULL, 0, 0};
+    struct lending lending = {name, NUMBERS, list.entries, list.length, NULL, 0, 0};
     return (struct list){lend(trial, random, lending), list.length};
 }
 
@@ -173,12 +186,12 @@ struct lent lend_lists(struct trial *trial, struct random *random, const struct 
 uint32_t *lend_numbers(struct trial *trial, struct random *random, const char *name, size_t length, const uint32_t *front,
                        size_t front_length) {
     const void *before = dirt(random, length * sizeof *front);
-    return lend(trial, random, (struct lending){name, sizeof *front, before, length, front, front_length, 0});
+    return lend(trial, random, (struct lending){name, NUMBERS, before, length, front, front_length, 0});
 }
 
 uint32_t *lend_factor(struct trial *trial, struct random *random, const uint32_t *factor) {
     const void *before = dirt(random, sizeof *factor);
-    return lend(trial, random, (struct lending){"factor", sizeof *factor, before, 1, factor, 1, 13});
+    return lend(trial, random, (struct lending){"factor", NUMBERS, before, 1, factor, 1, 13});
 }
 
 static void show_returned(const char *which, uint32_t number) {
@@ -188,21 +201,21 @@ static void show_returned(const char *which, uint32_t number) {
 /* Shows the first number that differs, and all of them if they are few enough to be read. */
 static void show_difference(const struct lending *x, const unsigned char *at, size_t front_length) {
     size_t i = 0, shown = front_length ? front_length : x->length;
-    uint32_t expected = 0, got = 0;
+    int64_t expected = 0, got = 0;
     for (; i < x->length && expected == got; i++) {
-        expected = i < front_length ? number_at(x->front, x->width, i) : number_at(x->before, x->width, i);
-        got = number_at(at, x->width, i);
+        expected = number_at(i < front_length ? x->front : x->before, x->numbers, i);
+        got = number_at(at, x->numbers, i);
     }
     if (expected == got) {
         fprintf(stderr, " %s: what stands before it was written over\n", x->name);
         return;
     }
-    fprintf(stderr, " %s: differs first at place %zu, expected %" PRIu32 ", got %" PRIu32 "\n", x->name, i - 1, expected, got);
+    fprintf(stderr, " %s: differs first at place %zu, expected %" PRId64 ", got %" PRId64 "\n", x->name, i - 1, expected, got);
     if (shown > 6000) return;
-    fprintf(stderr, "  expected%s", x->width == 1 ? " " : "");
-    show(front_length ? x->front : x->before, x->width, shown);
-    fprintf(stderr, "  got%s", x->width == 1 ? " " : "");
-    show(at, x->width, shown);
+    fprintf(stderr, "  expected%s", x->numbers == BYTES ? " " : "");
+    show(front_length ? x->front : x->before, x->numbers, shown);
+    fprintf(stderr, "  got%s", x->numbers == BYTES ? " " : "");
+    show(at, x->numbers, shown);
 }
 
 /* How many numbers at the front a call writes that returns this number. */
@@ -211,7 +224,7 @@ static size_t written(const struct lending *x, uint32_t number) {
 }
 
 static bool holds(const struct lending *x, const unsigned char *at, size_t front_length) {
-    size_t front = front_length * x->width, all = x->length * x->width;
+    size_t width = width_of(x->numbers), front = front_length * width, all = x->length * width;
     if (!at) return true;
     return memcmp(at - ZONE, untouched, ZONE) == 0 && (!front || memcmp(at, x->front, front) == 0) &&
            (all == front || memcmp(at + front, (const unsigned char *)x->before + front, all - front) == 0);

@@ -14,12 +14,15 @@
 
 enum { MOST_LENDINGS = 6 };
 
-/* Numbers that are lent: how many, of how many bytes each, and what they are before the call. When a call has finished, the
+/* What is lent: the bytes of a text, numbers of 32 bits without a sign or with one, or numbers of 64 bits with a sign. */
+enum numbers { BYTES, NUMBERS, SIGNED_NUMBERS, WIDE_NUMBERS };
+
+/* Numbers that are lent: which, how many, and what they are before the call. When a call has finished, the
  * first of what it may write are those at front; the others are as before, and so are all of them when it is refused, unless it is with
  * the one number that writes them too, if that is not 0. What it may not write has no front. */
 struct lending {
     const char *name;
-    size_t width;
+    enum numbers numbers;
     const void *before;
     size_t length;
     const void *front;
@@ -30,21 +33,23 @@ struct lending {
 /* What a family's c_1 is: it has an inverse, or there is no row; it is 0; it is another number that shares a factor with m. */
 enum first_c { INVERTIBLE, ZERO, SHARES_FACTOR, KINDS_OF_FIRST_C };
 
-/* A case of a call, or a step of one that is a sequence. Number is what it has to return; a text has no m of its own, and only
- * write_job is told the number of an operation. Rows says how long its family is, and mixed, where it is refused for a or for c, whether
- * that list has zeros and other numbers without an inverse both. A call on a record is handed one; a change has returned one besides,
- * and has to return the one wanted. */
+/* A case of a call, or a step of one that is a sequence. Number is what it has to return; a text has no m of its own, a call on two
+ * channels has a second one, and only write_job is told the number of an operation. Rows says how long its family is, and mixed, where it
+ * is refused for a or for c, whether that list has zeros and other numbers without an inverse both. Of a call on two channels, of_second
+ * says whether it is refused for the second of them or the second list, half whether it hands out half of m1 m2, and whole whether all that
+ * it hands out was found over the whole numbers. A call on a record is handed one; a change has returned one besides, and has to return
+ * the one wanted. */
 struct trial {
     const char *call;
     uint64_t seed, number_of_case;
     uint32_t step;
-    const uint32_t *m, *operation;
+    const uint32_t *m, *second_m, *operation;
     const struct change *change;
     struct record *handed, *wanted, *returned;
     uint32_t number;
     size_t rows, lendings;
     enum first_c first_c;
-    bool mixed;
+    bool mixed, of_second, half, whole;
     struct lending lending[MOST_LENDINGS];
     unsigned char *at[MOST_LENDINGS];
 };

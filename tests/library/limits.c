@@ -18,9 +18,9 @@ enum { JOB_ROOM = ZAHUPNIK_LEAST_JOB_OUTPUT + 3, LONGEST_JOB = 5635 };
 static const char paper_job[] = "mod=7\na=1 2\nb=0 3\nc=1 5\nop=expand\nv=3 0 1\n";
 static unsigned long cases;
 
-static void expect(const char *function, const char *with, const char *what, uint32_t given, uint32_t wanted) {
+static void expect(const char *function, const char *with, const char *what, int64_t given, int64_t wanted) {
     if (given != wanted) {
-        fprintf(stderr, "limits: %s with %s: %s is %" PRIu32 " and not %" PRIu32 "\n", function, with, what, given, wanted);
+        fprintf(stderr, "limits: %s with %s: %s is %" PRId64 " and not %" PRId64 "\n", function, with, what, given, wanted);
         exit(1);
     }
 }
@@ -530,6 +530,304 @@ static void on_text(void) {
     answers("a byte more", text, most + 1, bytes, work, ZAHUPNIK_TEXT_TOO_LONG, "");
 }
 
+/* ---- two channels */
+
+enum { LONG_LIST = 100000, UNCHANGED = 3 };
+
+/* What a call on two channels is lent. */
+struct channels {
+    uint32_t m1, m2, first[ROOM], second[ROOM];
+    int32_t a[ROOM], b[ROOM], c[ROOM], curve[ROOM];
+    size_t first_length, second_length, a_length, b_length, c_length, curve_length, output_length;
+};
+
+/* An input that both calls take: rows 1 1 1 and a curve of ones, and remainders 1, one for each entry of the curve. */
+static struct channels channels_of(size_t rows) {
+    struct channels x = {.m1 = 7, .m2 = 15, .a_length = rows, .b_length = rows, .c_length = rows, .curve_length = rows + 1};
+    x.first_length = x.second_length = x.output_length = rows + 1;
+    for (size_t i = 0; i < ROOM; i++) {
+        x.first[i] = x.second[i] = 1;
+        x.a[i] = x.b[i] = x.c[i] = x.curve[i] = 1;
+    }
+    return x;
+}
+
+static uint32_t remainder_of(int64_t number, uint32_t m) {
+    int64_t rest = number % (int64_t)m;
+    return (uint32_t)(rest < 0 ? rest + m : rest);
+}
+
+/* v leaves both remainders and has 2 v greater than -(m1 m2) and at most m1 m2: so it is the joined value. */
+static void is_joined(const char *function, const char *with, int64_t v, uint32_t m1, uint32_t x, uint32_t m2, uint32_t y) {
+    const int64_t product = (int64_t)m1 * m2, least = -((product - 1) / 2), greatest = product / 2;
+    expect(function, with, "the remainder modulo m1", remainder_of(v, m1), x);
+    expect(function, with, "the remainder modulo m2", remainder_of(v, m2), y);
+    expect(function, with, "that it is in the range of a joined value", least <= v && v <= greatest, 1);
+}
+
+static uint32_t join(const struct channels *x, int64_t *output) {
+    return zahupnik_join(x->m1, x->m2, x->first, x->first_length, x->second, x->second_length, output, x->output_length);
+}
+
+static uint32_t expand_join(const struct channels *x, int64_t *output) {
+    return zahupnik_expand_join(x->m1, x->m2, x->a, x->a_length, x->b, x->b_length, x->c, x->c_length, x->curve, x->curve_length,
+                                output, x->output_length);
+}
+
+/* What plain_expand makes of the remainders modulo a channel number. */
+static void expand_modulo(uint32_t m, const struct channels *x, uint32_t *list) {
+    struct input rows = {.m = m};
+    for (size_t i = 0; i < ROOM; i++) {
+        rows.a[i] = remainder_of(x->a[i], m);
+        rows.b[i] = remainder_of(x->b[i], m);
+        rows.c[i] = remainder_of(x->c[i], m);
+        rows.curve[i] = remainder_of(x->curve[i], m);
+    }
+    rows.a_length = rows.b_length = rows.c_length = x->a_length;
+    rows.curve_length = rows.output_length = x->a_length + 1;
+    expect("plain_expand", "the remainders of a channel", "the number returned", plain_expand(&rows, list, NULL), ZAHUPNIK_FINISHED);
+}
+
+/* The call returns the number. What it leaves is the joined list; or what was there, if it refuses; and past the output what was there. */
+static void joins(const char *function, const char *with, const struct channels *x, uint32_t number) {
+    const int expands = !strcmp(function, "expand_join");
+    int64_t output[ROOM + UNCHANGED];
+    uint32_t first[ROOM], second[ROOM];
+    size_t written = number == ZAHUPNIK_FINISHED ? x->output_length : 0;
+    for (size_t i = 0; i < ROOM + UNCHANGED; i++) output[i] = INT64_MAX - (int64_t)i;
+    expect(function, with, "the number returned", (expands ? expand_join : join)(x, output), number);
+    for (size_t i = written; i < ROOM + UNCHANGED; i++)
+        expect(function, with, "an entry that is not to be written", output[i], INT64_MAX - (int64_t)i);
+    if (expands && written) {
+        expand_modulo(x->m1, x, first);
+        expand_modulo(x->m2, x, second);
+    }
+    for (size_t i = 0; i < written; i++)
+        is_joined(function, with, output[i], x->m1, expands ? first[i] : x->first[i], x->m2, expands ? second[i] : x->second[i]);
+    cases++;
+}
+
+/* Changed in one thing or more, an input of some rows gives the number. */
+#define JOINS(function, number, rows, change)                                \
+    do {                                                                     \
+        struct channels x = channels_of(rows);                               \
+        change;                                                              \
+        joins(function, #rows " rows, " #change, &x, ZAHUPNIK_##number);     \
+    } while (0)
+
+/* The channel numbers: 3 of the first, 3 of the second, 19, before all else that may be wrong. */
+static void on_channel_numbers(const char *function) {
+    const uint32_t wrong[] = {0, 1, ZAHUPNIK_GREATEST_MODULUS + 1, UINT32_MAX};
+    for (size_t i = 0; i < sizeof wrong / sizeof *wrong; i++) {
+        JOINS(function, MODULUS, 2, x.m1 = wrong[i]);
+        JOINS(function, MODULUS, 2, x.m2 = wrong[i]);
+        JOINS(function, MODULUS, 2, x.m1 = x.m2 = wrong[i]);
+        JOINS(function, MODULUS, 2, (x.m1 = wrong[i], x.a_length = x.second_length = x.output_length = x.curve_length = 0));
+        JOINS(function, MODULUS, 2, (x.m2 = wrong[i], x.a_length = x.second_length = x.output_length = x.curve_length = 0));
+    }
+    JOINS(function, FINISHED, 2, x.m1 = 2);
+    JOINS(function, FINISHED, 2, x.m2 = 2);
+    JOINS(function, FINISHED, 2, (x.m1 = 3, x.m2 = 2));
+    JOINS(function, FINISHED, 2, x.m1 = ZAHUPNIK_GREATEST_MODULUS);
+    JOINS(function, FINISHED, 2, x.m2 = ZAHUPNIK_GREATEST_MODULUS);
+    JOINS(function, FINISHED, 2, (x.m1 = ZAHUPNIK_GREATEST_MODULUS, x.m2 = ZAHUPNIK_GREATEST_MODULUS - 1));
+    JOINS(function, FINISHED, 2, (x.m1 = 1073741824, x.m2 = ZAHUPNIK_GREATEST_MODULUS));
+    JOINS(function, FINISHED, 2, (x.m1 = 4, x.m2 = 9));
+    JOINS(function, SHARED_FACTOR, 2, x.m1 = 15);
+    JOINS(function, SHARED_FACTOR, 2, x.m1 = 5);
+    JOINS(function, SHARED_FACTOR, 2, x.m1 = 45);
+    JOINS(function, SHARED_FACTOR, 2, x.m1 = 6);
+    JOINS(function, SHARED_FACTOR, 2, x.m2 = 14);
+    JOINS(function, SHARED_FACTOR, 2, (x.m1 = x.m2 = ZAHUPNIK_GREATEST_MODULUS));
+    JOINS(function, SHARED_FACTOR, 2, (x.m1 = 1073741824, x.m2 = ZAHUPNIK_GREATEST_MODULUS - 1));
+    JOINS(function, SHARED_FACTOR, 2, (x.m1 = x.m2 = 2));
+    JOINS(function, SHARED_FACTOR, 2, (x.m1 = 6, x.a_length = x.second_length = x.output_length = x.curve_length = 0));
+}
+
+static void on_join(void) {
+    static const char f[] = "join";
+    on_channel_numbers(f);
+    JOINS(f, FINISHED, 0, x.first_length = x.second_length = x.output_length = 0);
+    JOINS(f, FINISHED, ZAHUPNIK_MOST_ROWS + 1, x.m1 = 2);
+    JOINS(f, REMAINDERS, 2, x.first_length--);
+    JOINS(f, REMAINDERS, 2, x.first_length++);
+    JOINS(f, REMAINDERS, 2, x.second_length--);
+    JOINS(f, REMAINDERS, 2, x.second_length++);
+    JOINS(f, REMAINDERS, 2, x.first_length = 0);
+    JOINS(f, REMAINDERS, 2, x.second_length = 0);
+    JOINS(f, REMAINDERS, 2, (x.second_length++, x.output_length++));
+    JOINS(f, REMAINDERS, 2, (x.second_length++, x.output_length = 0));
+    JOINS(f, REMAINDERS, 2, (x.second_length++, x.first[0] = 7));
+    JOINS(f, REMAINDERS, 2, (x.second_length++, x.second[0] = 15));
+    JOINS(f, OUTPUT_LENGTH, 2, x.output_length = 0);
+    JOINS(f, OUTPUT_LENGTH, 2, x.output_length--);
+    JOINS(f, OUTPUT_LENGTH, 2, x.output_length++);
+    JOINS(f, OUTPUT_LENGTH, 0, x.first_length = x.second_length = 0);
+    JOINS(f, OUTPUT_LENGTH, 2, (x.output_length++, x.first[0] = 7));
+    JOINS(f, OUTPUT_LENGTH, 2, (x.output_length++, x.second[0] = 15));
+    JOINS(f, FINISHED, 2, (x.first[0] = x.first[2] = 6, x.second[0] = x.second[2] = 14));
+    JOINS(f, CURVE_ENTRY, 2, x.first[0] = 7);
+    JOINS(f, CURVE_ENTRY, 2, x.first[2] = 7);
+    JOINS(f, CURVE_ENTRY, 2, x.first[2] = 14);
+    JOINS(f, CURVE_ENTRY, 2, x.first[1] = UINT32_MAX);
+    JOINS(f, CURVE_ENTRY, 2, x.second[0] = 15);
+    JOINS(f, CURVE_ENTRY, 2, x.second[2] = 15);
+    JOINS(f, CURVE_ENTRY, 2, x.second[1] = UINT32_MAX);
+    JOINS(f, CURVE_ENTRY, 2, (x.m1 = 15, x.m2 = 7, x.second[2] = 14));
+    JOINS(f, CURVE_ENTRY, 2, (x.first[2] = 7, x.second[0] = 15));
+}
+
+/* The numbers of a row without an inverse modulo 7 are the multiples of 7: zeros. Modulo 15 there are zeros and others. */
+static void on_expand_join(void) {
+    static const char f[] = "expand_join";
+    const size_t most = ZAHUPNIK_MOST_ROWS;
+    on_channel_numbers(f);
+    JOINS(f, LENGTHS, 2, x.a_length = 1);
+    JOINS(f, LENGTHS, 2, x.b_length = 3);
+    JOINS(f, LENGTHS, 2, x.c_length = 0);
+    JOINS(f, LENGTHS, ZAHUPNIK_MOST_ROWS + 1, (x.b_length--, x.curve_length = x.output_length = 0));
+    JOINS(f, LENGTHS, 2, (x.c_length--, x.a[0] = 0));
+    JOINS(f, FINISHED, 0, x.a[0] = 0);
+    JOINS(f, FINISHED, ZAHUPNIK_MOST_ROWS, x.b[most - 1] = -1);
+    JOINS(f, ROWS, ZAHUPNIK_MOST_ROWS + 1, x.m1 = 2);
+    JOINS(f, ROWS, ZAHUPNIK_MOST_ROWS + 1, (x.curve_length = x.output_length = 0, x.a[0] = 0));
+    JOINS(f, CURVE_LENGTH, 2, x.curve_length--);
+    JOINS(f, CURVE_LENGTH, 2, x.curve_length++);
+    JOINS(f, CURVE_LENGTH, 0, x.curve_length = 0);
+    JOINS(f, CURVE_LENGTH, 2, (x.curve_length--, x.output_length--, x.a[0] = 0));
+    JOINS(f, OUTPUT_LENGTH, 2, x.output_length = 0);
+    JOINS(f, OUTPUT_LENGTH, 2, x.output_length--);
+    JOINS(f, OUTPUT_LENGTH, 2, x.output_length++);
+    JOINS(f, OUTPUT_LENGTH, 2, (x.output_length++, x.a[0] = 0));
+
+    /* any number is taken: there is no 9 and no 12 */
+    JOINS(f, FINISHED, 2, x.a[1] = x.b[1] = x.c[1] = x.curve[1] = INT32_MIN);
+    JOINS(f, FINISHED, 2, x.a[1] = x.b[1] = x.c[1] = x.curve[1] = INT32_MAX);
+    JOINS(f, FINISHED, 2, x.a[1] = x.b[1] = x.c[1] = x.curve[1] = -1);
+    JOINS(f, FINISHED, 2, x.a[1] = x.b[1] = x.c[1] = x.curve[1] = 106);
+    JOINS(f, FINISHED, 2, (x.b[1] = x.curve[2] = 0, x.b[0] = -7, x.curve[1] = -15));
+    JOINS(f, FINISHED, 2, (x.m1 = ZAHUPNIK_GREATEST_MODULUS, x.a[1] = x.curve[0] = INT32_MIN));
+    JOINS(f, FINISHED, 2, (x.m2 = ZAHUPNIK_GREATEST_MODULUS, x.c[1] = x.curve[2] = INT32_MIN));
+
+    JOINS(f, A_ZERO, 2, x.a[0] = 0);
+    JOINS(f, A_ZERO, 2, x.a[1] = 7);
+    JOINS(f, A_ZERO, 2, x.a[1] = -7);
+    JOINS(f, A_ZERO, 2, x.a[1] = INT32_MIN + 2);
+    JOINS(f, A_ZERO, 2, x.a[1] = 15);
+    JOINS(f, A_ZERO, 2, x.a[1] = -15);
+    JOINS(f, A_ZERO, 2, (x.m1 = ZAHUPNIK_GREATEST_MODULUS, x.a[1] = INT32_MAX));
+    JOINS(f, A_ZERO, 2, (x.m2 = ZAHUPNIK_GREATEST_MODULUS, x.a[1] = -INT32_MAX));
+    JOINS(f, A_ZERO, 2, (x.m1 = 1073741824, x.a[1] = INT32_MIN));
+    JOINS(f, A_INVERSE, 2, x.a[0] = 6);
+    JOINS(f, A_INVERSE, 2, x.a[1] = -6);
+    JOINS(f, A_INVERSE, 2, (x.m1 = 15, x.m2 = 7, x.a[1] = -10));
+    JOINS(f, C_ZERO, 2, x.c[1] = 0);
+    JOINS(f, C_ZERO, 2, x.c[1] = -7);
+    JOINS(f, C_ZERO, 2, x.c[1] = 30);
+    JOINS(f, C_INVERSE, 2, x.c[1] = 6);
+    JOINS(f, C_INVERSE, 2, (x.m1 = 15, x.m2 = 7, x.c[1] = -10));
+    JOINS(f, A_ZERO, ZAHUPNIK_MOST_ROWS, x.a[most - 1] = -15);
+    JOINS(f, A_INVERSE, ZAHUPNIK_MOST_ROWS, x.a[most - 1] = -5);
+    JOINS(f, C_ZERO, ZAHUPNIK_MOST_ROWS, x.c[most - 1] = -15);
+    JOINS(f, C_INVERSE, ZAHUPNIK_MOST_ROWS, x.c[most - 1] = -5);
+
+    /* c of row 1 is not looked at */
+    JOINS(f, FINISHED, 1, x.c[0] = 0);
+    JOINS(f, FINISHED, 2, x.c[0] = -7);
+    JOINS(f, FINISHED, 2, x.c[0] = 6);
+    JOINS(f, FINISHED, ZAHUPNIK_MOST_ROWS, x.c[0] = 15);
+    JOINS(f, C_INVERSE, 2, (x.c[0] = 0, x.c[1] = 6));
+    JOINS(f, C_ZERO, 2, (x.c[0] = 6, x.c[1] = 15));
+
+    /* of a channel's rows without an inverse the lowest says why */
+    JOINS(f, A_INVERSE, 3, (x.a[1] = 6, x.a[2] = 15));
+    JOINS(f, A_ZERO, 3, (x.a[1] = 15, x.a[2] = 6));
+    JOINS(f, C_INVERSE, 3, (x.c[1] = 6, x.c[2] = 15));
+    JOINS(f, C_ZERO, 3, (x.c[1] = 15, x.c[2] = 6));
+    JOINS(f, A_INVERSE, 3, (x.m1 = 15, x.m2 = 7, x.a[1] = 6, x.a[2] = 15));
+    JOINS(f, A_ZERO, 3, (x.m1 = 15, x.m2 = 7, x.a[1] = 15, x.a[2] = 6));
+
+    /* the first channel before the second, whichever row is lower, and the a of both before the c of either */
+    JOINS(f, A_ZERO, 2, (x.a[0] = 6, x.a[1] = 7));
+    JOINS(f, A_INVERSE, 2, (x.m1 = 15, x.m2 = 7, x.a[0] = 7, x.a[1] = 6));
+    JOINS(f, C_ZERO, 3, (x.c[1] = 6, x.c[2] = 7));
+    JOINS(f, C_INVERSE, 3, (x.m1 = 15, x.m2 = 7, x.c[1] = 7, x.c[2] = 6));
+    JOINS(f, A_INVERSE, 2, (x.a[1] = 6, x.c[1] = 7));
+    JOINS(f, A_ZERO, 2, (x.m1 = 15, x.m2 = 7, x.a[1] = 7, x.c[1] = 6));
+    JOINS(f, A_ZERO, 2, (x.a[1] = 7, x.c[1] = 6));
+    JOINS(f, A_INVERSE, 2, (x.m1 = 15, x.m2 = 7, x.a[1] = 6, x.c[1] = 7));
+}
+
+/* The joined value of these two remainders. */
+static void joins_to(const char *with, uint32_t m1, uint32_t m2, uint32_t first, uint32_t second, int64_t wanted) {
+    int64_t v = INT64_MIN;
+    expect("join", with, "the number returned", zahupnik_join(m1, m2, &first, 1, &second, 1, &v, 1), ZAHUPNIK_FINISHED);
+    expect("join", with, "the joined value", v, wanted);
+    cases++;
+}
+
+static void on_values(void) {
+    const uint32_t greatest = ZAHUPNIK_GREATEST_MODULUS;
+    const int64_t half = INT64_C(2305843005992468481);
+    joins_to("half of 6", 2, 3, 1, 0, 3);
+    joins_to("half of 6, the other way round", 3, 2, 0, 1, 3);
+    joins_to("one past half of 6", 2, 3, 0, 1, -2);
+    joins_to("minus one", 7, 15, 6, 14, -1);
+    joins_to("half of 105, cut", 7, 15, 52 % 7, 52 % 15, 52);
+    joins_to("one past it", 7, 15, 53 % 7, 53 % 15, -52);
+    joins_to("the greatest joined value", greatest, greatest - 1, remainder_of(half, greatest), remainder_of(half, greatest - 1), half);
+    joins_to("the greatest, the other way round", greatest - 1, greatest, remainder_of(half, greatest - 1), remainder_of(half, greatest), half);
+    joins_to("the least joined value", greatest, greatest - 1, remainder_of(1 - half, greatest), remainder_of(1 - half, greatest - 1), 1 - half);
+    joins_to("the least, the other way round", greatest - 1, greatest, remainder_of(1 - half, greatest - 1), remainder_of(1 - half, greatest), 1 - half);
+    joins_to("minus one modulo the greatest", greatest, greatest - 1, greatest - 1, greatest - 2, -1);
+}
+
+/* A list as long as one likes, and its last remainder one too great. */
+static void on_long_list(void) {
+    static uint32_t first[LONG_LIST], second[LONG_LIST];
+    static int64_t output[LONG_LIST + UNCHANGED];
+    const uint32_t m1 = 2147483629, m2 = 1073741824;
+    uint64_t state = 20240229;
+    for (size_t i = 0; i < LONG_LIST + UNCHANGED; i++) output[i] = INT64_MAX;
+    for (size_t i = 0; i < LONG_LIST; i++) {
+        state = state * UINT64_C(6364136223846793005) + UINT64_C(1442695040888963407);
+        first[i] = (uint32_t)(state >> 33) % m1;
+        second[i] = (uint32_t)(state >> 17) % m2;
+    }
+    second[LONG_LIST - 1] = m2;
+    expect("join", "a long list", "the number returned",
+           zahupnik_join(m1, m2, first, LONG_LIST, second, LONG_LIST, output, LONG_LIST), ZAHUPNIK_CURVE_ENTRY);
+    for (size_t i = 0; i < LONG_LIST; i++) expect("join", "a long list that is refused", "the output", output[i], INT64_MAX);
+    second[LONG_LIST - 1] = m2 - 1;
+    expect("join", "a long list", "the number returned",
+           zahupnik_join(m1, m2, first, LONG_LIST, second, LONG_LIST, output, LONG_LIST), ZAHUPNIK_FINISHED);
+    for (size_t i = 0; i < LONG_LIST; i++) is_joined("join", "a long list", output[i], m1, first[i], m2, second[i]);
+    for (size_t i = LONG_LIST; i < LONG_LIST + UNCHANGED; i++) expect("join", "a long list", "what follows the output", output[i], INT64_MAX);
+    cases += 2;
+}
+
+/* Chebyshev's T_0 to T_40, of which each coefficient is in the range of the joined value: over the whole numbers, exactly. */
+static void on_whole_numbers(void) {
+    enum { DEGREE = 40 };
+    struct channels x = channels_of(DEGREE);
+    int64_t T[DEGREE + 1][DEGREE + 1] = {{1}, {0, 1}}, output[DEGREE + 1];
+    x.m1 = ZAHUPNIK_GREATEST_MODULUS;
+    x.m2 = ZAHUPNIK_GREATEST_MODULUS - 2;
+    for (size_t i = 0; i < DEGREE; i++) {
+        x.a[i] = i ? 2 : 1;
+        x.b[i] = 0;
+        x.c[i] = i ? -1 : 0;
+    }
+    for (size_t i = 2; i <= DEGREE; i++)
+        for (size_t k = 0; k <= i; k++) T[i][k] = (k ? 2 * T[i - 1][k - 1] : 0) - T[i - 2][k];
+    for (size_t i = 0; i <= DEGREE; i++) {
+        for (size_t k = 0; k <= DEGREE; k++) x.curve[k] = k == i ? -3 : 0;
+        expect("expand_join", "Chebyshev's rows", "the number returned", expand_join(&x, output), ZAHUPNIK_FINISHED);
+        for (size_t k = 0; k <= DEGREE; k++) expect("expand_join", "Chebyshev's rows", "a coefficient", output[k], -3 * T[i][k]);
+        cases++;
+    }
+}
+
 /* The call returns the number and leaves the entry in what it is lent to write one to, which held UINT32_MAX. */
 #define NO_LIST NULL, 0
 #define NO_ROWS 7, NO_LIST, NO_LIST, NO_LIST
@@ -577,6 +875,34 @@ static void on_null(void) {
     LEAVES(zahupnik_write_job(NO_ROWS, ZAHUPNIK_EXPAND, NO_LIST, text, sizeof text, output), ZAHUPNIK_CURVE_LENGTH, UINT32_MAX);
     LEAVES(zahupnik_write_job(NO_ROWS, ZAHUPNIK_NORMS, NO_LIST, NO_LIST, output), ZAHUPNIK_OUTPUT_LENGTH, UINT32_MAX);
     LEAVES(zahupnik_write_job(NO_ROWS, 5, NO_LIST, NO_LIST, output), ZAHUPNIK_TEXT_FORM, UINT32_MAX);
+}
+
+#define LEAVES_SIGNED(call, number, entry)                                                \
+    do {                                                                                  \
+        int64_t output[] = {INT64_MIN};                                                   \
+        expect(#call, "NULL for lists of length 0", "the number returned", call, number); \
+        expect(#call, "NULL for lists of length 0", "the output", output[0], entry);      \
+        cases++;                                                                          \
+    } while (0)
+#define NO_ROWS_OF_TWO 7, 15, NO_LIST, NO_LIST, NO_LIST
+
+static void on_null_of_two(void) {
+    const uint32_t one[] = {1};
+    const int32_t curve[] = {-3};
+    LEAVES_SIGNED(zahupnik_join(7, 15, NO_LIST, NO_LIST, NO_LIST), ZAHUPNIK_FINISHED, INT64_MIN);
+    LEAVES_SIGNED(zahupnik_join(7, 15, NO_LIST, NO_LIST, output, 0), ZAHUPNIK_FINISHED, INT64_MIN);
+    LEAVES_SIGNED(zahupnik_join(7, 15, one, 1, NO_LIST, output, 1), ZAHUPNIK_REMAINDERS, INT64_MIN);
+    LEAVES_SIGNED(zahupnik_join(7, 15, NO_LIST, one, 1, output, 1), ZAHUPNIK_REMAINDERS, INT64_MIN);
+    LEAVES_SIGNED(zahupnik_join(7, 15, NO_LIST, one, 1, NO_LIST), ZAHUPNIK_REMAINDERS, INT64_MIN);
+    LEAVES_SIGNED(zahupnik_join(7, 15, NO_LIST, NO_LIST, output, 1), ZAHUPNIK_OUTPUT_LENGTH, INT64_MIN);
+    LEAVES_SIGNED(zahupnik_join(7, 15, one, 1, one, 1, NO_LIST), ZAHUPNIK_OUTPUT_LENGTH, INT64_MIN);
+    LEAVES_SIGNED(zahupnik_join(7, 21, NO_LIST, NO_LIST, NO_LIST), ZAHUPNIK_SHARED_FACTOR, INT64_MIN);
+    LEAVES_SIGNED(zahupnik_join(7, 0, NO_LIST, NO_LIST, NO_LIST), ZAHUPNIK_MODULUS, INT64_MIN);
+    LEAVES_SIGNED(zahupnik_expand_join(NO_ROWS_OF_TWO, curve, 1, output, 1), ZAHUPNIK_FINISHED, -3);
+    LEAVES_SIGNED(zahupnik_expand_join(NO_ROWS_OF_TWO, NO_LIST, output, 1), ZAHUPNIK_CURVE_LENGTH, INT64_MIN);
+    LEAVES_SIGNED(zahupnik_expand_join(NO_ROWS_OF_TWO, curve, 1, NO_LIST), ZAHUPNIK_OUTPUT_LENGTH, INT64_MIN);
+    LEAVES_SIGNED(zahupnik_expand_join(7, 15, NO_LIST, curve, 1, NO_LIST, NO_LIST, output, 1), ZAHUPNIK_LENGTHS, INT64_MIN);
+    LEAVES_SIGNED(zahupnik_expand_join(7, 21, NO_LIST, NO_LIST, NO_LIST, NO_LIST, NO_LIST), ZAHUPNIK_SHARED_FACTOR, INT64_MIN);
 }
 
 int main(void) {
@@ -633,6 +959,12 @@ int main(void) {
     on_number();
     on_null();
     on_text();
+    on_join();
+    on_expand_join();
+    on_values();
+    on_long_list();
+    on_whole_numbers();
+    on_null_of_two();
     printf("limits: %lu cases are as the header says\n", cases);
     return 0;
 }

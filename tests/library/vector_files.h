@@ -7,6 +7,7 @@
 #define VECTOR_FILES_H
 
 #define _DEFAULT_SOURCE
+#include <errno.h>
 #include <inttypes.h>
 #include <stdio.h>
 #include <stdlib.h>
@@ -62,6 +63,16 @@ static inline uint32_t next_number(struct file *file) {
     return (uint32_t)value;
 }
 
+/* A number with a sign: - before it if it is below zero. It has to lie in these bounds. */
+static inline int64_t next_signed(struct file *file, int64_t least, int64_t greatest) {
+    char *end;
+    errno = 0;
+    long long value = strtoll(file->at, &end, 10);
+    if (end == file->at || errno || value < least || value > greatest) unusable(file, "a number with a sign is missing, or does not fit");
+    file->at = end;
+    return value;
+}
+
 static inline void end_line(struct file *file) {
     if (strcmp(file->at, "\n")) unusable(file, "more stands there than the call takes or gives");
 }
@@ -89,9 +100,9 @@ static inline void read_text(struct file *file) {
 }
 
 /* What was given is what OUT wants; if not, the case is shown. */
-static inline void expect(const char *what, size_t place, uint32_t given, uint32_t wanted) {
+static inline void expect(const char *what, size_t place, int64_t given, int64_t wanted) {
     if (given == wanted) return;
-    fprintf(stderr, PROGRAM ": case %lu: %s at %zu is %" PRIu32 " and not %" PRIu32 "\n case %s wanted %s", in.line, what, place,
+    fprintf(stderr, PROGRAM ": case %lu: %s at %zu is %" PRId64 " and not %" PRId64 "\n case %s wanted %s", in.line, what, place,
             given, wanted, in.words, out.words);
     exit(1);
 }
@@ -157,6 +168,44 @@ static inline struct list make_output(size_t length) {
 static inline void expect_output(struct list output) {
     expect_next("the length of the output", 0, (uint32_t)output.length);
     for (size_t i = 0; i < output.length; i++) expect_next("the output", i, output.entries[i]);
+}
+
+/* Lists with a sign: what is lent has numbers of 32 bits, and an output numbers of 64. */
+struct signed_list {
+    int32_t *entries;
+    size_t length;
+};
+
+struct wide_list {
+    int64_t *entries;
+    size_t length;
+};
+
+static inline struct signed_list next_signed_list(struct file *file) {
+    size_t length = next_number(file);
+    struct signed_list list = {lend(length * sizeof(int32_t)), length};
+    for (size_t i = 0; i < length; i++) list.entries[i] = (int32_t)next_signed(file, INT32_MIN, INT32_MAX);
+    return list;
+}
+
+static inline void free_signed_list(struct signed_list list) { take_back(list.entries, list.length * sizeof *list.entries); }
+
+static inline void expect_signed_unchanged(const char *what, struct signed_list list) {
+    expect(what, 0, (int64_t)list.length, next_number(&in));
+    for (size_t i = 0; i < list.length; i++) expect(what, i, list.entries[i], next_signed(&in, INT32_MIN, INT32_MAX));
+}
+
+static inline struct wide_list make_wide_output(size_t length) {
+    struct wide_list output = {lend(length * sizeof(int64_t)), length};
+    for (size_t i = 0; i < length; i++) output.entries[i] = INT64_MAX - (int64_t)i;
+    return output;
+}
+
+static inline void free_wide_list(struct wide_list list) { take_back(list.entries, list.length * sizeof *list.entries); }
+
+static inline void expect_wide_output(struct wide_list output) {
+    expect("the length of the output", 0, (int64_t)output.length, next_number(&out));
+    for (size_t i = 0; i < output.length; i++) expect("the output", i, output.entries[i], next_signed(&out, INT64_MIN, INT64_MAX));
 }
 
 /* What a working list holds before a call. */

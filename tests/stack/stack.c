@@ -4,9 +4,10 @@
  *
  * For each function a line: its name and the most bytes that it took, of accepted cases with r = 127 and r = 0 and of refused ones, whose
  * last a or last c is zero or shares a factor with m, modulo a prime and a composite number; of the text call and of the call that writes
- * a job, for every operation; on a record of 127, 126, 1 and 0 rows, right and damaged. A byte counts if it lies between the frame of the
- * caller, which holds the arguments, and the lowest byte that was written; the record that a change hands out is the caller's and is not
- * counted. Exits 1 if a call gives another answer than it should.
+ * a job, for every operation; on a record of 127, 126, 1 and 0 rows, right and damaged; on two channels, one of them prime and one
+ * composite, in either order, and refused for a last remainder that is too great and for channels that share a factor as well. A byte counts
+ * if it lies between the frame of the caller, which holds the arguments, and the lowest byte that was written; the record that a change hands
+ * out is the caller's and is not counted. Exits 1 if a call gives another answer than it should.
  */
 #define _XOPEN_SOURCE 700
 #include <inttypes.h>
@@ -29,6 +30,9 @@ static uint8_t text[ZAHUPNIK_MOST_TEXT], text_output[ZAHUPNIK_LEAST_TEXT_OUTPUT]
 static uint32_t operation, length, answer;
 static struct zahupnik_prepared family;
 static struct zahupnik_change change;
+static uint32_t second_m, first[MOST + 1], second[MOST + 1];
+static int32_t signed_a[MOST], signed_b[MOST], signed_c[MOST], signed_curve[MOST + 1];
+static int64_t joined[MOST + 1];
 static unsigned char *frame;
 
 #define FAMILY m, a, r, b, r, c, r
@@ -68,6 +72,8 @@ CALL(prepared_tree_expand, family, curve, n, output, n, work, ZAHUPNIK_LEAST_WOR
 CALL(prepared_tree_adjoint, family, curve, n, output, n, work, ZAHUPNIK_LEAST_WORK)
 CALL(prepared_tree_decompose, family, curve, n, output, n, work, ZAHUPNIK_LEAST_WORK)
 CALL(prepared_moments, family, output, 2 * n - 1, work, ZAHUPNIK_LEAST_WORK)
+CALL(join, m, second_m, first, n, second, n, joined, n)
+CALL(expand_join, m, second_m, signed_a, r, signed_b, r, signed_c, r, signed_curve, n, joined, n)
 
 static const struct {
     const char *name;
@@ -96,8 +102,10 @@ static const struct {
     {"zahupnik_prepared_tree_adjoint", prepared_tree_adjoint},
     {"zahupnik_prepared_tree_decompose", prepared_tree_decompose},
     {"zahupnik_prepared_moments", prepared_moments},
+    {"zahupnik_join", join},
+    {"zahupnik_expand_join", expand_join},
 };
-enum { CALLS = sizeof calls / sizeof *calls, FIRST_ON_RECORDS = CALLS - 12 };
+enum { CALLS = sizeof calls / sizeof *calls, FIRST_ON_CHANNELS = CALLS - 2, FIRST_ON_RECORDS = FIRST_ON_CHANNELS - 12 };
 
 /* How many bytes of the painted stack lie between the caller's frame and the lowest that the call wrote. */
 static size_t measure(const char *name, void (*run)(void), uint32_t wanted) {
@@ -221,12 +229,56 @@ static size_t most_on_records(size_t i, uint32_t modulus) {
     return most;
 }
 
+/* Odd numbers for a and c, with either sign: both channels take them. */
+static void make_channels(uint32_t modulus, uint32_t second_modulus, size_t rows) {
+    make_case(modulus, rows);
+    second_m = second_modulus;
+    for (size_t i = 0; i < MOST; i++) {
+        signed_a[i] = (int32_t)(next() | 1) - (1 << 30);
+        signed_b[i] = (int32_t)next() - (1 << 30);
+        signed_c[i] = (int32_t)(next() | 1) - (1 << 30);
+    }
+    for (size_t i = 0; i <= MOST; i++) {
+        signed_curve[i] = -(int32_t)next();
+        first[i] = next() % m;
+        second[i] = next() % second_m;
+    }
+}
+
+/* The most that expand_join takes with another number in its last row, for which it is refused; join does not look at it. */
+static size_t most_with_signed(size_t i, int32_t *place, int32_t number, uint32_t refused) {
+    const int32_t before = *place;
+    *place = number;
+    size_t most = most_of(i, calls[i].run == join ? ZAHUPNIK_FINISHED : refused);
+    *place = before;
+    return most;
+}
+
+static size_t most_on_channels(size_t i, uint32_t modulus, uint32_t second_modulus) {
+    make_channels(modulus, second_modulus, MOST);
+    size_t most = most_of(i, ZAHUPNIK_FINISHED);
+    most = greater(most, most_with_signed(i, &signed_c[MOST - 1], 0, ZAHUPNIK_C_ZERO));
+    most = greater(most, most_with_signed(i, &signed_a[MOST - 1], 0, ZAHUPNIK_A_ZERO));
+    most = greater(most, most_with_signed(i, &signed_c[MOST - 1], -2, ZAHUPNIK_C_INVERSE));
+    most = greater(most, most_with_signed(i, &signed_a[MOST - 1], -2, ZAHUPNIK_A_INVERSE));
+    second[MOST] = second_m;
+    most = greater(most, most_of(i, calls[i].run == join ? ZAHUPNIK_CURVE_ENTRY : ZAHUPNIK_FINISHED));
+    second_m = m;
+    most = greater(most, most_of(i, ZAHUPNIK_SHARED_FACTOR));
+    make_channels(modulus, second_modulus, 0);
+    return greater(most, most_of(i, ZAHUPNIK_FINISHED));
+}
+
+static size_t most_on(size_t i, uint32_t modulus, uint32_t other) {
+    if (i < FIRST_ON_RECORDS) return most_on_lists(i, modulus);
+    return i < FIRST_ON_CHANNELS ? most_on_records(i, modulus) : most_on_channels(i, modulus, other);
+}
+
 int main(void) {
     static const uint32_t moduli[] = {ZAHUPNIK_GREATEST_MODULUS, UINT32_C(1) << 30};
     for (size_t i = 0; i < CALLS; i++) {
         size_t most = 0;
-        for (size_t j = 0; j < 2; j++)
-            most = greater(most, i < FIRST_ON_RECORDS ? most_on_lists(i, moduli[j]) : most_on_records(i, moduli[j]));
+        for (size_t j = 0; j < 2; j++) most = greater(most, most_on(i, moduli[j], moduli[1 - j]));
         printf("%-33s %6zu\n", calls[i].name, most);
     }
     return 0;

@@ -10,6 +10,7 @@
 #include <string.h>
 
 #include "figures.h"
+#include "joining_figures.h"
 #include "library_record.h"
 #include "text_model.h"
 #include "zahupnik.h"
@@ -234,6 +235,50 @@ static void change(const struct change *x, uint32_t number, char *given, char *w
 
 static const char *const CHANGES[] = {"prepared_empty", "prepared_append", "prepared_drop_last", "prepared_replace"};
 
+/* ---- two channels */
+
+enum { JOINED_ROOM = 140 };
+
+/* The joined list, or the refusal, and what of the output it has touched. */
+static void tell_joined(char *told, uint32_t number, const int64_t *output, size_t length) {
+    bool touched = false;
+    for (size_t i = 0; i < length; i++) touched = touched || output[i] != DIRT;
+    if (number) tell(told, touched ? "refusal %" PRIu32 ", output " : "refusal %" PRIu32, number);
+    for (size_t i = 0; i < length && (touched || !number); i++) {
+        size_t used = strlen(told);
+        snprintf(told + used, WORDS_ROOM - used, i ? " %" PRId64 : "%" PRId64, output[i]);
+    }
+}
+
+/* What a call gives, and what it should; a result that is longer than the figure holds is zeros. */
+static void run_joining(const struct joining *x, uint32_t wanted_number, const int64_t *result, char *given, char *wanted) {
+    int64_t output[JOINED_ROOM], expected[JOINED_ROOM];
+    const struct list *lists = x->remainders;
+    uint32_t number;
+    for (size_t i = 0; i < JOINED_ROOM; i++) {
+        output[i] = DIRT;
+        expected[i] = wanted_number ? DIRT : i < MOST_JOINED ? result[i] : 0;
+    }
+    if (x->expands)
+        number = zahupnik_expand_join(x->m[0], x->m[1], x->a.entries, x->a.length, x->b.entries, x->b.length, x->c.entries, x->c.length,
+                                      x->curve.entries, x->curve.length, output, x->output_length);
+    else
+        number = zahupnik_join(x->m[0], x->m[1], lists[0].entries, lists[0].length, lists[1].entries, lists[1].length, output,
+                               x->output_length);
+    tell_joined(given, number, output, x->output_length);
+    tell_joined(wanted, wanted_number, expected, x->output_length);
+}
+
+static void run_join(const struct join_figure *figure, char *given, char *wanted) {
+    struct joining x = join_figure_lent(figure);
+    run_joining(&x, figure->number, figure->result, given, wanted);
+}
+
+static void run_expand_join(const struct expand_join_figure *figure, char *given, char *wanted) {
+    struct joining x = expand_join_figure_lent(figure);
+    run_joining(&x, figure->number, figure->result, given, wanted);
+}
+
 /* ---- texts */
 
 static uint8_t output[LEAST_JOB_OUTPUT];
@@ -406,6 +451,9 @@ int main(int argc, char **argv) {
     }
     for (const struct record_figure *figure = RECORD_FIGURES; figure->name; figure++) try_on_damaged(figure);
     for (size_t i = 0; i < sizeof ON_RECORDS / sizeof *ON_RECORDS; i++) try_on_records(&ON_RECORDS[i]);
+    for (const struct join_figure *figure = JOIN_FIGURES; is_asked("join") && figure->name; figure++) TRY(figure->name, run_join, figure);
+    for (const struct expand_join_figure *figure = EXPAND_JOIN_FIGURES; is_asked("expand_join") && figure->name; figure++)
+        TRY(figure->name, run_expand_join, figure);
     if (first) printf("; %s: %.*s, not %.*s\n", first, SHOWN_WORDS, first_given, SHOWN_WORDS, first_wanted);
     return first != NULL;
 }

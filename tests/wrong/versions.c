@@ -2,6 +2,7 @@
 #include "version.h"
 
 #include "changes.h"
+#include "channels.h"
 #include "jobs.h"
 #include "lists.h"
 #include "reasons.h"
@@ -33,6 +34,8 @@ const char *const CALL_NAMES[CALLS] = {
     "prepared_tree_adjoint",
     "prepared_tree_decompose",
     "prepared_moments",
+    "join",
+    "expand_join",
 };
 
 #define ON_LISTS(version, wrong, which, function) {.name = version, .what = wrong, .calls = which, .on_lists = function}
@@ -46,16 +49,18 @@ const char *const CALL_NAMES[CALLS] = {
 #define ON_EITHER(version, wrong, which, change_function, record_function) \
     {.name = version, .what = wrong, .calls = which, .on_change = change_function, .on_record = record_function}
 #define OF_REASON(version, wrong, which) ON_BOTH(#version, wrong, which, version, text_##version),
+#define OF_CHANNELS(version, wrong, which) {.name = #version, .what = wrong, .calls = which, .on_channels = channels_##version},
 #define DAMAGED(version, wrong) ON_EITHER(#version, wrong, TAKE_RECORD, change_##version, record_##version),
 
 const struct version VERSIONS[] = {
     {.name = "no_slip",
-     .what = "Figures 1 to 3, the job text and the record once more",
+     .what = "Figures 1 to 3, the job text, the record and the joined value once more",
      .calls = ALL,
      .on_lists = without_a_slip,
      .on_text = text_without_a_slip,
      .on_change = change_record,
      .on_record = record_without_a_slip,
+     .on_channels = channels_without_a_slip,
      .control = true},
 
     ON_BOTH("refuses", "refuses whatever it is lent", WITHOUT_RECORD, refuses, text_refuses),
@@ -258,5 +263,7 @@ const struct version VERSIONS[] = {
     ON_LISTS("work_kept", "a working list left as it was", BY_THE_TREE_ON_RECORDS, work_kept),
     ON_LISTS("work_dirty", "the last of its 16,384 numbers left", BY_THE_TREE_ON_RECORDS, work_dirty),
     ON_LISTS("work_past", "a number after the 16,384 cleared", BY_THE_TREE_ON_RECORDS, work_past),
+
+    ALL_CHANNELS(OF_CHANNELS)
     {.name = NULL},
 };

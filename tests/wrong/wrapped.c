@@ -50,6 +50,12 @@ static const struct version *chosen(unsigned call) {
 #define JOBS FAMILY, uint32_t operation, CURVE, BYTES, uint32_t *length
 #define PREPARED struct zahupnik_prepared family
 #define NEW_ROW uint32_t a, uint32_t b, uint32_t c
+#define TWO_CHANNELS uint32_t m1, uint32_t m2
+#define REMAINDERS const uint32_t *first, size_t first_length, const uint32_t *second, size_t second_length
+#define SIGNED_ROWS \
+    const int32_t *a, size_t a_length, const int32_t *b, size_t b_length, const int32_t *c, size_t c_length
+#define SIGNED_CURVE const int32_t *curve, size_t curve_count
+#define JOINED int64_t *output, size_t output_length
 
 /* What ld --wrap calls the library's functions, and the functions in their places. */
 #define BOTH(type, name, ...)                 \
@@ -80,6 +86,8 @@ WRAPPED(prepared_tree_expand, PREPARED, CURVE, OUTPUT, WORK)
 WRAPPED(prepared_tree_adjoint, PREPARED, CURVE, OUTPUT, WORK)
 WRAPPED(prepared_tree_decompose, PREPARED, CURVE, OUTPUT, WORK)
 WRAPPED(prepared_moments, PREPARED, OUTPUT, WORK)
+WRAPPED(join, TWO_CHANNELS, REMAINDERS, JOINED)
+WRAPPED(expand_join, TWO_CHANNELS, SIGNED_ROWS, SIGNED_CURVE, JOINED)
 
 #define LISTS x->m, x->a.entries, x->a.length, x->b.entries, x->b.length, x->c.entries, x->c.length
 #define OUT call->output, x->output_length
@@ -146,6 +154,16 @@ uint32_t right_on_record(const struct record_call *made) {
     }
 }
 
+uint32_t right_joined(const struct joining_call *call) {
+    const struct joining *x = &call->lent;
+    const struct list *lists = x->remainders;
+    if (x->expands)
+        return __real_zahupnik_expand_join(x->m[0], x->m[1], x->a.entries, x->a.length, x->b.entries, x->b.length, x->c.entries,
+                                           x->c.length, x->curve.entries, x->curve.length, call->output, x->output_length);
+    return __real_zahupnik_join(x->m[0], x->m[1], lists[0].entries, lists[0].length, lists[1].entries, lists[1].length, call->output,
+                                x->output_length);
+}
+
 /* ---- the library's functions */
 
 static uint32_t answer(unsigned name, const struct call *call) {
@@ -175,8 +193,15 @@ static uint32_t answer_on_record(unsigned name, const struct record_call *call) 
     return is_right(&call->record) ? version->on_lists(&call->call) : 14;
 }
 
+static uint32_t answer_joined(unsigned name, const struct joining_call *call) {
+    const struct version *version = chosen(name);
+    return version ? version->on_channels(call) : right_joined(call);
+}
+
 /* No version writes to what a call may not write. */
 static struct list lent_list(const uint32_t *entries, size_t length) { return (struct list){(uint32_t *)entries, length}; }
+
+static struct signed_list lent_signed(const int32_t *entries, size_t length) { return (struct signed_list){(int32_t *)entries, length}; }
 
 static struct call call_of(enum operation operation, enum way way, FAMILY, CURVE, OUTPUT, WORK) {
     struct lent lent = {.operation = operation, .way = way, .m = m, .output_length = output_length, .work_length = work_length};
@@ -277,4 +302,20 @@ TREE_ON_RECORD(tree_adjoint, PREPARED_TREE_ADJOINT, ADJOINT)
 TREE_ON_RECORD(tree_decompose, PREPARED_TREE_DECOMPOSE, DECOMPOSE)
 uint32_t __wrap_zahupnik_prepared_moments(PREPARED, OUTPUT, WORK) {
     return on_record(PREPARED_MOMENTS, MOMENTS, TREE, family, NONE, output, output_length, work, work_length);
+}
+
+uint32_t __wrap_zahupnik_join(TWO_CHANNELS, REMAINDERS, JOINED) {
+    struct joining_call call = {{.expands = false, .m = {m1, m2}, .output_length = output_length}, output};
+    call.lent.remainders[0] = lent_list(first, first_length);
+    call.lent.remainders[1] = lent_list(second, second_length);
+    return answer_joined(JOIN, &call);
+}
+
+uint32_t __wrap_zahupnik_expand_join(TWO_CHANNELS, SIGNED_ROWS, SIGNED_CURVE, JOINED) {
+    struct joining_call call = {{.expands = true, .m = {m1, m2}, .output_length = output_length}, output};
+    call.lent.a = lent_signed(a, a_length);
+    call.lent.b = lent_signed(b, b_length);
+    call.lent.c = lent_signed(c, c_length);
+    call.lent.curve = lent_signed(curve, curve_count);
+    return answer_joined(EXPAND_JOIN, &call);
 }
