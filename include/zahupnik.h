@@ -57,6 +57,8 @@
  *     zahupnik_prepared_tree_adjoint      9728
  *     zahupnik_prepared_tree_decompose   18432
  *     zahupnik_prepared_moments          15872
+ *     zahupnik_join                        128
+ *     zahupnik_expand_join                5120
  *
  * Build the library with `rt staticlib zahupnik` and link target/staticlib/libzahupnik.a; it is for x86-64 Linux. The functions
  * are proved to do this on every input (crates/zahupnik; that a job that is written is carried out, crates/text_laws; that a record

@@ -17,13 +17,15 @@ import subprocess
 import sys
 
 # Every function that has a division: how many stand in no loop, in one, and in more. Where the compiler tries a short division before a
-# long one, one remainder has two. In more than one loop: Euclid's algorithm for each entry, to find whom to blame.
+# long one, one remainder has two. In more than one loop: Euclid's algorithm for each entry, to find whom to blame. In one loop of the calls
+# on two channels: Euclid's algorithm once, and a remainder for each signed number, in loops that the compiler takes five at a time.
 TABLE = """
 products::add_products            1  0  0
 products::transposed              1  0  0
 inverses::of_list                 2  2  2
 checks::column                    1  2  2
 record_check::record              1  0  0
+plain::expand                     1  0  0
 plain::decompose                  2  0  0
 prepared::prepare                 1  0  0
 subproduct::build                 1  0  0
@@ -33,20 +35,20 @@ moment_way::moments               1  0  0
 moment_way::decompose             2  0  0
 verdicts::rows                    1  2  0
 plain_calls::norms                1  0  0
+expand_join::expand_channel       0 40  0
+zahupnik_expand_join              2 42  0
 zahupnik_invert                   0  2  0
+zahupnik_join                     2  2  0
 zahupnik_plain_adjoint            0  1  0
-zahupnik_plain_expand             1  0  0
 zahupnik_prepared_append          0  4  0
 zahupnik_prepared_plain_adjoint   0  1  0
-zahupnik_prepared_plain_expand    1  0  0
 zahupnik_prepared_replace         0  4  0
 """
 ROWS = (
-    "zahupnik_plain_expand",
+    "plain::expand",
     "zahupnik_plain_adjoint",
     "plain::decompose",
     "plain_calls::norms",
-    "zahupnik_prepared_plain_expand",
     "zahupnik_prepared_plain_adjoint",
     "zahupnik_join",
 )

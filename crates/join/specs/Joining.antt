@@ -8,6 +8,7 @@
 use mathlib.Core.List.{List}
 use mathlib.Core.Path.{_≡_, refl, sym, _∙_, ap, ap₂}
 use Prim.Native.Nat.{ℕ, suc, _+_, _*_, _-_, _/_, _%_, _≤_, _<_}
+use native.Mathlib.Decide.{decLt}
 use native.Mathlib.Nat.{mod-lt, mul-le-mul, mod-add-div, mul-mod-right, mul-suc}
 use native.Mathlib.Omega.{arith}
 use borrow.Author.Count.{below-more}
@@ -19,6 +20,7 @@ use mir.Val.{Fits, SFits, toZ, ofZ}
 use mir.ValLaws.{toZ-ofZ, toZ-pos}
 use Rattle.definitions.specs.Family.{Modulus, greatestModulus}
 use Rattle.joining.specs.Whole.{joined, joinedList}
+use Rattle.reduction.specs.Reciprocal.{LesserOf}
 use Rattle.wholes.specs.Integers.{z-ext, add-law, neg-law}
 use Rattle.wholes.specs.Joined.{Whole, times, lift, balanced, balanced-small, balanced-large, lift-lt, joined-lift, product-small}
 use Rattle.wholes.specs.Lists.{joined-list-is}
@@ -48,20 +50,48 @@ pub record Balancing (w u : ℕ) : Type 0 where
   pub below : u < w
   pub small : w ≤ mostProduct
 
--- ---- the number of a range
-module _ (w u : ℕ) (b : Balancing w u) where
-  pub negated : pos 0 -ℤ toZ w64 (w - u) ≡ negsuc (w - suc u)
-  negated = ap (λ z. pos 0 -ℤ z) (toZ-pos w64 (w - u) (omega (arith, b .small)))
-      ∙ z-ext _ _ (omega (arith, b .below, add-law (pos 0) (negℤ (pos (w - u))), neg-law (pos (w - u))))
+-- ---- the number of a range, by its size
+module _ (w u r : ℕ) (b : Balancing w u) (l : LesserOf u (w - u) r) where
+  -- above the half the size is what u lacks, and otherwise u
+  above : w < 2 * u → r ≡ w - u
+  above h = l .second (omega arith)
 
-  pub negated-fits : SFits w64 (negsuc (w - suc u))
-  negated-fits = record { sfits = omega (arith, b .small) }
+  kept : 2 * u ≤ w → r ≡ u
+  kept h = by (decLt u (w - u))
+    where
+      by : Dec (u < w - u) → r ≡ u
+      by (yes g) = l .first g
+      by (no g) = let e : r ≡ w - u = l .second (omega arith) in omega (arith, b .below)
 
-  pub balance-negated : w < 2 * u → toZ w64 (ofZ w64 (pos 0 -ℤ toZ w64 (w - u))) ≡ balanced w u
-  balance-negated h = ap (λ z. toZ w64 (ofZ w64 z)) negated ∙ toZ-ofZ w64 (negsuc (w - suc u)) negated-fits ∙ sym (balanced-large w u h)
+  size-small : r ≤ mostProduct
+  size-small = by (decLt w (2 * u))
+    where
+      by : Dec (w < 2 * u) → r ≤ mostProduct
+      by (yes g) = omega (arith, above g, b .small)
+      by (no g) = let e : r ≡ u = kept (omega arith) in omega (arith, b .below, b .small)
 
-  pub balance-kept : 2 * u ≤ w → toZ w64 u ≡ balanced w u
-  balance-kept h = toZ-pos w64 u (omega (arith, b .small)) ∙ sym (balanced-small w u h)
+  pub size-fits : SFits w64 (pos r)
+  size-fits = record { sfits = omega (arith, size-small) }
+
+  word : toZ w64 r ≡ pos r
+  word = toZ-pos w64 r (omega (arith, size-small))
+
+  negated : (h : w < 2 * u) → pos 0 -ℤ toZ w64 r ≡ negsuc (w - suc u)
+  negated h = ap (λ z. pos 0 -ℤ z) word
+      ∙ z-ext _ _ (omega (arith, above h, b .below, add-law (pos 0) (negℤ (pos r)), neg-law (pos r)))
+
+  negsuc-fits : SFits w64 (negsuc (w - suc u))
+  negsuc-fits = record { sfits = omega (arith, b .small) }
+
+  pub negated-fits : w < 2 * u → SFits w64 (pos 0 -ℤ toZ w64 r)
+  negated-fits h = rw (negated h) negsuc-fits
+
+  pub balance-negated : w < 2 * u → toZ w64 (ofZ w64 (pos 0 -ℤ toZ w64 r)) ≡ balanced w u
+  balance-negated h =
+      ap (λ z. toZ w64 (ofZ w64 z)) (negated h) ∙ toZ-ofZ w64 (negsuc (w - suc u)) negsuc-fits ∙ sym (balanced-large w u h)
+
+  pub balance-kept : 2 * u ≤ w → toZ w64 r ≡ balanced w u
+  balance-kept h = word ∙ ap pos (kept h) ∙ sym (balanced-small w u h)
 
 -- ---- what is found once
 pub rest-most : (m m′ k : ℕ) → Paired m m′ k → m % m′ ≤ m′

@@ -28,7 +28,8 @@ fn high_product(x: u64, y: u64) -> u64
     x1 * y1 + u / 4294967296 + v / 4294967296
 }
 
-fn lesser(x: u64, y: u64) -> u64
+// Of two numbers the lesser.
+pub fn lesser(x: u64, y: u64) -> u64
     ensures { λ r. ⌜ LesserOf x y r ⌝ }
 {
     if x < y { x } else { y }
