@@ -1,8 +1,8 @@
 /* Counts the divisions that each call runs through, for families that differ in c_1 alone: as many for every c_1, so that Euclid's
  * algorithm is run once for a list and not for each row, whether c_1 has an inverse or not. Of join, for lists that differ in length: as
  * many for every length, so that one inverse is found for a list, and no remainder is found by a division for each entry. Of expand_join,
- * no more than its parts take, plain_expand on either channel and join, and one for each number and channel, which it reduces, and a run of
- * the algorithm for each column of rows and channel.
+ * no more than its parts take, plain_expand on either channel and join, and one for each number that it reduces, for each channel, those of
+ * the a and the c twice, and a run of the algorithm for each column of rows and channel.
  *
  * usage: euclid <ADDRESSES
  *
@@ -86,8 +86,8 @@ static int holds(const struct call *call) {
 
 /* ---- two channels */
 
-/* Euclid's algorithm takes at most 45 divisions for numbers below 2^31. */
-enum { SECOND_MODULUS = 2147483647, LONGEST = 4096, REDUCED = 2 * (3 * ROWS + N), COLUMNS = 2 * 2, LONGEST_EUCLID = 45 };
+/* Euclid's algorithm takes at most 45 divisions for numbers below 2^31. The a and the c are reduced twice, to be tested and to expand. */
+enum { SECOND_MODULUS = 2147483647, LONGEST = 4096, REDUCED = 2 * (5 * ROWS + N), COLUMNS = 2 * 2, LONGEST_EUCLID = 45 };
 
 static uint32_t first[LONGEST], second[LONGEST], modulus;
 static int32_t signed_a[ROWS], signed_b[ROWS], signed_c[ROWS], signed_curve[N];
@@ -182,6 +182,6 @@ int main(void) {
     a[ROWS - 1] = c[0] = c[ROWS - 1] = 1;
     make_channels();
     if (!join_holds()) cannot("the divisions of join depend on the length of its lists");
-    if (!expand_join_holds()) cannot("expand_join takes more divisions than its parts, one for each number and channel, and a run of Euclid's algorithm for each column");
+    if (!expand_join_holds()) cannot("expand_join takes more divisions than its parts, one for each number that is reduced, and a run of Euclid's algorithm for each column");
     return 0;
 }
