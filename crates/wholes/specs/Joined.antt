@@ -5,7 +5,8 @@
 --   lift m m′ k big x y      the number below m m′ that leaves x modulo m and y modulo m′
 -- Proved, for moduli without a common factor and remainders below them: joined-joins, the joined value is in the range and leaves both;
 -- joined-only, no other whole number does; joined-exact, a whole number in the range is joined from its own remainders; joined-lift, it is
--- the balanced lift; same-modulo-both, what two numbers leave modulo both settles what they leave modulo m m′. What is in the range of two moduli of 31 bits fits 64 bits with a sign (range-fits).
+-- the balanced lift; same-modulo-both, what two whole numbers leave modulo both settles what they leave modulo m m′. What is in the range of
+-- two moduli of 31 bits fits 64 bits with a sign (range-fits).
 -- Assumes nothing.
 use mathlib.Core.Bool.{Bool, true, false, true≢false}
 use mathlib.Core.List.{[], _∷_}

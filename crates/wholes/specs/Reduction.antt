@@ -64,7 +64,8 @@ module _ (m : ℕ) (p : 0 < m) where
       linear R (ι (up z) ∷ ι (down z) ∷ ι (up w) ∷ ι (down w) ∷ ι (up (z *ℤ w)) ∷ ι (down (z *ℤ w)) ∷ []) (scaled R 𝟙 law)
       (search reify depth 20) tt
     where
-      law : ι (up (z *ℤ w)) ⊕ (ι (up z) ⊗ ι (down w) ⊕ ι (down z) ⊗ ι (up w)) ≡ ι (up z) ⊗ ι (up w) ⊕ ι (down z) ⊗ ι (down w) ⊕ ι (down (z *ℤ w))
+      law : ι (up (z *ℤ w)) ⊕ (ι (up z) ⊗ ι (down w) ⊕ ι (down z) ⊗ ι (up w))
+          ≡ ι (up z) ⊗ ι (up w) ⊕ ι (down z) ⊗ ι (down w) ⊕ ι (down (z *ℤ w))
       law = simp (← res-mul m p, ← res-add m p) (ap (res m p) (mul-law z w))
 
   pub reduction : RingMap whole R
@@ -92,7 +93,8 @@ module _ (m : ℕ) (p : 0 < m) where
   pub remainder-apart : (z : ℤ) (u w : ℕ) → w % m ≡ 0 → up z + w ≡ u + down z → remainder m z ≡ u % m
   unfolding image
   remainder-apart z u w e law = remainder-is z (u % m) (mod-lt u p)
-      (res-mod m p u ∙ linear R (ι (up z) ∷ ι (down z) ∷ ι u ∷ ι w ∷ []) (both R (scaled R (⊖ 𝟙) apart) (scaled R 𝟙 none)) (search reify depth 20) tt)
+      (res-mod m p u
+      ∙ linear R (ι (up z) ∷ ι (down z) ∷ ι u ∷ ι w ∷ []) (both R (scaled R (⊖ 𝟙) apart) (scaled R 𝟙 none)) (search reify depth 20) tt)
     where
       apart : ι (up z) ⊕ ι w ≡ ι u ⊕ ι (down z)
       apart = simp (← res-add m p) (ap (res m p) law)

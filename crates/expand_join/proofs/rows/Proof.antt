@@ -7,16 +7,18 @@ use Rattle.expand_join.proofs.rows.Tie as tie
 returns : tie.Need-returns
 returns c = λ b.
     let called = c .before .before in
-    let lent = called .before in
-    first-a-refuses (lent .args .m1) (lent .args .m2) (lent .args .a .now) (lent .args .c .now) (lent .pre .2 .same) b _ (called .column .ensures) _ (c .enum-told2 .given .1)
+    let lent = called .before .args in
+    let same = called .before .pre .2 .same in
+    first-a-refuses (lent .m1) (lent .m2) (lent .a .now) (lent .c .now) same b _ (called .column .ensures) _ (c .enum-told2 .given .1)
 
 returns-2 : tie.Need-returns-2
 returns-2 c = λ b.
     let called₂ = c .before .before in
     let told₁ = called₂ .before in
     let called₁ = told₁ .before .before in
-    let lent = called₁ .before in
-    second-a-refuses (lent .args .m1) (lent .args .m2) (lent .args .a .now) (lent .args .c .now) (lent .pre .2 .same) b _ (called₁ .column .ensures) (told₁ .enum-told .given .1) _
+    let lent = called₁ .before .args in
+    let same = called₁ .before .pre .2 .same in
+    second-a-refuses (lent .m1) (lent .m2) (lent .a .now) (lent .c .now) same b _ (called₁ .column .ensures) (told₁ .enum-told .given .1) _
     (called₂ .column2 .ensures) _ (c .enum-told4 .given .1)
 
 returns-3 : tie.Need-returns-3
@@ -26,8 +28,9 @@ returns-3 c = λ b.
     let called₂ = told₂ .before .before in
     let told₁ = called₂ .before in
     let called₁ = told₁ .before .before in
-    let lent = called₁ .before in
-    first-c-refuses (lent .args .m1) (lent .args .m2) (lent .args .a .now) (lent .args .c .now) (lent .pre .2 .same) b _ (called₁ .column .ensures) (told₁ .enum-told .given .1) _
+    let lent = called₁ .before .args in
+    let same = called₁ .before .pre .2 .same in
+    first-c-refuses (lent .m1) (lent .m2) (lent .a .now) (lent .c .now) same b _ (called₁ .column .ensures) (told₁ .enum-told .given .1) _
     (called₂ .column2 .ensures) (told₂ .enum-told3 .given .1) _ (called₃ .column3 .ensures) _ (c .enum-told6 .given .1)
 
 returns-4 : tie.Need-returns-4
@@ -38,8 +41,9 @@ returns-4 c = λ b.
     let called₂ = told₂ .before .before in
     let told₁ = called₂ .before in
     let called₁ = told₁ .before .before in
-    let lent = called₁ .before in
-    second-c-settles (lent .args .m1) (lent .args .m2) (lent .args .a .now) (lent .args .c .now) (lent .pre .2 .same) b _ (called₁ .column .ensures) (told₁ .enum-told .given .1) _
+    let lent = called₁ .before .args in
+    let same = called₁ .before .pre .2 .same in
+    second-c-settles (lent .m1) (lent .m2) (lent .a .now) (lent .c .now) same b _ (called₁ .column .ensures) (told₁ .enum-told .given .1) _
     (called₂ .column2 .ensures) (told₂ .enum-told3 .given .1) _ (called₃ .column3 .ensures) (told₃ .enum-told5 .given .1)
     (c .column4 .result) (c .column4 .ensures)
 
