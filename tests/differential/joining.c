@@ -20,7 +20,8 @@ static void some_channels(struct random *random, uint32_t m[CHANNELS]) {
     do {
         uint32_t kind = below(random, 8);
         m[0] = kind == 0 ? ONE_OF(random, great) : kind < 3 ? ONE_OF(random, of_2_and_3) : some_modulus(random);
-        m[1] = kind == 0 ? ONE_OF(random, great) : kind < 3 ? ONE_OF(random, of_5_and_7) : kind == 3 ? m[0] - 1 : kind == 4 ? 2 : some_modulus(random);
+        m[1] = kind == 0 ? ONE_OF(random, great) : kind < 3 ? ONE_OF(random, of_5_and_7) : kind == 3 ? m[0] - 1 : some_modulus(random);
+        if (kind == 4) m[1] = 2;
         if (one_in(random, 2)) {
             uint32_t second = m[0];
             m[0] = m[1];
@@ -131,7 +132,9 @@ static void begin(struct trial *trial, const struct joining *x) {
 }
 
 uint32_t run_on_remainders(struct trial *trial, struct random *random) {
-    static fault *const faults[] = {fault_3, fault_19, fault_other_channels, fault_20, fault_20, fault_both_lengths, fault_7, fault_12, fault_12};
+    static fault *const faults[] = {
+        fault_3, fault_19, fault_other_channels, fault_20, fault_20, fault_both_lengths, fault_7, fault_12, fault_12,
+    };
     struct joining x = {.remainders = {{remainders[0], 0}, {remainders[1], 0}}};
     int64_t *output;
     some_channels(random, x.m);
@@ -303,9 +306,11 @@ static void note_channels(struct trial *trial, const struct joining *x) {
 #define LIST(list) lent.list.entries, lent.list.length
 
 uint32_t run_on_two_channels(struct trial *trial, struct random *random) {
-    static fault *const faults[] = {fault_3,        fault_19,       fault_other_channels, fault_4,        fault_5,        fault_6,
-                                    fault_7,        fault_inverse,  fault_inverse,        fault_two_rows, fault_two_rows, fault_two_channels,
-                                    fault_two_channels, fault_zero};
+    /* those for rows stand twice: modulo a prime they bring zeros alone */
+    static fault *const faults[] = {
+        fault_3,       fault_19,      fault_other_channels, fault_4,        fault_5,            fault_6,            fault_7,
+        fault_inverse, fault_inverse, fault_two_rows,       fault_two_rows, fault_two_channels, fault_two_channels, fault_zero,
+    };
     int64_t *output;
     struct joining x = accepted(random);
     DAMAGE(random, &x, faults);
