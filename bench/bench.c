@@ -500,7 +500,8 @@ static double print_transposed(uint32_t m, bool brief) {
 static struct joined_ratios print_joined(uint32_t m, uint32_t other, bool brief) {
     static const size_t lengths[] = {128, MOST_JOINED}, rows[] = {15, MOST_ROWS};
     struct joined_ratios ratios = {0, 0};
-    printf("\nm = %" PRIu32 " and %" PRIu32 ": microseconds for joining two lists of remainders, and the library's time over the others'\n\n", m, other);
+    printf("\nm = %" PRIu32 " and %" PRIu32 ": microseconds for joining two lists of remainders, and the library's time over the others'\n\n",
+           m, other);
     printf("| length | library |");
     for (size_t k = BEST_JOIN; k < JOINS; k++) printf(" %s | ratio |", join_ways[k].name);
     printf(" but to best C at most |\n|---:|---:|");

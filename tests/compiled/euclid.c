@@ -182,6 +182,6 @@ int main(void) {
     a[ROWS - 1] = c[0] = c[ROWS - 1] = 1;
     make_channels();
     if (!join_holds()) cannot("the divisions of join depend on the length of its lists");
-    if (!expand_join_holds()) cannot("expand_join takes more divisions than its parts, one for each number that is reduced, and a run of Euclid's algorithm for each column");
+    if (!expand_join_holds()) cannot("expand_join takes more divisions than its parts, its remainders and its columns");
     return 0;
 }

@@ -20,7 +20,8 @@ static void some_channels(struct random *random, uint32_t m[CHANNELS]) {
     do {
         uint32_t kind = below(random, 8);
         m[0] = kind == 0 ? ONE_OF(random, great) : kind < 3 ? ONE_OF(random, of_2_and_3) : some_modulus(random);
-        m[1] = kind == 0 ? ONE_OF(random, great) : kind < 3 ? ONE_OF(random, of_5_and_7) : kind == 3 ? m[0] - 1 : kind == 4 ? 2 : some_modulus(random);
+        m[1] = kind == 0 ? ONE_OF(random, great) : kind < 3 ? ONE_OF(random, of_5_and_7) : kind == 3 ? m[0] - 1 : some_modulus(random);
+        if (kind == 4) m[1] = 2;
         if (one_in(random, 2)) {
             uint32_t second = m[0];
             m[0] = m[1];
@@ -100,10 +101,13 @@ static void fault_both_lengths(struct random *random, struct joining *x) {
     if (one_in(random, 2)) x->output_length = some_length(random);
 }
 
-/* The remainders past a list's end are those of a case before. */
+/* One list is cut, or goes on with remainders that are accepted. */
 static void fault_20(struct random *random, struct joining *x) {
-    struct list *list = &x->remainders[below(random, CHANNELS)];
-    list->length = other_length(random, list->length);
+    uint32_t which = below(random, CHANNELS);
+    struct list *list = &x->remainders[which];
+    size_t before = list->length;
+    list->length = other_length(random, before);
+    for (size_t i = before; i < list->length; i++) list->entries[i] = below(random, x->m[which]);
     if (one_in(random, 3)) x->output_length = list->length;
 }
 
@@ -116,14 +120,16 @@ static void fault_12(struct random *random, struct joining *x) {
     list.entries[ONE_OF(random, places)] = one_in(random, 4) ? other - 1 : some_not_below(random, m);
 }
 
-static void lend_result(struct trial *trial, struct random *random, const struct joining *x, int64_t **output) {
+/* Lends the output, dirty, with the result at its front if the call is not refused, and notes whether half of m1 m2 is in it. */
+static int64_t *lend_result(struct trial *trial, struct random *random, const struct joining *x) {
     const void *before = dirt(random, x->output_length * sizeof *result);
-    struct lending lending = {"output", WIDE_NUMBERS, before, x->output_length, result, trial->number ? 0 : joined_length(x), 0};
-    for (size_t i = 0; !trial->number && i < joined_length(x); i++)
+    size_t length = trial->number ? 0 : joined_length(x);
+    for (size_t i = 0; i < length; i++)
         trial->half = trial->half || (product_of(x->m) % 2 == 0 && result[i] == greatest_joined(x->m));
-    *output = lend(trial, random, lending);
+    return lend(trial, random, (struct lending){"output", WIDE_NUMBERS, before, x->output_length, result, length, 0});
 }
 
+/* Notes the channel numbers and what the call has to return. */
 static void begin(struct trial *trial, const struct joining *x) {
     trial->m = &x->m[0];
     trial->second_m = &x->m[1];
@@ -131,9 +137,10 @@ static void begin(struct trial *trial, const struct joining *x) {
 }
 
 uint32_t run_on_remainders(struct trial *trial, struct random *random) {
-    static fault *const faults[] = {fault_3, fault_19, fault_other_channels, fault_20, fault_20, fault_both_lengths, fault_7, fault_12, fault_12};
+    static fault *const faults[] = {
+        fault_3, fault_19, fault_other_channels, fault_20, fault_20, fault_both_lengths, fault_7, fault_12, fault_12,
+    };
     struct joining x = {.remainders = {{remainders[0], 0}, {remainders[1], 0}}};
-    int64_t *output;
     some_channels(random, x.m);
     x.remainders[0].length = x.remainders[1].length = x.output_length = some_length(random);
     fill_remainders(random, &x, 0);
@@ -141,7 +148,7 @@ uint32_t run_on_remainders(struct trial *trial, struct random *random) {
     begin(trial, &x);
     if (trial->number == 0) hand_out_joined(&x, result);
     struct list first = lend_list(trial, random, "first", x.remainders[0]), second = lend_list(trial, random, "second", x.remainders[1]);
-    lend_result(trial, random, &x, &output);
+    int64_t *output = lend_result(trial, random, &x);
     compare(trial, zahupnik_join(x.m[0], x.m[1], first.entries, first.length, second.entries, second.length, output, x.output_length));
     return trial->number;
 }
@@ -303,10 +310,11 @@ static void note_channels(struct trial *trial, const struct joining *x) {
 #define LIST(list) lent.list.entries, lent.list.length
 
 uint32_t run_on_two_channels(struct trial *trial, struct random *random) {
-    static fault *const faults[] = {fault_3,        fault_19,       fault_other_channels, fault_4,        fault_5,        fault_6,
-                                    fault_7,        fault_inverse,  fault_inverse,        fault_two_rows, fault_two_rows, fault_two_channels,
-                                    fault_two_channels, fault_zero};
-    int64_t *output;
+    /* those for rows stand twice: modulo a prime they bring zeros alone */
+    static fault *const faults[] = {
+        fault_3,       fault_19,      fault_other_channels, fault_4,        fault_5,            fault_6,            fault_7,
+        fault_inverse, fault_inverse, fault_two_rows,       fault_two_rows, fault_two_channels, fault_two_channels, fault_zero,
+    };
     struct joining x = accepted(random);
     DAMAGE(random, &x, faults);
     begin(trial, &x);
@@ -320,7 +328,7 @@ uint32_t run_on_two_channels(struct trial *trial, struct random *random) {
     lent.b = lend_signed(trial, random, "b", x.b);
     lent.c = lend_signed(trial, random, "c", x.c);
     lent.curve = lend_signed(trial, random, "curve", x.curve);
-    lend_result(trial, random, &x, &output);
+    int64_t *output = lend_result(trial, random, &x);
     compare(trial, zahupnik_expand_join(x.m[0], x.m[1], LIST(a), LIST(b), LIST(c), LIST(curve), output, x.output_length));
     return trial->number;
 }

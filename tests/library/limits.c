@@ -766,6 +766,11 @@ static void joins_to(const char *with, uint32_t m1, uint32_t m2, uint32_t first,
     cases++;
 }
 
+/* The remainders of a value that is in its range are joined to it. */
+static void joins_back(const char *with, uint32_t m1, uint32_t m2, int64_t value) {
+    joins_to(with, m1, m2, remainder_of(value, m1), remainder_of(value, m2), value);
+}
+
 static void on_values(void) {
     const uint32_t greatest = ZAHUPNIK_GREATEST_MODULUS;
     const int64_t half = INT64_C(2305843005992468481);
@@ -773,13 +778,13 @@ static void on_values(void) {
     joins_to("half of 6, the other way round", 3, 2, 0, 1, 3);
     joins_to("one past half of 6", 2, 3, 0, 1, -2);
     joins_to("minus one", 7, 15, 6, 14, -1);
-    joins_to("half of 105, cut", 7, 15, 52 % 7, 52 % 15, 52);
-    joins_to("one past it", 7, 15, 53 % 7, 53 % 15, -52);
-    joins_to("the greatest joined value", greatest, greatest - 1, remainder_of(half, greatest), remainder_of(half, greatest - 1), half);
-    joins_to("the greatest, the other way round", greatest - 1, greatest, remainder_of(half, greatest - 1), remainder_of(half, greatest), half);
-    joins_to("the least joined value", greatest, greatest - 1, remainder_of(1 - half, greatest), remainder_of(1 - half, greatest - 1), 1 - half);
-    joins_to("the least, the other way round", greatest - 1, greatest, remainder_of(1 - half, greatest - 1), remainder_of(1 - half, greatest), 1 - half);
-    joins_to("minus one modulo the greatest", greatest, greatest - 1, greatest - 1, greatest - 2, -1);
+    joins_to("half of 105, cut", 7, 15, 3, 7, 52);
+    joins_to("one past it", 7, 15, 4, 8, -52);
+    joins_back("the greatest joined value", greatest, greatest - 1, half);
+    joins_back("the greatest, the other way round", greatest - 1, greatest, half);
+    joins_back("the least joined value", greatest, greatest - 1, 1 - half);
+    joins_back("the least, the other way round", greatest - 1, greatest, 1 - half);
+    joins_back("minus one modulo the greatest", greatest, greatest - 1, -1);
 }
 
 /* A list as long as one likes, and its last remainder one too great. */
