@@ -43,7 +43,6 @@ enum { FAMILIES = 16 };
 #define MOST_FOR_ZERO_C_1 1.05
 #define MOST_FOR_TRANSPOSED 0.60
 #define MOST_FOR_JOIN 1.00
-#define MOST_FOR_EXPAND_JOIN 1.00
 #define TEXT_OF(number) QUOTED(number)
 #define QUOTED(number) #number
 
@@ -396,13 +395,8 @@ static double quicker_package(enum operation operation) {
     return least;
 }
 
-/* The calls on two channels, over those that stand beside them. */
-struct joined_ratios {
-    double join, expand_join;
-};
-
 /* The ratios that are held to a bound (docs/PERFORMANCE.md), the calls' at the most rows. */
-static void print_bounds(uint32_t m, double transposed, struct joined_ratios joined) {
+static void print_bounds(uint32_t m, double transposed, double joined) {
     printf("\nm = %" PRIu32 ", r = %d: the ratios that have a bound\n\n", m, MOST_ROWS);
     printf("| call | against | ratio | at most |\n|---|---|---:|---:|\n");
     for (size_t i = 0; i < CALLS; i++) {
@@ -416,8 +410,7 @@ static void print_bounds(uint32_t m, double transposed, struct joined_ratios joi
         if (other > 0) printf("| %s | %s | %.2f | %.2f |\n", calls[i].name, against[calls[i].rival], own / other, calls[i].most);
     }
     printf("| transposed multiplication, at its greatest | whole product in C, cut | %.2f | %.2f |\n", transposed, MOST_FOR_TRANSPOSED);
-    printf("| join, at its greatest | the quickest of straightforward C, GMP and FLINT | %.2f | %.2f |\n", joined.join, MOST_FOR_JOIN);
-    printf("| expand_join | two Expands and a join of straightforward C | %.2f | %.2f |\n", joined.expand_join, MOST_FOR_EXPAND_JOIN);
+    printf("| join, at its greatest | the quickest of straightforward C, GMP and FLINT | %.2f | %.2f |\n", joined, MOST_FOR_JOIN);
 }
 
 /* The first family, whose c_1 is 0, held against the mean of the others, each timed by itself. Inverse looks at no family. */
@@ -496,10 +489,10 @@ static double print_transposed(uint32_t m, bool brief) {
 }
 
 /* Two channels, the first of them m: lists of remainders joined, and curves expanded and joined. Answers the greatest of the ratios of join to
- * the quickest beside it, best C left out, and that of expand_join to straightforward C at the most rows. */
-static struct joined_ratios print_joined(uint32_t m, uint32_t other, bool brief) {
+ * the quickest beside it, best C left out. */
+static double print_joined(uint32_t m, uint32_t other, bool brief) {
     static const size_t lengths[] = {128, MOST_JOINED}, rows[] = {15, MOST_ROWS};
-    struct joined_ratios ratios = {0, 0};
+    double greatest = 0;
     printf("\nm = %" PRIu32 " and %" PRIu32 ": microseconds for joining two lists of remainders, and the library's time over the others'\n\n",
            m, other);
     printf("| length | library |");
@@ -516,7 +509,7 @@ static struct joined_ratios print_joined(uint32_t m, uint32_t other, bool brief)
         for (size_t k = BEST_JOIN; k < JOINS; k++) {
             double ratio = by[OWN_JOIN].time / by[k].time;
             printf(" %.3f | %.2f |", by[k].time * 1e6, ratio);
-            if (k != BEST_JOIN && ratio > ratios.join) ratios.join = ratio;
+            if (k != BEST_JOIN && ratio > greatest) greatest = ratio;
         }
         printf(" %.2f |\n", MOST_FOR_JOIN);
     }
@@ -532,9 +525,8 @@ static struct joined_ratios print_joined(uint32_t m, uint32_t other, bool brief)
         for (size_t k = STRAIGHTFORWARD_EXPAND_JOIN; k < EXPAND_JOINS; k++)
             printf(" %.2f | %.2f |", by[k].time * 1e6, by[OWN_EXPAND_JOIN].time / by[k].time);
         printf("\n");
-        ratios.expand_join = by[OWN_EXPAND_JOIN].time / by[STRAIGHTFORWARD_EXPAND_JOIN].time;
     }
-    return ratios;
+    return greatest;
 }
 
 static void time_all(uint32_t m, size_t r, bool brief) {
@@ -551,7 +543,7 @@ static void time_all(uint32_t m, size_t r, bool brief) {
     print_zero_c_1(m, r, brief);
     if (brief && m != moduli[0]) return;
     double transposed = print_transposed(m, brief);
-    struct joined_ratios joined = print_joined(m, m == moduli[0] ? moduli[1] : moduli[0], brief);
+    double joined = print_joined(m, m == moduli[0] ? moduli[1] : moduli[0], brief);
     if (!brief) print_bounds(m, transposed, joined);
 }
 
