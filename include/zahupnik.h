@@ -1,10 +1,11 @@
-/* Zahupnik: conversion between orthogonal bases and powers of x, modulo m.
+/* Zahupnik: conversion between orthogonal bases and powers of x, modulo m, and on two moduli, joined into whole numbers with a sign.
  *
  * m need not be prime. All numbers are whole, and results are remainders from 0 to m - 1, but those of zahupnik_join and
  * zahupnik_expand_join, which have a sign. A family has r rows, and row i (i = 1 to r) is a_i, b_i, c_i, at index i - 1 of the lists a, b
  * and c. Its polynomials are F_{-1} = 0, F_0 = 1 and F_i = (a_i x + b_i) F_{i-1} + c_i F_{i-2}. n is r + 1 throughout. Lists have the
  * lowest index or power first.
- * c_1 multiplies F_{-1} = 0 only: it may be any number below m, 0 too, as in Legendre's recurrence, and no converted list depends on it.
+ * c_1 multiplies F_{-1} = 0 only: it may be any number below m, for zahupnik_expand_join any at all, 0 too, as in Legendre's recurrence, and
+ * no converted list depends on it.
  * A number with a sign leaves a remainder from 0 to m - 1 too, from which it differs by a multiple of m: -1 leaves m - 1.
  *
  * What a function returns: ZAHUPNIK_FINISHED, and then the result that its comment states is written; or the number of a
@@ -14,7 +15,8 @@
  * that it tests, in this order, each over all rows or entries before the next; the first that is the case is returned. 17 and 10 look
  * at one row: where some a have no inverse modulo m, the lowest row of these decides, 17 if its a is zero, a fault of the family, and 10
  * if it is not and so shares a factor with m, which another m may mend. Likewise 18 and 11 for the c from row 2 on. zahupnik_expand_join
- * looks at remainders: there 17 and 18 say that the number leaves zero, and if it is not zero itself, another m may mend that too.
+ * looks at remainders: there 17 and 18 say that the a or the c of that row leaves zero, and where it is not zero itself, another m may mend
+ * that too.
  *
  * Which way to take: the plain way is the quicker one at every size that bench/run measures, and the tree way gives the same list;
  * zahupnik_expand_join goes by the plain way. A prepared family saves Norms much of its time, Decompose and Moments of many rows a little,
@@ -62,8 +64,9 @@
  *
  * Build the library with `rt staticlib zahupnik` and link target/staticlib/libzahupnik.a; it is for x86-64 Linux. The functions
  * are proved to do this on every input (crates/zahupnik; that a job that is written is carried out, crates/text_laws; that a record
- * comes back when a row is put back, and that a record answers as the lists do, crates/prepared_laws; that joined numbers are the only
- * ones, and exact in their range, crates/join_laws); that these declarations fit them is tested (tests/library).
+ * comes back when a row is put back, and that a record answers as the lists do, crates/prepared_laws; that a joined value is the
+ * only one with its remainders in the range, and that Expand and join is exact in it, crates/join_laws); that these declarations fit them is
+ * tested (tests/library).
  */
 #ifndef ZAHUPNIK_H
 #define ZAHUPNIK_H
@@ -110,7 +113,8 @@ extern "C" {
 #define ZAHUPNIK_ABSENT_ROW 16    /* there is no such row to replace */
 #define ZAHUPNIK_A_ZERO 17        /* some a has no inverse modulo m: that of the lowest such row is zero; of zahupnik_expand_join, it leaves
                                    * zero */
-#define ZAHUPNIK_C_ZERO 18        /* some c from row 2 on has no inverse modulo m: that of the lowest such row is zero, or leaves zero */
+#define ZAHUPNIK_C_ZERO 18        /* some c from row 2 on has no inverse modulo m: that of the lowest such row is zero; of
+                                   * zahupnik_expand_join, it leaves zero */
 #define ZAHUPNIK_SHARED_FACTOR 19 /* m1 and m2 share a factor greater than 1 */
 #define ZAHUPNIK_REMAINDERS 20    /* the two lists of remainders are not equally long */
 
@@ -206,8 +210,8 @@ uint32_t zahupnik_write_job(uint32_t m, const uint32_t *a, size_t a_length, cons
  * it is not right. That is no checksum: a record that was changed into the right one of another family is taken. Another number below m
  * for the b of one of its rows, or for c_1 where it has a row, always makes such a one, and another m may.
  * Whether a record is right, and nothing else: zahupnik_prepared_norms(family, NULL, 0) returns 7 if it is, since no list of norms is empty,
- * and 14 if it is not. Whether its rows are at fault, and by what: zahupnik_norms on its m and its rows says so, if it has no more than
- * ZAHUPNIK_MOST_ROWS. */
+ * and 14 if it is not. Whether its rows are at fault, and by what: zahupnik_norms on its m, its rows and an output of n numbers says so, if
+ * it has no more than ZAHUPNIK_MOST_ROWS. */
 struct zahupnik_prepared {
     uint32_t modulus, rows;
     uint32_t a[ZAHUPNIK_MOST_ROWS], b[ZAHUPNIK_MOST_ROWS], c[ZAHUPNIK_MOST_ROWS];
@@ -262,11 +266,12 @@ uint32_t zahupnik_prepared_tree_decompose(struct zahupnik_prepared family, const
 uint32_t zahupnik_prepared_moments(struct zahupnik_prepared family, uint32_t *output, size_t output_length, uint32_t *work,
                                    size_t work_length);
 
-/* Two channels, that is two moduli, m1 and m2, without a common factor. For every two remainders there is exactly one whole number v that
- * leaves the first modulo m1 and the second modulo m2 and has 2 v greater than -(m1 m2) and at most m1 m2: the joined value. Where m1 m2 is
- * even, its half is a joined value, and the negative of its half is none. A joined value is never below -2305843005992468480 nor above
- * 2305843005992468481. Of 3, 12, 17, 10, 18 and 11 the number does not say which of the two it was. Whether 17, 10, 18 or 11 was of m1:
- * zahupnik_norms on m1 and the remainders of the rows modulo m1 then returns the same number, and otherwise another. */
+/* Two channels, that is two moduli, m1 and m2, without a common factor greater than 1. For every two remainders there is exactly one whole
+ * number v that leaves the first modulo m1 and the second modulo m2 and has 2 v greater than -(m1 m2) and at most m1 m2 (the range): the
+ * joined value. Where m1 m2 is even, its half is a joined value, and the negative of its half is none. A joined value is never below
+ * -2305843005992468480 nor above 2305843005992468481. Of 3, 12, 17, 10, 18 and 11 the number does not say which of the two it was. Whether
+ * 17, 10, 18 or 11 was of m1: zahupnik_norms on m1, the remainders of the rows modulo m1 and an output of n numbers returns the same number
+ * if it was, and another if it was of m2. */
 
 /* Join: output[i] becomes the joined value of first[i] modulo m1 and second[i] modulo m2. Lengths: first and second the same, any;
  * output the same. Refuses with 3 3 19 20 7 12 12: 3 of m1 and then of m2, 12 of first, all of it, and then of second. */
@@ -274,12 +279,12 @@ uint32_t zahupnik_join(uint32_t m1, uint32_t m2, const uint32_t *first, size_t f
                        size_t second_length, int64_t *output, size_t output_length);
 
 /* Expand and join: rows and curve are whole numbers with a sign, any that the type holds, and each channel takes their remainders; c_1 may
- * be any of them.
- * output[k] becomes the joined value of what zahupnik_plain_expand makes output[k] with m1 and the remainders modulo m1, and of what it
- * makes it with m2 and the remainders modulo m2. So where the coefficient of x^k in the sum over i of curve[i] F_i, over the whole numbers,
- * is in the range of the joined value, output[k] is that coefficient; where it is not, output[k] differs from it by a multiple of m1 m2,
- * and nothing says so. Row by row. Lengths: a, b, c r; curve n; output n. Refuses with 3 3 19 4 5 6 7 17 10 17 10 18 11 18 11:
- * 3 of m1 and then of m2; 17 and 10 of the remainders modulo m1 and then modulo m2, and likewise 18 and 11. */
+ * be any of them. output[k] becomes the joined value of two remainders: what zahupnik_plain_expand writes at k for m1 and the remainders of
+ * rows and curve modulo m1, and what it writes there for m2 and those modulo m2. So where the coefficient of x^k in the sum over i of
+ * curve[i] F_i, over the whole numbers, is in the range, output[k] is that coefficient; where it is not, output[k] differs from it by a
+ * multiple of m1 m2, and nothing says so. Row by row. Lengths: a, b, c r; curve n; output n. Refuses with
+ * 3 3 19 4 5 6 7 17 10 17 10 18 11 18 11: 3 of m1 and then of m2; 17 and 10 of the remainders modulo m1 and then modulo m2, and likewise 18
+ * and 11. */
 uint32_t zahupnik_expand_join(uint32_t m1, uint32_t m2, const int32_t *a, size_t a_length, const int32_t *b, size_t b_length,
                               const int32_t *c, size_t c_length, const int32_t *curve, size_t curve_length,
                               int64_t *output, size_t output_length);

@@ -101,7 +101,7 @@ fn expand_channel(m: u32, a: &[i32], b: &[i32], c: &[i32], curve: &[i32], output
 }
 
 // Expand and join, row by row on each channel: output[k] becomes the joined value of the coefficients of x^k modulo m1 and modulo m2. Where the
-// coefficient over the whole numbers is in the range of the joined value, it is that coefficient.
+// coefficient over the whole numbers is in the range of the joined value, output[k] is that coefficient.
 // Refused with 3, 19, 4, 5, 6 and 7: the moduli, the lists or their lengths are not in order (the station's program); with 17, 10, 18 and 11: an
 // a, or a c from row 2 on, has no inverse modulo m1 or modulo m2, 17 and 18 where the lowest such row leaves zero (the maker of the element).
 pub fn expand_join(

@@ -5,10 +5,11 @@
 --   ExpandJoinHolds    Expand and join finishes; each number handed out is in the range; the remainders of the list are those of Expand on
 --                      each channel; each number differs from the true coefficient by a multiple of m m′; a true coefficient in the range is
 --                      handed out, and so all of them where each is
---   ChannelsHold       the calls finish; what Expand hands out on each channel is the definition's list and what the joined list leaves; what
+--   ChannelsHold       the answer is finished; what Expand hands out on each channel is the definition's list and what the joined list leaves; what
 --                      Join makes of the two is what Expand and join hands out
 --   JoinLaw, ExpandJoinLaw   the promises: that of the call on every input, and the law on what it accepts
---   ChannelsLaw        the promise of four calls, on what Expand and join accepts where the other lists are the remainders of its lists
+--   ChannelsLaw        the promise of four calls, on what Expand and join accepts where the other lists are the remainders of its lists and the
+--                      other outputs n long; on other input it promises nothing
 -- Item 6 of the change requests. Assumes nothing.
 use mathlib.Core.Bool.{true}
 use mathlib.Core.List.{List, []}
@@ -22,7 +23,7 @@ use Rattle.joining.specs.Expanding.{Signed, coefficient, wholeExpand, reducedLi
 use Rattle.joining.specs.Calls.{JoinCall, ExpandJoinCall}
 use Rattle.wholes.specs.Accepting.{JoinInput, ExpandJoinInput}
 
--- v: what the answer says; primes mark a list at exit
+-- v: what the answer says; a prime on a list marks it at exit, and m′ is the second modulus
 pub record JoinHolds (m m′ : ℕ) (xs ys : List ℕ) (v : Verdict) (output′ : List ℤ) : Type 0 where
   pub finishes : v ≡ finished []
   pub each : (i : ℕ) → i < length xs → joins m m′ (getD xs i 0) (getD ys i 0) (getD output′ i (pos 0)) ≡ true

@@ -28,7 +28,7 @@ fn expand_join_is_exact(
     expand_join::expand_join(m1, m2, a, b, c, curve, output)
 }
 
-// Expand on either channel, by calls of their own on the remainders, and Join of what these hand out: the list of Expand and join.
+// Expand on each channel, by a call of its own on the remainders, and Join of what these hand out: the list of Expand and join.
 fn expands_joined(
     m1: u32,
     m2: u32,

@@ -7,8 +7,8 @@
 --   expandJoinTests        of Expand and join: 3 3 19, sizeTests, bothRows
 --   wholesAfter v new old  what the output holds after the verdict v: new if finished, what it held if refused
 --   WholesHanded           the promise of a call that hands out whole numbers;  JoinCall, ExpandJoinCall  of each
--- 9 and 12 are not tested where the numbers are reduced first, since a remainder is below its modulus. Item 6 of the change requests.
--- Assumes nothing.
+-- 9 and 12 are not tested where the numbers are reduced first, since a remainder is below its modulus. Items 6, 5 and 2 of the change
+-- requests. Assumes nothing.
 use mathlib.Core.Path.{_≡_}
 use mathlib.Core.List.{List, [], _∷_, _++_}
 use Prim.Native.Nat.{ℕ, suc}

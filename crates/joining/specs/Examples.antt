@@ -4,10 +4,10 @@
 --   hermite, laguerre        H_4 and 3! L_3 as published: the true coefficients, and the same joined modulo 11 and 13; laguerre-sum a sum of i! L_i
 --   past-range               H_4 modulo 5 and 7, whose range is too small for it: the joined value differs by a multiple of 35
 --   least-numbers            true coefficients of a curve with the least number of 32 bits, and of rows with it
---   mended, joinMended       inputs whose faults are all from the first 3 on, then from the second on, and so on to none
--- expand-join-order, join-order: the number that each input gives. So no test of a call is left out, none stands before an earlier one, and
--- each condition holds where it must, over all rows of the first channel before the second; but two tests with one number, as 12 and 12,
--- look alike from outside.
+--   mended, joinMended       inputs with many faults, of which one after another is mended, and some with one fault alone; past-first one more
+-- expand-join-order, join-order: the number that each input gives. So no test of a call is left out, and none stands before an earlier one,
+-- over all rows of the first channel before the second; but two neighbours with one number, as 3 and 3, or 12 and 12, look alike in
+-- either order.
 -- join-outcomes, expand-join-outcomes: what the output holds after a call that finishes, and after one that is refused.
 -- Assumes nothing.
 use mathlib.Core.Bool.{true, false}
@@ -140,7 +140,8 @@ lendLists m m′ first second output = record { m = m; m′ = m′; first = firs
 
 abbrev joinMended : List JoinLent
 joinMended =
-    lendLists 1 0 (6 ∷ []) [] 2
+    lendLists 1 35 (6 ∷ []) [] 2
+    ∷ lendLists 1 0 (6 ∷ []) [] 2
     ∷ lendLists 4294967295 0 (6 ∷ []) [] 2
     ∷ lendLists 6 0 (6 ∷ []) [] 2
     ∷ lendLists 6 2147483648 (6 ∷ []) [] 2
@@ -158,7 +159,7 @@ joinMended =
     ∷ []
 
 join-order : map (λ l. number (verdict (joinTests (l .m) (l .m′) (l .first) (l .second) (l .output)) [])) joinMended
-    ≡ 3 ∷ 3 ∷ 3 ∷ 3 ∷ 19 ∷ 19 ∷ 20 ∷ 20 ∷ 7 ∷ 7 ∷ 12 ∷ 12 ∷ 12 ∷ 0 ∷ 0 ∷ []
+    ≡ 3 ∷ 3 ∷ 3 ∷ 3 ∷ 3 ∷ 19 ∷ 19 ∷ 20 ∷ 20 ∷ 7 ∷ 7 ∷ 12 ∷ 12 ∷ 12 ∷ 0 ∷ 0 ∷ []
 unfolding expandJoinOutcome
 join-order = refl
 
@@ -189,8 +190,8 @@ lowerOnTheSecondForC = signed (pos 1 ∷ pos 1 ∷ pos 1 ∷ []) (zeros 3) (pos 
 -- modulo 15 and 14: 210 is zero on both; 42 shares 3 with 15 and is zero modulo 14; -15 is zero modulo 15, -14 modulo 14; -2 shares 2 with 14
 abbrev mended : List ExpandLent
 mended =
-    lendRows 0 1 (signed (zeros 128) [] []) [] 2
-    ∷ lendRows 15 1 (signed (zeros 128) [] []) [] 2
+    lendRows 1 14 (signed (zeros 128) [] []) [] 2
+    ∷ lendRows 15 0 (signed (zeros 128) [] []) [] 2
     ∷ lendRows 15 10 (signed (zeros 128) [] []) [] 2
     ∷ lendRows 15 14 (signed (zeros 128) [] []) [] 2
     ∷ lendRows 15 14 (signed (zeros 128) (zeros 128) []) [] 2
@@ -220,6 +221,11 @@ expand-join-order : map (λ l. number (verdict (expandJoinTests (l .m) (l .m′)
 unfolding expandJoinOutcome
 expand-join-order = refl
 
+-- 3 of the first modulus stands before 19: 2147483648 and 6 share 2
+past-first : number (verdict (joinTests 2147483648 6 [] [] 0) []) ≡ 3
+unfolding expandJoinOutcome
+past-first = refl
+
 -- ---- what the output holds after a call
 join-outcomes : joinOutcome 5 7 (3 ∷ 2 ∷ []) (4 ∷ 3 ∷ []) (pos 9 ∷ pos 8 ∷ []) ≡ minus 17 ∷ pos 17 ∷ []
 unfolding expandJoinOutcome
@@ -233,6 +239,6 @@ expand-join-outcomes : expandJoinOutcome 11 13 laguerreRows third (zeros 4) ≡ 
 unfolding expandJoinOutcome
 expand-join-outcomes = refl
 
-expand-join-outcomes-refused : expandJoinOutcome 4 13 laguerreRows third (zeros 4) ≡ zeros 4
+expand-join-outcomes-refused : expandJoinOutcome 4 13 laguerreRows third (pos 9 ∷ pos 8 ∷ pos 7 ∷ pos 6 ∷ []) ≡ pos 9 ∷ pos 8 ∷ pos 7 ∷ pos 6 ∷ []
 unfolding expandJoinOutcome
 expand-join-outcomes-refused = refl

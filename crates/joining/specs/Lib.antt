@@ -3,7 +3,7 @@
 --   Whole      remainders of whole numbers with a sign, the range, the joined value
 --   Expanding  Expand over the whole numbers, and a family and a curve reduced modulo m
 --   Calls      the tests of both calls in their order, and their promises
---   Examples   joined values at the ends of their ranges, published polynomials, and every fault at once and then one after another
+--   Examples   joined values at the ends of their ranges, published polynomials, and many faults at once and then one after another
 --              mended, computed
 -- Assumes nothing.
 pub mod Whole
