@@ -61,12 +61,14 @@
  *     zahupnik_prepared_moments          15872
  *     zahupnik_join                        128
  *     zahupnik_expand_join                5120
+ *     zahupnik_even_first                   64
+ *     zahupnik_even_back                    64
  *
  * Build the library with `rt staticlib zahupnik` and link target/staticlib/libzahupnik.a; it is for x86-64 Linux. The functions
  * are proved to do this on every input (crates/zahupnik; that a job that is written is carried out, crates/text_laws; that a record
  * comes back when a row is put back, and that a record answers as the lists do, crates/prepared_laws; that a joined value is the
- * only one with its remainders in the range, and that Expand and join is exact in it, crates/join_laws); that these declarations fit them is
- * tested (tests/library).
+ * only one with its remainders in the range, and that Expand and join is exact in it, crates/join_laws; that either order comes back by
+ * the other, and where its zeros lie, crates/order_laws); that these declarations fit them is tested (tests/library).
  */
 #ifndef ZAHUPNIK_H
 #define ZAHUPNIK_H
@@ -80,6 +82,7 @@ extern "C" {
 
 #define ZAHUPNIK_GREATEST_MODULUS UINT32_C(2147483647)
 #define ZAHUPNIK_MOST_ROWS 127
+#define ZAHUPNIK_MOST_ENTRIES 128
 #define ZAHUPNIK_LEAST_WORK 16384
 #define ZAHUPNIK_MOST_TEXT 8192
 #define ZAHUPNIK_LEAST_TEXT_OUTPUT 4096
@@ -97,7 +100,8 @@ extern "C" {
 #define ZAHUPNIK_TEXT_FORM 2      /* the job text is not of the form; or no job text has this operation */
 #define ZAHUPNIK_MODULUS 3        /* m, or m1 or m2, is below 2 or above ZAHUPNIK_GREATEST_MODULUS */
 #define ZAHUPNIK_LENGTHS 4        /* the lists a, b and c are not equally long */
-#define ZAHUPNIK_ROWS 5           /* there are more than ZAHUPNIK_MOST_ROWS rows, or an append would make them */
+#define ZAHUPNIK_ROWS 5           /* there are more than ZAHUPNIK_MOST_ROWS rows, or an append would make them; or a list has more than
+                                   * ZAHUPNIK_MOST_ENTRIES numbers */
 #define ZAHUPNIK_CURVE_LENGTH 6   /* the curve, or the list of coefficients, is not n long; or not empty in a job for moments or norms */
 #define ZAHUPNIK_OUTPUT_LENGTH 7  /* the output is not as long as the result; or shorter than ZAHUPNIK_LEAST_TEXT_OUTPUT bytes for an
                                    * answer text, than ZAHUPNIK_LEAST_JOB_OUTPUT for a job text */
@@ -288,6 +292,19 @@ uint32_t zahupnik_join(uint32_t m1, uint32_t m2, const uint32_t *first, size_t f
 uint32_t zahupnik_expand_join(uint32_t m1, uint32_t m2, const int32_t *a, size_t a_length, const int32_t *b, size_t b_length,
                               const int32_t *c, size_t c_length, const int32_t *curve, size_t curve_length,
                               int64_t *output, size_t output_length);
+
+/* Even powers first, as a store of expanded curves keeps them: the entries of a list at even indices rising, then those at odd indices
+ * rising; and the way back. The numbers are any of 32 bits, and there is no modulus. `half` is (list_length + 1) / 2, rounded down: how many indices
+ * are even. Either function after the other returns the list. Where every b of a family is zero, F_j has only powers whose index is even
+ * where j is even, and odd where j is odd. So of its expanded curve, even powers first, the entries from `half` on are zero if the curve's
+ * entries at odd indices are, and those before `half` are zero if the curve's entries at even indices are.
+ * Lengths: list at most ZAHUPNIK_MOST_ENTRIES, 0 too; output the same. Refuse with 5 7. */
+
+/* Even first: list[i] goes to output[i / 2] for an even i, and to output[half + i / 2] for an odd i, each quotient rounded down. */
+uint32_t zahupnik_even_first(const uint32_t *list, size_t list_length, uint32_t *output, size_t output_length);
+
+/* Even back: output[i] becomes list[i / 2] for an even i, and list[half + i / 2] for an odd i. */
+uint32_t zahupnik_even_back(const uint32_t *list, size_t list_length, uint32_t *output, size_t output_length);
 
 #ifdef __cplusplus
 }
