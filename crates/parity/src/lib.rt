@@ -1,0 +1,1 @@
+// Even powers first, as facts: it has no code, only what specs/ proves.
