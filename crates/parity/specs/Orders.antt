@@ -1,6 +1,7 @@
 -- Each order by its entries.
 -- Proved: each has as many entries as the list; entry i of a list stands at its place when even powers come first (first-place), so that at
--- place k stands the entry of index n k (first-table); either order after the other returns the list (back-first, first-back).
+-- place k stands the entry of index n k (first-table); either order after the other returns the list (back-first, first-back). By the
+-- direction, source d n k being the index whose entry comes to place k: arranged-table, arranged-back.
 -- Assumes nothing.
 use mathlib.Core.List.{List, [], _∷_}
 use mathlib.Core.Path.{_≡_, refl, sym, _∙_, ap}
@@ -94,6 +95,20 @@ pub arranged-length : (d : Direction) (xs : List ℕ) → length (arranged d xs)
 unfolding arranged
 arranged-length Direction.EvenFirst xs = first-length xs
 arranged-length Direction.EvenBack xs = back-length xs
+
+-- the index of the entry that comes to place k
+abbrev pub source : Direction → ℕ → ℕ → ℕ
+source Direction.EvenFirst n k = index n k
+source Direction.EvenBack n k = place n k
+
+pub source-below : (d : Direction) (n k : ℕ) → k < n → source d n k < n
+source-below Direction.EvenFirst n k h = index-below n k h
+source-below Direction.EvenBack n k h = place-below n k h
+
+pub arranged-table : (d : Direction) (xs : List ℕ) → arranged d xs ≡ table (length xs) (λ k. getD xs (source d (length xs) k) 0)
+unfolding arranged
+arranged-table Direction.EvenFirst xs = first-table xs
+arranged-table Direction.EvenBack xs = back-table xs
 
 abbrev pub opposite : Direction → Direction
 opposite Direction.EvenFirst = Direction.EvenBack
