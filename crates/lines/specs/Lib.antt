@@ -1,4 +1,8 @@
--- The lines of a text.
---   Lines   what they are, and what determines them
+-- The lines of a text, and how they are taken.
+--   Lines    what they are, and what determines them
+--   Pieces   how they are had from the pieces of the text
+--   Taking   how one is taken from a piece
 -- Assumes nothing.
 pub mod Lines
+pub mod Pieces
+pub mod Taking
