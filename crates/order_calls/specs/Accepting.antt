@@ -1,15 +1,20 @@
 -- On which input the calls that put a list in another order finish.
 --   OrderInput n output   at most 128 numbers, and an output as long
--- Proved: they finish on that input and on no other (order-finished). Assumes nothing.
+-- Proved: they finish on that input and on no other (order-finished), and hand out the list in its order then (order-hands).
+-- Assumes nothing.
 use mathlib.Core.Bool.{false}
-use mathlib.Core.List.{[]}
+use mathlib.Core.List.{List, []}
 use mathlib.Core.Logic.{_↔_, Iff·trans}
-use mathlib.Core.Path.{_≡_}
+use mathlib.Core.Path.{_≡_, _∙_, ap}
 use Prim.Native.Nat.{ℕ, _≤_}
 use borrow.Author.Tests.{le-ltb, ltb-false}
-use Rattle.definitions.specs.Refusals.{finished, verdict}
+use lib.ListN.{length}
+use Rattle.definitions.specs.Answers.{after}
+use Rattle.definitions.specs.Refusals.{Verdict, finished, verdict}
 use Rattle.acceptance.specs.Verdicts.{None, output-passes, verdict-finished}
-use Rattle.storing.specs.Calls.{mostEntries, entryCountTest, orderTests}
+use Rattle.storing.specs.Calls.{mostEntries, entryCountTest, orderTests, OrderCall}
+use Rattle.storing.specs.Order.{arranged}
+use Rattle.storing.specs.declared.Direction.{Direction}
 
 pub record OrderInput (n output : ℕ) : Type 0 where
   pub few : n ≤ mostEntries
@@ -28,3 +33,9 @@ order-passes n output = (
 
 pub order-finished : (n output : ℕ) → (verdict (orderTests n output) [] ≡ finished []) ↔ OrderInput n output
 order-finished n output = Iff·trans (verdict-finished (orderTests n output) []) (order-passes n output)
+
+-- what is handed out then
+pub order-hands : (d : Direction) (xs : List ℕ) (v : Verdict) (output output′ : List ℕ) → OrderCall d xs v output output′
+    → OrderInput (length xs) (length output) → output′ ≡ arranged d xs
+order-hands d xs v output output′ call input =
+    call .written ∙ ap (λ w. after w (arranged d xs) output) (call .answer ∙ order-finished (length xs) (length output) .1 input)
