@@ -4,29 +4,13 @@
 ghost use mathlib.Core.Path.{_≡_};
 ghost use lib.ListN.{length};
 ghost use Rattle.definitions.specs.Printing.{printed};
-ghost use Rattle.channel.specs.Input.{Within};
-use libc::STDIN_FILENO;
+ghost use Rattle.input.specs.Input.{Within};
+use input::Input;
 use libc::STDOUT_FILENO;
-
-enum Input {
-    Bytes(usize),
-    Failed,
-}
 
 // One byte more than the longest text.
 fn text_buffer() -> [u8; 8193] {
     [0; 8193]
-}
-
-// One read of standard input, which may bring a part only, as from a pipe. 0 bytes are its end.
-fn read_some(part: &mut [u8]) -> Input
-    ensures { λ r. ⌜ Within r (length (now (part .exit))) ⌝ }
-{
-    let got = libc::read(STDIN_FILENO, part);
-    if got < 0 {
-        return Input::Failed;
-    }
-    Input::Bytes(io::count(got, part))
 }
 
 // Standard input to its end, or until the list is full.
@@ -35,7 +19,7 @@ fn read_input(text: &mut [u8]) -> Input
 {
     let mut count: usize = 0;
     while count < text.len() {
-        let Input::Bytes(more) = read_some(&mut text[count..]) else {
+        let Input::Bytes(more) = input::read_some(&mut text[count..]) else {
             return Input::Failed;
         };
         if more == 0 {

@@ -1,15 +1,15 @@
 -- What is printed for a line, by the test that decides.
 --   longestPrinted   the most bytes that are printed for a line: 128 numbers of ten digits, each with a space before it, and byte 10
--- Proved: printed-1, printed-2, printed-5 and printed-list; the same put into an output; what is kept of a line with room for 8,193 bytes
--- decides what is printed for it (printed-kept). Assumes nothing.
+-- Proved: printed-1, printed-2, printed-5 and printed-list; the same put into an output, and found at its front (front-printed); what is
+-- kept of a line with room for 8,193 bytes decides what is printed for it (printed-kept). Assumes nothing.
 use mathlib.Core.Bool.{Bool, true, false}
 use mathlib.Core.List.{List, [], _∷_}
 use mathlib.Core.Path.{_≡_, refl, sym, _∙_, ap}
 use Prim.Native.Nat.{ℕ, _+_, _*_, _<_, _≤_}
 use native.Mathlib.Omega.{arith}
 use lib.Dec.{ltb}
-use lib.ListN.{length, length-take}
-use lib.Seq.{take-all}
+use lib.ListN.{length, take, drop, length-take}
+use lib.Seq.{take-all, take-at}
 use borrow.Author.Tests.{lt-ltb, le-ltb, ltb-true, ltb-false}
 use Rattle.definitions.specs.Printing.{shown}
 use Rattle.definitions.specs.Refusals.{Verdict, finished, refused, verdict, test}
@@ -22,7 +22,7 @@ use Rattle.storing.specs.Order.{arranged}
 use Rattle.storing.specs.Printing.{asked, malformed, readStore, askedTests, lineTests, lineReply, printedLine}
 use Rattle.storing.specs.declared.Direction.{Direction}
 use Rattle.writer.specs.Lines.{lineRoom}
-use Rattle.writer.specs.Putting.{Put, put-as}
+use Rattle.writer.specs.Putting.{Put, put-as, put-front}
 
 abbrev pub longestPrinted : ℕ
 longestPrinted = 1409
@@ -75,6 +75,12 @@ pub put-printed : (old : List ℕ) (at : ℕ) (text : List ℕ) (new : List ℕ)
     → Put old at text longestPrinted new next
 put-printed old at text new next d xs ys p same e =
     put-as old at _ _ new next p text longestPrinted (ap (λ zs. line [] (numbers (arranged d zs)) []) same ∙ sym e) (omega arith)
+
+-- and found at its front
+pub front-printed : (old text new : List ℕ) (end : ℕ) → Put old 0 text longestPrinted new end → take end new ≡ text
+front-printed old text new end p =
+    let w = put-front old text longestPrinted new end p longestPrinted (omega arith) in
+    ap (take end) (w .written) ∙ take-at text (drop end old) end (sym (w .answer))
 
 -- ---- what is kept of a line
 pub printed-kept : (l : List ℕ) → printedLine (kept 8193 l) ≡ printedLine l

@@ -2,7 +2,7 @@
 use native.Mathlib.Omega.{arith}
 use borrow.Author.Needs.{needs}
 use Rattle.printing.specs.Printouts.{prints-within, prints-front}
-use Rattle.channel.specs.Input.{within-bytes}
+use Rattle.input.specs.Input.{within-bytes}
 use Rattle.channel.proofs.main.Statement.{statement}
 use Rattle.channel.proofs.main.Tie as tie
 

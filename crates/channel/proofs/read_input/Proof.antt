@@ -4,7 +4,7 @@ use Prim.Native.Nat.{_-_, _≤_}
 use lib.ListN.{length}
 use native.Mathlib.Omega.{arith}
 use borrow.Author.Needs.{needs}
-use Rattle.channel.specs.Input.{within-bytes}
+use Rattle.input.specs.Input.{within-bytes}
 use Rattle.channel.proofs.read_input.Statement.{statement}
 use Rattle.channel.proofs.read_input.Tie as tie
 

@@ -3,7 +3,7 @@
 -- Assumes nothing.
 use mathlib.Core.Path.{_≡_, subst}
 use Prim.Native.Nat.{ℕ, _≤_}
-use Rattle.channel.specs.declared.Input.{Input}
+use Rattle.input.specs.declared.Input.{Input}
 
 abbrev pub Within : Input → ℕ → Type 0
 Within (Input.Bytes count) most = count ≤ most

@@ -1,0 +1,2 @@
+-- What is known of what was read. Assumes nothing.
+pub mod Input
