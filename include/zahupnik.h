@@ -1,9 +1,9 @@
 /* Zahupnik: conversion between orthogonal bases and powers of x, modulo m, and on two moduli, joined into whole numbers with a sign.
  *
  * m need not be prime. All numbers are whole, and results are remainders from 0 to m - 1, but those of zahupnik_join and
- * zahupnik_expand_join, which have a sign. A family has r rows, and row i (i = 1 to r) is a_i, b_i, c_i, at index i - 1 of the lists a, b
- * and c. Its polynomials are F_{-1} = 0, F_0 = 1 and F_i = (a_i x + b_i) F_{i-1} + c_i F_{i-2}. n is r + 1 throughout. Lists have the
- * lowest index or power first.
+ * zahupnik_expand_join, which have a sign, and of zahupnik_even_first and zahupnik_even_back, which have no m. A family has r rows, and
+ * row i (i = 1 to r) is a_i, b_i, c_i, at index i - 1 of the lists a, b and c. Its polynomials are F_{-1} = 0, F_0 = 1 and
+ * F_i = (a_i x + b_i) F_{i-1} + c_i F_{i-2}. n is r + 1 throughout. Lists have the lowest index or power first.
  * c_1 multiplies F_{-1} = 0 only: it may be any number below m, for zahupnik_expand_join any at all, 0 too, as in Legendre's recurrence, and
  * no converted list depends on it.
  * A number with a sign leaves a remainder from 0 to m - 1 too, from which it differs by a multiple of m: -1 leaves m - 1.
@@ -100,8 +100,8 @@ extern "C" {
 #define ZAHUPNIK_TEXT_FORM 2      /* the job text is not of the form; or no job text has this operation */
 #define ZAHUPNIK_MODULUS 3        /* m, or m1 or m2, is below 2 or above ZAHUPNIK_GREATEST_MODULUS */
 #define ZAHUPNIK_LENGTHS 4        /* the lists a, b and c are not equally long */
-#define ZAHUPNIK_ROWS 5           /* there are more than ZAHUPNIK_MOST_ROWS rows, or an append would make them; or a list has more than
-                                   * ZAHUPNIK_MOST_ENTRIES numbers */
+#define ZAHUPNIK_ROWS 5           /* there are more than ZAHUPNIK_MOST_ROWS rows, or an append would make them; or a list that
+                                   * is to change its order has more than ZAHUPNIK_MOST_ENTRIES numbers */
 #define ZAHUPNIK_CURVE_LENGTH 6   /* the curve, or the list of coefficients, is not n long; or not empty in a job for moments or norms */
 #define ZAHUPNIK_OUTPUT_LENGTH 7  /* the output is not as long as the result; or shorter than ZAHUPNIK_LEAST_TEXT_OUTPUT bytes for an
                                    * answer text, than ZAHUPNIK_LEAST_JOB_OUTPUT for a job text */
@@ -294,13 +294,13 @@ uint32_t zahupnik_expand_join(uint32_t m1, uint32_t m2, const int32_t *a, size_t
                               int64_t *output, size_t output_length);
 
 /* Even powers first, as a store of expanded curves keeps them: the entries of a list at even indices rising, then those at odd indices
- * rising; and the way back. The numbers are any of 32 bits, and there is no modulus. `half` is (list_length + 1) / 2, rounded down: how many indices
- * are even. Either function after the other returns the list. Where every b of a family is zero, F_j has only powers whose index is even
- * where j is even, and odd where j is odd. So of its expanded curve, even powers first, the entries from `half` on are zero if the curve's
- * entries at odd indices are, and those before `half` are zero if the curve's entries at even indices are.
+ * rising; and the way back. The numbers are any of 32 bits. Quotients are rounded down, and `half` is (list_length + 1) / 2: how many
+ * indices are even. Of what either function writes the other makes the list again. Where every b of a family is zero, F_j has only even
+ * powers for an even j and only odd ones for an odd j. So of its expanded curve, even powers first, the entries from `half` on are zero if
+ * the curve's entries at odd indices are, and those before `half` are zero if the curve's entries at even indices are.
  * Lengths: list at most ZAHUPNIK_MOST_ENTRIES, 0 too; output the same. Refuse with 5 7. */
 
-/* Even first: list[i] goes to output[i / 2] for an even i, and to output[half + i / 2] for an odd i, each quotient rounded down. */
+/* Even first: list[i] goes to output[i / 2] for an even i, and to output[half + i / 2] for an odd i. */
 uint32_t zahupnik_even_first(const uint32_t *list, size_t list_length, uint32_t *output, size_t output_length);
 
 /* Even back: output[i] becomes list[i / 2] for an even i, and list[half + i / 2] for an odd i. */

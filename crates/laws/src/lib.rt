@@ -1,7 +1,7 @@
 // Laws over the public calls. Each function lends every list, makes the calls until one refuses, and promises two things: on every
 // input, which refusal is given and what each list then holds; on an accepted family, with curves on it and lists as long as the calls
 // ask, that every call finishes and the law holds of the very lists handed out. The promises stand in specs/Laws.antt.
-// They are evidence and no library calls: public is what the program `weighing` runs.
+// They are evidence and no library calls: public is what the program `weighing` runs, and what other laws go on from.
 ghost use Rattle.definitions.specs.Conversion.{expand, adjoint, decompose};
 ghost use Rattle.definitions.specs.Family.{family};
 ghost use Rattle.laws.specs.Laws.{lists, Made, ThereAndBack, Agreed, HandedOut, Weighed};
@@ -20,7 +20,7 @@ pub enum Totals {
 }
 
 // Expand by the way that is asked for.
-fn expand_by(
+pub fn expand_by(
     way: Way,
     m: u32,
     a: &[u32],

@@ -1,5 +1,5 @@
 -- What is printed for a line, by the test that decides.
---   longestPrinted   the most bytes that are printed for a line: 128 numbers of ten digits, each with a space before it, and byte 10
+--   longestPrinted   room for what is printed for a line: 128 numbers of ten digits, each with a space before it, and byte 10
 -- Proved: printed-1, printed-2, printed-5 and printed-list; the same put into an output, and found at its front (front-printed); what is
 -- kept of a line with room for 8,193 bytes decides what is printed for it (printed-kept). Assumes nothing.
 use mathlib.Core.Bool.{Bool, true, false}

@@ -21,6 +21,7 @@ use Rattle.definitions.specs.declared.Operation.{Operation}
 use Rattle.joining.specs.Calls as Calls
 use Rattle.joining.specs.Calls.{sharedFactorTest, remaindersTest, moduliTests, listTests, joinTests, aTests, cTests, bothRows, expandJoinTests}
 use Rattle.joining.specs.Expanding.{Signed, reduced}
+use Rattle.storing.specs.Calls.{entryCountTest, orderTests}
 use Rattle.acceptance.specs.Given.{Given, given-append, shape-given, rows-given, values-given, lengths-given}
 use Rattle.zahupnik.specs.Returned.{chosenTests}
 use Rattle.zahupnik.specs.declared.Choice.{Choice}
@@ -149,3 +150,8 @@ unfolding expandJoinTests
 expand-join-positive m m′ s u output =
     given-append _ (moduliTests m m′) _ (moduli-positive m m′)
     (given-append _ (Calls.sizeTests _ _ _ _ output) _ (sizes-positive _ _ _ _ output) (both-positive (reduced m s) (reduced m′ s)))
+
+-- a list in another order
+pub order-positive : (n output : ℕ) → Positive (orderTests n output)
+unfolding orderTests entryCountTest outputTest
+order-positive n output = search needs

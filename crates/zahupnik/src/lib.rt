@@ -10,6 +10,8 @@ ghost use Rattle.definitions.specs.PreparedCalls.{PreparedPlainCall, PreparedTr
 ghost use Rattle.joining.specs.Calls.{JoinCall, ExpandJoinCall};
 ghost use Rattle.joining.specs.Expanding.{signed};
 ghost use Rattle.prepared.specs.Held.{held};
+ghost use Rattle.storing.specs.Calls.{OrderCall};
+ghost use Rattle.storing.specs.declared.Direction.{Direction};
 ghost use Rattle.zahupnik.specs.Returned.{returned, number, TextReturned, choice, jobFor, JobReturned};
 use definitions::Answer;
 use definitions::InverseAnswer;
@@ -434,4 +436,20 @@ pub extern "C" fn zahupnik_expand_join(
         (now (output .entry)) (now (output .exit)) ⌝ }
 {
     number(expand_join::expand_join(m1, m2, a, b, c, curve, output))
+}
+
+// Even first. Refused as order_calls::even_first is.
+#[no_mangle]
+pub extern "C" fn zahupnik_even_first(list: &[u32], output: &mut [u32]) -> u32
+    ensures { λ r. ⌜ OrderCall Direction.EvenFirst (now (list .entry)) (returned r) (now (output .entry)) (now (output .exit)) ⌝ }
+{
+    number(order_calls::even_first(list, output))
+}
+
+// Even back. Refused as order_calls::even_back is.
+#[no_mangle]
+pub extern "C" fn zahupnik_even_back(list: &[u32], output: &mut [u32]) -> u32
+    ensures { λ r. ⌜ OrderCall Direction.EvenBack (now (list .entry)) (returned r) (now (output .entry)) (now (output .exit)) ⌝ }
+{
+    number(order_calls::even_back(list, output))
 }

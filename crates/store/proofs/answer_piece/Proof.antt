@@ -1,9 +1,11 @@
 -- `answer_piece` answers the lines that end in a piece, and keeps what it leaves open. The measure is what is left of the piece.
 -- Assumes nothing.
+use mathlib.Core.List.{[]}
 use Prim.Native.Nat.{_-_}
 use native.Mathlib.Omega.{arith}
 use lib.ListN.{length}
-use Rattle.store.specs.Answering.{Answering, answering-starts, answering-past, answering-next, answering-open}
+use Rattle.lines.specs.Walking.{walking-starts, walking-open, walking-line, walking-on}
+use Rattle.store.specs.Answering.{Answering}
 use borrow.Author.Needs.{needs}
 use Rattle.store.proofs.answer_piece.Statement.{statement}
 use Rattle.store.proofs.answer_piece.Tie as tie
@@ -15,7 +17,7 @@ abbrev μ-loop : tie.MeasureT-loop
 μ-loop piece line₀ count kept₀ at₀ line kept at = length piece - at
 
 loop-holds : tie.Need-loop-holds Inv-loop μ-loop
-loop-holds c = answering-starts _ _ _ (c .before .before .pre)
+loop-holds c = record { said = []; walking = walking-starts _ _ _ (c .before .before .pre) }
 
 take-line-requires : tie.Need-take-line-requires Inv-loop μ-loop
 take-line-requires c κs = search needs
@@ -38,7 +40,11 @@ loop-again : tie.Need-loop-again Inv-loop μ-loop
 loop-again c =
     let ended = c .before .before .before in
     let taken = ended .before .before .before in
-    answering-next _ _ _ _ _ _ (taken .before .before .before .loop .inv) _ _ _ _ (taken .take-line .ensures) (omega arith) (ended .if1 .taken)
+    let state = taken .before .before .before .loop .inv in
+    record {
+      said = _;
+      walking = walking-line _ _ _ _ _ _ _ (state .walking) _ _ _ _ (taken .take-line .ensures) (omega (arith, state .walking .size)) (ended .if1 .taken);
+    }
 
 loop-less-2 : tie.Need-loop-less-2 Inv-loop μ-loop
 loop-less-2 c =
@@ -48,13 +54,17 @@ loop-less-2 c =
 loop-again-2 : tie.Need-loop-again-2 Inv-loop μ-loop
 loop-again-2 c =
     let taken = c .before .before .before in
-    answering-open _ _ _ _ _ _ (taken .before .before .before .loop .inv) _ _ _ _ (taken .take-line .ensures) (omega arith) (c .if1 .left)
+    let state = taken .before .before .before .loop .inv in
+    record {
+      said = state .said;
+      walking = walking-on _ _ _ _ _ _ _ (state .walking) _ _ _ _ (taken .take-line .ensures) (omega (arith, state .walking .size)) (c .if1 .left);
+    }
 
 same-length-2 : tie.Need-same-length-2 Inv-loop μ-loop
 same-length-2 c = omega arith
 
 returns-2 : tie.Need-returns-2 Inv-loop μ-loop
-returns-2 c = answering-past _ _ _ _ _ _ (c .before .loop .inv) (c .loop-test .left)
+returns-2 c = walking-open _ _ _ _ _ _ _ (c .before .loop .inv .walking) (c .loop-test .left)
 
 pub answer-piece-spec : {M : Type 1} → statement M
 answer-piece-spec =
