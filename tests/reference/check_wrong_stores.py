@@ -117,7 +117,7 @@ def right_number(word):
 
 
 def number_by(pattern, value=int, greatest=GREATEST):
-    """Words that the pattern matches are numbers, if what their value is is not too great."""
+    """Words that the pattern matches are numbers, unless their value is too great."""
 
     def number(word):
         found = value(word) if re.fullmatch(pattern, word) else None
@@ -134,15 +134,16 @@ def wrapped(bits):
 def as_python_reads(word):
     """What int() takes: signs, leading zeros, underscores, and spaces around."""
     try:
-        return int(word[:100]) % 2**32
+        found = int(word[:100])
     except ValueError:
         return None
+    return found if 0 <= found <= GREATEST else None
 
 
 def digits_in_front(word):
-    """The digits in front of anything else."""
-    found = re.match(rb"[1-9][0-9]{0,8}", word)
-    return int(found[0]) if found else right_number(word)
+    """What follows the digits of a number left out."""
+    found = re.match(rb"[0-9]+", word)
+    return right_number(found[0]) if found else None
 
 
 PLAIN = rb"0|[1-9][0-9]*"
