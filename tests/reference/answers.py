@@ -1,39 +1,50 @@
-"""What the program `channel` prints for job texts in files.
+"""What the programs `channel` and `store` print for inputs in files.
 
-usage: python3 tests/reference/answers.py [--check] NAME.job...
+usage: python3 tests/reference/answers.py [--check] NAME.job... NAME.lines...
 
-The answer to NAME.job stands beside it in NAME.answer. Without --check all
-answers are written, or none. With it they are compared byte for byte: exit 1
-if one differs. Bad arguments exit with 2.
+What `channel` prints for NAME.job stands beside it in NAME.answer, what `store`
+prints for NAME.lines in NAME.answers. Without --check all of it is written, or
+nothing. With it the files are compared byte for byte: exit 1 if one differs.
+Bad arguments exit with 2.
 """
 
 import argparse
+import os
 import sys
 
 import jobs
+import store
 from vectors import Unusable, compare, read_file, write_all
 
-ENDING = ".job"
+# The ending of an input's file, that of its answer's, and what is printed.
+PROGRAMS = {
+    ".job": (".answer", jobs.program_answer),
+    ".lines": (".answers", store.program_answer),
+}
 
 
-def job_path(word):
-    """A path from the command line that ends in .job."""
-    if not word.endswith(ENDING):
-        raise argparse.ArgumentTypeError(f"a job's file ends in {ENDING}, not {word!r}")
+def input_path(word):
+    """A path from the command line that ends in .job or .lines."""
+    if os.path.splitext(word)[1] not in PROGRAMS:
+        raise argparse.ArgumentTypeError(f"an input's file ends in .job or .lines, not {word!r}")
     return word
+
+
+def answer_to(path):
+    """The path of the answer to an input, and the answer."""
+    name, ending = os.path.splitext(path)
+    answer_ending, program_answer = PROGRAMS[ending]
+    return name + answer_ending, program_answer(read_file(path))
 
 
 def main():
     """Write or compare the answers."""
-    parser = argparse.ArgumentParser(description="Write or compare answers to job texts.")
+    parser = argparse.ArgumentParser(description="Write or compare answers to inputs in files.")
     parser.add_argument("--check", action="store_true", help="compare in place of writing")
-    parser.add_argument("jobs", metavar="NAME.job", nargs="+", type=job_path)
+    parser.add_argument("inputs", metavar="NAME.job|NAME.lines", nargs="+", type=input_path)
     arguments = parser.parse_args()
     try:
-        contents = {
-            path.removesuffix(ENDING) + ".answer": jobs.program_answer(read_file(path))
-            for path in arguments.jobs
-        }
+        contents = dict(map(answer_to, arguments.inputs))
         if arguments.check:
             return 0 if compare(contents) else 1
         write_all(contents)

@@ -15,14 +15,18 @@ import check_classical
 import check_figures
 import check_identities
 import check_joining
+import check_ordering
 import check_prepared
 import check_refusals
+import check_store
 import check_texts
 import check_vectors
 import check_written
 import check_wrong_join_tests
 import check_wrong_join_values
+import check_wrong_orders
 import check_wrong_reasons
+import check_wrong_stores
 import check_wrong_variants
 from splitmix import WORD, SplitMix64
 from tally import Mismatch, Tally
@@ -38,6 +42,10 @@ PARTS = (
     check_joining,
     check_wrong_join_tests,
     check_wrong_join_values,
+    check_ordering,
+    check_wrong_orders,
+    check_store,
+    check_wrong_stores,
     check_vectors,
     check_classical,
     check_identities,

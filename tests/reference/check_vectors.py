@@ -10,6 +10,8 @@ import os
 import cases
 import check_texts
 import joining_cases
+import ordered_cases
+import ordering
 import prepared_cases
 import second_ways
 import written_cases
@@ -50,6 +52,19 @@ def met_by_text():
         text = ast.literal_eval("b" + given.split(" ", 2)[2])
         values = second_ways.read_by_pattern(text) if len(text) <= 8192 else None
         met.add((None if values is None else values[4], answer))
+    return met
+
+
+def met_by_line():
+    """Pairs of the key of a store's line, None if it is too long or not of the form."""
+    met = set()
+    for given, left in zip(file_lines("lines.in"), file_lines("lines.out"), strict=True):
+        lines = second_ways.lines_byte_by_byte(ast.literal_eval("b" + given))
+        answers = ast.literal_eval("b" + left).splitlines()
+        for line, answer in zip(lines, answers, strict=True):
+            read = second_ways.line_by_pattern(line) if len(line) <= 8192 else None
+            number = int(answer.removeprefix(b"refused=")) if b"=" in answer else 0
+            met.add((None if read is None else read[0], number))
     return met
 
 
@@ -95,14 +110,26 @@ def of_joining():
     return with_finished({str(call): map(number_of, names) for call, names in enumerate(tests, 1)})
 
 
+def of_ordering():
+    """The answers of even first and of even back, which are the calls 1 and 2 of their file."""
+    return with_finished({str(call): ordering.TESTS for call in ordered_cases.CALLS})
+
+
+def of_lines():
+    """The answers to a store's lines: no line is refused with 7."""
+    return with_finished({b"put": (5,), b"back": (5,)}) | {(None, 1), (None, 2)}
+
+
 def check(tally, _source):
-    """The five pairs of files; the random source is not used."""
+    """The seven pairs of files; the random source is not used."""
     for name, expected, met in (
         ("calls", of_calls(), met_by_first_word("calls")),
         ("texts", of_texts(), met_by_text()),
         ("written", of_writing(), met_by_first_word("written")),
         ("prepared", of_steps(), met_by_first_word("prepared")),
         ("joined", of_joining(), met_by_first_word("joined")),
+        ("ordered", of_ordering(), met_by_first_word("ordered")),
+        ("lines", of_lines(), met_by_line()),
     ):
         for pair in sorted(expected | met, key=repr):
             tally.equal(KIND, (name, *pair), pair in expected, pair in met)

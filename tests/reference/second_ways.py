@@ -18,6 +18,7 @@ JOB = re.compile(
     rb"op=(expand|adjoint|decompose|moments|norms)\n"
     rb"v=" + NUMBERS + rb"\n"
 )
+STORE_LINE = re.compile(rb"(put|back)=" + NUMBERS + rb"\n")
 
 
 def inverse_by_search(x, modulus):
@@ -153,3 +154,43 @@ def read_by_pattern(text):
     if any(number > 4294967295 for numbers in ((int(modulus),), *lists) for number in numbers):
         return None
     return (int(modulus), lists[0], lists[1], lists[2], operation.decode(), lists[3])
+
+
+def numbers_of(words):
+    """The numbers in a part of a text that the pattern found; None if one is too great."""
+    numbers = tuple(int(word) for word in words.split())
+    return None if any(number > 4294967295 for number in numbers) else numbers
+
+
+def line_by_pattern(line):
+    """The key and the numbers of a store's line by one regular expression, or None."""
+    match = STORE_LINE.fullmatch(line)
+    numbers = None if match is None else numbers_of(match[2])
+    return None if numbers is None else (match[1], numbers)
+
+
+def lines_byte_by_byte(text):
+    """The lines of an input: one ends with byte 10, or where the input ends if bytes are left."""
+    found, line = [], []
+    for byte in text:
+        line.append(byte)
+        if byte == 10:
+            found.append(bytes(line))
+            line = []
+    return found + ([bytes(line)] if line else [])
+
+
+def printed_for_line(line):
+    """What the program `store` prints for a line: its length, the pattern, its numbers, slices."""
+    read = line_by_pattern(line) if len(line) <= 8192 else None
+    if read is None:
+        return b"refused=1\n" if len(line) > 8192 else b"refused=2\n"
+    key, numbers = read
+    if len(numbers) > 128:
+        return b"refused=5\n"
+    result = [*numbers[0::2], *numbers[1::2]]
+    if key == b"back":
+        result = [0] * len(numbers)
+        half = len(result[0::2])
+        result[0::2], result[1::2] = numbers[:half], numbers[half:]
+    return str(result).strip("[]").replace(",", "").encode() + b"\n"
