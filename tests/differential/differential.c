@@ -2,21 +2,26 @@
  *
  * usage: differential [CASES [SEED [FIRST]]]
  *
- * Of the first 720,000 cases each sixth is of a call on two channels, join and expand_join in turn: 120,000. Of the first 180,000 others
- * each twelfth is a sequence of up to 48 calls on a prepared family: 15,000 sequences. Of the first 1,100,000 of the rest each eleventh is
- * of write_job, and each of those left is of any of the other ten calls on lists and texts. Those after them, 4,550,000 if CASES is not
- * stated, are of the five quick calls in turn. So each quick call has a million cases and more, the two on two channels have 60,000 each, the
- * twelve on a prepared family 370,000 together, and each of the others about 100,000. What write_job wrote is read by the text call in the
- * same case.
+ * Of the first 3,840,000 cases each thirty-second is of a call that orders a list by even and odd indices, even_first and even_back in
+ * turn: 120,000. Of the first 720,000 others each sixth is of a call on two channels, join and expand_join in turn: 120,000. Of the first
+ * 180,000 others again each twelfth is a sequence of up to 48 calls on a prepared family: 15,000 sequences. Of the first 1,100,000 of the
+ * rest each eleventh is of write_job, and each of those left is of any of the other ten calls on lists and texts. Those after them,
+ * 4,550,000 if CASES is not stated, are of the five quick calls in turn. So each quick call has a million cases and more, the two on two
+ * channels and the two that order a list have 60,000 each, the twelve on a prepared family 370,000 together, and each of the others about
+ * 100,000. What write_job wrote is read by the text call in the same case, and what one of the two that order a list handed out the other
+ * takes back.
  *
  * Compares the number and the record returned, all that a call writes, and that it writes nothing else (trial.h). Prints how many cases
  * each call had, how often it gave each answer, how often it finished with a c_1 that is 0 and with one that shares a factor with m, and
  * how often it was refused with 17, 10, 18 and 11 for a list that has zeros and shared factors both, so that the lowest row had to
  * decide. Of a call on two channels, how often an answer was for the second channel or the second list, how often half of m1 m2 was handed
- * out, and how often the coefficients were those over the whole numbers; and exits 0. Shows the first case that differs and exits 1. It
- * exits 1 too if some call never gave one of the answers that it can give, on two channels for either of them, if one on families never
- * finished with such a c_1, if one on lists was never refused so for such a list, or if half or whole numbers were never met, unless
- * FIRST, the number of the first case, is stated. Bad arguments exit with 2.
+ * out, and how often the coefficients were those over the whole numbers. Of a call that orders a list, with how many lengths it finished
+ * and how often it was refused with 5 where 7 was the case too; and how often even_first was lent an expanded curve of a family whose b are
+ * all zero, and left the zeros where they have to be. Then exits 0. Shows the first case that differs and exits 1. It exits 1 too if some
+ * call never gave one of the answers that it can give, on two channels for either of them, if one on families never finished with such a
+ * c_1, if one on lists was never refused so for such a list, if half or whole numbers were never met, if 5 never covered 7 or always did,
+ * or if some kind of expanded curve was never met (with even or odd indices alone, by either way, with m prime or composite), unless FIRST,
+ * the number of the first case, is stated. Bad arguments exit with 2.
  */
 #include <inttypes.h>
 #include <stdio.h>
@@ -25,14 +30,17 @@
 #include "cases.h"
 #include "job.h"
 #include "joining.h"
+#include "ordering.h"
+#include "ordering_model.h"
 #include "prepared.h"
 #include "text.h"
 #include "trial.h"
 #include "zahupnik.h"
 
-static const uint64_t JOININGS = 120000, SEQUENCES = 15000, ALL_CALLS = 1100000, QUICK_CALLS = 4550000, SEED = 20240229;
+static const uint64_t ORDERINGS = 120000, JOININGS = 120000, SEQUENCES = 15000, ALL_CALLS = 1100000, QUICK_CALLS = 4550000;
+static const uint64_t SEED = 20240229;
 
-enum { ANSWERS = 21, QUICK = 5, EACH_JOINING = 6, EACH_SEQUENCE = 12, MOST_STEPS = 48 };
+enum { ANSWERS = 21, QUICK = 5, EACH_ORDERING = 32, EACH_JOINING = 6, EACH_SEQUENCE = 12, MOST_STEPS = 48 };
 
 /* The refusals for which the lowest row decides. */
 static const int BY_LOWEST_ROW[] = {17, 10, 18, 11};
@@ -40,9 +48,10 @@ enum { BY_LOWEST_ROW_COUNT = sizeof BY_LOWEST_ROW / sizeof *BY_LOWEST_ROW };
 
 /* A call by its name in the header without zahupnik_, which answers it can give, how it is run on lists, how often it gave each
  * answer, and how often for a list with both kinds, whether it finished with so many rows, and how often with such a c_1. What writes a
- * text, or is on two channels, is not run on lists: its cases are run alone. Nor is what is on a prepared family: its cases are steps of a
- * sequence. Of what is on two channels, the answers that are of one of them, how often each was of the second, and how often it handed
- * out half of m1 m2 and whole coefficients. */
+ * text, is on two channels or orders a list is not run so: its cases are run alone. Nor is what is on a prepared family: its cases are
+ * steps of a sequence. Of what is on two channels, the answers that are of one of them, how often each was of the second, and how often it
+ * handed out half of m1 m2 and whole coefficients. Of what orders a list, whether it finished with so many numbers, how often 5 covered 7,
+ * and how often it was lent an expanded curve of each kind. */
 struct call {
     const char *name;
     const char *answers;
@@ -56,6 +65,8 @@ struct call {
     step *run_step;
     const char *of_either;
     unsigned long met_second[ANSWERS], met_half, met_whole;
+    bool ordered[MOST_ENTRIES + 1];
+    unsigned long met_covered, met_parity[KINDS_OF_PARITY];
 };
 
 #define LIST(list) x->list.entries, x->list.length
@@ -79,8 +90,8 @@ RUN(tree_decompose, FAMILY, LIST(curve), OUTPUT, WORK)
 RUN(moments, FAMILY, OUTPUT, WORK)
 
 /* Answers: a sign for each number from 0 to 20, a point where the call cannot give it. The quick calls come first, and write_job comes
- * last of those that are not run in steps. Of those that are, the changes come first, in the order of their kinds. Those on two channels
- * come last of all. */
+ * last of those that are not run in steps. Of those that are, the changes come first, in the order of their kinds. Then come those on two
+ * channels, and last of all those that order a list. */
 #define ON_LISTS(call, can_give, by, by_way) {.name = #call, .answers = can_give, .operation = by, .way = by_way, .run = call}
 #define ALONE(call, can_give, function) {.name = #call, .answers = can_give, .run_alone = function}
 #define IN_STEPS(call, can_give) {.name = #call, .answers = can_give, .run_step = call}
@@ -111,9 +122,12 @@ static struct call calls[] = {
     IN_STEPS(prepared_moments, "0......78.....E......"),
     JOINED(join, "0..3...7....C......JK", "...3........C........", run_on_remainders),
     JOINED(expand_join, "0..34567..AB.....HIJ.", "...3......AB.....HI..", run_on_two_channels),
+    ALONE(even_first, "0....5.7.............", run_even_first),
+    ALONE(even_back, "0....5.7.............", run_even_back),
 };
-enum { COUNT = sizeof calls / sizeof *calls, CHANGES = 4, OPERATIONS = 8, ON_TWO_CHANNELS = 2 };
-enum { IN_NO_STEPS = COUNT - CHANGES - OPERATIONS - ON_TWO_CHANNELS, WRITE_JOB = IN_NO_STEPS - 1, FIRST_JOINED = COUNT - ON_TWO_CHANNELS };
+enum { COUNT = sizeof calls / sizeof *calls, CHANGES = 4, OPERATIONS = 8, ON_TWO_CHANNELS = 2, ORDERS = 2 };
+enum { FIRST_ORDERED = COUNT - ORDERS, FIRST_JOINED = FIRST_ORDERED - ON_TWO_CHANNELS };
+enum { IN_NO_STEPS = FIRST_JOINED - CHANGES - OPERATIONS, WRITE_JOB = IN_NO_STEPS - 1 };
 
 static bool can_give(const struct call *call, int answer) { return call->answers[answer] != '.'; }
 
@@ -126,10 +140,14 @@ static bool is_on_families(const struct call *call) { return can_give(call, 11) 
 static bool is_on_rows(const struct call *call) { return can_give(call, 11) && !call->run_step; }
 
 static void count(struct call *call, const struct trial *trial, uint32_t answer) {
+    const struct parity *parity = &trial->parity;
     call->met[answer]++;
     call->met_mixed[answer] += trial->mixed;
     call->met_second[answer] += trial->of_second;
+    call->met_covered += trial->covered;
     if (answer != 0) return;
+    if (parity->is) call->met_parity[parity->odd + 2 * parity->tree + 4 * parity->composite]++;
+    call->ordered[trial->length] = true;
     call->met_half += trial->half;
     call->met_whole += trial->whole;
     call->finished[trial->rows] = true;
@@ -199,11 +217,13 @@ static bool is_apart(uint64_t number, uint64_t each, uint64_t most, uint64_t *ap
     return *apart < most && number % each == each - 1;
 }
 
-/* The calls on two channels and the sequences are counted apart too, so that they move no other case. */
+/* The calls that order a list, those on two channels and the sequences are counted apart too, so that they move no other case. */
 static void run_case(uint64_t seed, uint64_t number_of_case) {
-    uint64_t joinings, sequences, others;
+    uint64_t orderings, joinings, sequences, others;
     struct random random;
-    if (is_apart(number_of_case, EACH_JOINING, JOININGS, &joinings, &others)) {
+    if (is_apart(number_of_case, EACH_ORDERING, ORDERINGS, &orderings, &others)) {
+        run_one(&calls[FIRST_ORDERED + orderings % ORDERS], seed, number_of_case, random_of_case(~mixed(seed), orderings));
+    } else if (is_apart(others, EACH_JOINING, JOININGS, &joinings, &others)) {
         run_one(&calls[FIRST_JOINED + joinings % ON_TWO_CHANNELS], seed, number_of_case, random_of_case(mixed(seed), joinings));
     } else if (is_apart(others, EACH_SEQUENCE, SEQUENCES, &sequences, &others)) {
         run_sequence(seed, number_of_case, random_of_case(mixed(~seed), sequences));
@@ -245,12 +265,24 @@ static void print_table(void) {
 
 /* Of the calls on two channels, how often each answer that is of either of them was of the second, and what else is to be met. */
 static void print_second(void) {
-    for (size_t i = FIRST_JOINED; i < COUNT; i++) {
+    for (size_t i = FIRST_JOINED; i < FIRST_ORDERED; i++) {
         printf("%s: of the second channel or list", calls[i].name);
         for (int answer = 0; answer < ANSWERS; answer++)
             if (is_of_either(&calls[i], answer)) printf(" %d %lu times,", answer, calls[i].met_second[answer]);
         printf(" half of m1 m2 handed out in %lu cases", calls[i].met_half);
         if (is_on_rows(&calls[i])) printf(", coefficients found over the whole numbers in %lu", calls[i].met_whole);
+        printf("\n");
+    }
+}
+
+/* Of the calls that order a list, with how many lengths they finished, how often 5 covered 7, and the expanded curves. */
+static void print_ordered(void) {
+    for (size_t i = FIRST_ORDERED; i < COUNT; i++) {
+        unsigned long lengths = 0, curves = 0;
+        for (size_t length = 0; length <= MOST_ENTRIES; length++) lengths += calls[i].ordered[length];
+        for (size_t kind = 0; kind < KINDS_OF_PARITY; kind++) curves += calls[i].met_parity[kind];
+        printf("%s: finished with %lu lengths, 5 where 7 was the case too %lu times", calls[i].name, lengths, calls[i].met_covered);
+        if (curves) printf(", expanded curves with zeros where they have to be %lu times", curves);
         printf("\n");
     }
 }
@@ -307,9 +339,30 @@ static bool met_either(const struct call *call) {
     return false;
 }
 
+/* Whether a call that orders a list was refused with 5 where 7 was the case too and where it was not, and even_first was lent expanded
+ * curves of every kind. */
+static bool met_ordered(const struct call *call) {
+    if (call->met_covered == 0 || call->met_covered == call->met[5]) {
+        fprintf(stderr, "differential: no case of %s had the answer 5 where 7 %s the case: take more cases\n", call->name,
+                call->met_covered ? "was not" : "was");
+        return false;
+    }
+    for (int kind = 0; kind < KINDS_OF_PARITY; kind++) {
+        if (call->run_alone == run_even_first && call->met_parity[kind] == 0) {
+            fprintf(stderr, "differential: no case of %s had a curve with %s indices alone, by the %s way, m %s: take more cases\n",
+                    call->name, kind & 1 ? "odd" : "even", kind & 2 ? "tree" : "plain", kind & 4 ? "composite" : "prime");
+            return false;
+        }
+    }
+    return true;
+}
+
 static bool met_all(void) {
-    for (size_t i = 0; i < COUNT; i++)
-        if (!met_answers(&calls[i]) || !met_first_c(&calls[i]) || !met_lowest_rows(&calls[i]) || !met_either(&calls[i])) return false;
+    for (size_t i = 0; i < COUNT; i++) {
+        const struct call *call = &calls[i];
+        if (!met_answers(call) || !met_first_c(call) || !met_lowest_rows(call) || !met_either(call)) return false;
+        if (i >= FIRST_ORDERED && !met_ordered(call)) return false;
+    }
     return true;
 }
 
@@ -332,12 +385,13 @@ int main(int argc, char **argv) {
         fprintf(stderr, "usage: differential [CASES [SEED [FIRST]]]\n");
         return 2;
     }
-    uint64_t cases = argument(argc, argv, 1, JOININGS + SEQUENCES + ALL_CALLS + QUICK_CALLS);
+    uint64_t cases = argument(argc, argv, 1, ORDERINGS + JOININGS + SEQUENCES + ALL_CALLS + QUICK_CALLS);
     uint64_t seed = argument(argc, argv, 2, SEED), first = argument(argc, argv, 3, 0);
     prepare_trials(WORK_ROOM * sizeof(uint32_t));
     for (uint64_t i = 0; i < cases; i++) run_case(seed, first + i);
     print_table();
     print_second();
+    print_ordered();
     if (argc < 4 && !met_all()) return 1;
     printf("differential: %" PRIu64 " cases agree, seed %" PRIu64 "\n", cases, seed);
     return 0;

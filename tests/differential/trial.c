@@ -259,3 +259,10 @@ void compare(const struct trial *trial, uint32_t returned) {
     show_end(trial);
     exit(1);
 }
+
+void end_trial(const struct trial *trial, const char *why) {
+    show_case(trial);
+    fprintf(stderr, " %s\n", why);
+    show_end(trial);
+    exit(1);
+}

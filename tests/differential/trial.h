@@ -33,12 +33,20 @@ struct lending {
 /* What a family's c_1 is: it has an inverse, or there is no row; it is 0; it is another number that shares a factor with m. */
 enum first_c { INVERTIBLE, ZERO, SHARES_FACTOR, KINDS_OF_FIRST_C };
 
+/* Whether a list is an expanded curve of a family whose b are all zero; and then whether the curve has entries at odd indices alone, or at
+ * even ones alone, whether it was expanded by the tree, and whether m is composite. */
+struct parity {
+    bool is, odd, tree, composite;
+};
+enum { KINDS_OF_PARITY = 8 };
+
 /* A case of a call, or a step of one that is a sequence. Number is what it has to return; a text has no m of its own, a call on two
  * channels has a second one, and only write_job is told the number of an operation. Rows says how long its family is, and mixed, where it
  * is refused for a or for c, whether that list has zeros and other numbers without an inverse both. Of a call on two channels, of_second
  * says whether it is refused for the second of them or the second list, half whether it hands out half of m1 m2, and whole whether all that
- * it hands out was found over the whole numbers. A call on a record is handed one; a change has returned one besides, and has to return
- * the one wanted. */
+ * it hands out was found over the whole numbers. Of a call that orders a list, length is that of the list, and covered says whether it is
+ * refused for that and would be for the output too. A call on a record is handed one; a change has returned one besides, and has to
+ * return the one wanted. */
 struct trial {
     const char *call;
     uint64_t seed, number_of_case;
@@ -49,7 +57,9 @@ struct trial {
     uint32_t number;
     size_t rows, lendings;
     enum first_c first_c;
-    bool mixed, of_second, half, whole;
+    bool mixed, of_second, half, whole, covered;
+    size_t length;
+    struct parity parity;
     struct lending lending[MOST_LENDINGS];
     unsigned char *at[MOST_LENDINGS];
 };
@@ -85,5 +95,8 @@ uint32_t *lend_factor(struct trial *trial, struct random *random, const uint32_t
 /* Holds the number and the record that the call returned, and all that it was lent, against what has to be. At a difference the case
  * is shown and the program ends with 1. It ends so too if the library touches what it may not while it is watched. */
 void compare(const struct trial *trial, uint32_t returned);
+
+/* Shows a case whose call did what the model says and that is wrong all the same, and says why; the program ends with 1. */
+void end_trial(const struct trial *trial, const char *why);
 
 #endif

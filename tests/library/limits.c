@@ -5,10 +5,13 @@
  *
  * Prints how many cases are as the header says and exits 0; says the first that is not and exits 1.
  */
+#define _DEFAULT_SOURCE
 #include <inttypes.h>
 #include <stdio.h>
 #include <stdlib.h>
 #include <string.h>
+#include <sys/mman.h>
+#include <unistd.h>
 
 #include "zahupnik.h"
 
@@ -910,6 +913,154 @@ static void on_null_of_two(void) {
     LEAVES_SIGNED(zahupnik_expand_join(7, 21, NO_LIST, NO_LIST, NO_LIST, NO_LIST, NO_LIST), ZAHUPNIK_SHARED_FACTOR, INT64_MIN);
 }
 
+/* ---- even powers first */
+
+enum { MOST_ENTRIES = ZAHUPNIK_MOST_ENTRIES, ORDER_ROOM = 3 * MOST_ENTRIES };
+
+static const struct order {
+    const char *name;
+    int back;
+    uint32_t (*run)(const uint32_t *list, size_t list_length, uint32_t *output, size_t output_length);
+} orders[] = {{"even_first", 0, zahupnik_even_first}, {"even_back", 1, zahupnik_even_back}};
+enum { ORDERS = sizeof orders / sizeof *orders };
+
+/* Where entry i of a list of n stands, even powers first. */
+static size_t place_of(size_t i, size_t n) { return i % 2 == 0 ? i / 2 : (n + 1) / 2 + i / 2; }
+
+/* What an output holds before a call. */
+static uint32_t unordered(size_t i) { return (uint32_t)(3000000000 + 7 * i); }
+
+/* The call returns the number. What it leaves is the list in its order, or what was there, if it refuses; past the output what was there;
+ * and the list as it was. */
+static void puts_in_order(const struct order *f, const char *with, const uint32_t *list, size_t length, size_t output_length,
+                          uint32_t number) {
+    uint32_t lent[ORDER_ROOM], output[ORDER_ROOM + UNCHANGED];
+    size_t written = number == ZAHUPNIK_FINISHED ? length : 0;
+    memcpy(lent, list, sizeof lent);
+    for (size_t i = 0; i < ORDER_ROOM + UNCHANGED; i++) output[i] = unordered(i);
+    expect(f->name, with, "the number returned", f->run(lent, length, output, output_length), number);
+    for (size_t i = 0; i < written; i++) {
+        size_t place = place_of(i, length);
+        expect(f->name, with, "an entry of the list in order", output[f->back ? i : place], list[f->back ? place : i]);
+    }
+    for (size_t i = written; i < ORDER_ROOM + UNCHANGED; i++)
+        expect(f->name, with, "an entry that is not to be written", output[i], unordered(i));
+    for (size_t i = 0; i < ORDER_ROOM; i++) expect(f->name, with, "an entry of the list after the call", lent[i], list[i]);
+    cases++;
+}
+
+static void on_order(const struct order *f) {
+    static const size_t taken[] = {0, 1, 2, 3, 4, 5, 63, 64, 65, MOST_ENTRIES - 2, MOST_ENTRIES - 1, MOST_ENTRIES};
+    static const size_t too_long[] = {MOST_ENTRIES + 1, MOST_ENTRIES + 2, 2 * MOST_ENTRIES - 1, 2 * MOST_ENTRIES, 2 * MOST_ENTRIES + 3};
+    uint32_t rising[ORDER_ROOM], zeros[ORDER_ROOM] = {0}, greatest[ORDER_ROOM], both[ORDER_ROOM], held[ORDER_ROOM];
+    for (size_t i = 0; i < ORDER_ROOM; i++) {
+        rising[i] = (uint32_t)(i + 1);
+        greatest[i] = UINT32_MAX;
+        both[i] = i % 2 ? 0 : UINT32_MAX;
+        held[i] = unordered(i);
+    }
+    for (size_t k = 0; k < sizeof taken / sizeof *taken; k++) {
+        size_t length = taken[k];
+        puts_in_order(f, "rising numbers", rising, length, length, ZAHUPNIK_FINISHED);
+        puts_in_order(f, "zeros", zeros, length, length, ZAHUPNIK_FINISHED);
+        puts_in_order(f, "numbers 4294967295", greatest, length, length, ZAHUPNIK_FINISHED);
+        puts_in_order(f, "4294967295 and 0 in turn", both, length, length, ZAHUPNIK_FINISHED);
+        puts_in_order(f, "what the output holds", held, length, length, ZAHUPNIK_FINISHED);
+        puts_in_order(f, "an output one longer", rising, length, length + 1, ZAHUPNIK_OUTPUT_LENGTH);
+        puts_in_order(f, "an output of 256 numbers more", rising, length, length + 256, ZAHUPNIK_OUTPUT_LENGTH);
+        if (!length) continue;
+        puts_in_order(f, "an output one shorter", rising, length, length - 1, ZAHUPNIK_OUTPUT_LENGTH);
+        puts_in_order(f, "no output", rising, length, 0, ZAHUPNIK_OUTPUT_LENGTH);
+    }
+    for (size_t k = 0; k < sizeof too_long / sizeof *too_long; k++) {
+        size_t length = too_long[k];
+        puts_in_order(f, "too many numbers", rising, length, length, ZAHUPNIK_ROWS);
+        puts_in_order(f, "too many zeros", zeros, length, length, ZAHUPNIK_ROWS);
+        puts_in_order(f, "too many numbers, and an output of 128", rising, length, MOST_ENTRIES, ZAHUPNIK_ROWS);
+        puts_in_order(f, "too many numbers, and an output one shorter", rising, length, length - 1, ZAHUPNIK_ROWS);
+        puts_in_order(f, "too many numbers, and an output one longer", rising, length, length + 1, ZAHUPNIK_ROWS);
+        puts_in_order(f, "too many numbers, and no output", rising, length, 0, ZAHUPNIK_ROWS);
+    }
+}
+
+/* Lengths that no list has are refused all the same, and nothing is looked at: the memory that is lent for them is a page that nobody may
+ * touch. Some leave a length that is taken where they are cut to 32 bits, or where they are counted in bytes. */
+static void on_great_lengths(const struct order *f) {
+    static const size_t few[] = {0, 1, 5, MOST_ENTRIES};
+    static const size_t great[] = {SIZE_MAX - MOST_ENTRIES, (size_t)1 << 32, (size_t)1 << 62, (size_t)1 << 63};
+    uint32_t *page = mmap(NULL, (size_t)sysconf(_SC_PAGESIZE), PROT_NONE, MAP_PRIVATE | MAP_ANONYMOUS, -1, 0);
+    uint32_t list[MOST_ENTRIES] = {0}, output[MOST_ENTRIES];
+    expect(f->name, "great lengths", "that there is a page", page != MAP_FAILED, 1);
+    for (size_t i = 0; i < MOST_ENTRIES; i++) output[i] = unordered(i);
+    for (size_t k = 0; k < sizeof great / sizeof *great; k++) {
+        for (size_t j = 0; j < sizeof few / sizeof *few; j++) {
+            size_t length = few[j], more = great[k] + length;
+            expect(f->name, "a great length of both", "the number returned", f->run(page, more, page, more), ZAHUPNIK_ROWS);
+            expect(f->name, "a great length of the list", "the number returned", f->run(page, more, output, length), ZAHUPNIK_ROWS);
+            expect(f->name, "a great length of the output", "the number returned", f->run(list, length, page, more),
+                   ZAHUPNIK_OUTPUT_LENGTH);
+            cases += 3;
+        }
+    }
+    for (size_t i = 0; i < MOST_ENTRIES; i++) expect(f->name, "great lengths", "an entry of the output", output[i], unordered(i));
+    munmap(page, (size_t)sysconf(_SC_PAGESIZE));
+}
+
+/* Of a family whose b are all zero the curve of ones at even indices, or at odd ones, is expanded and put even first: one part is zeros,
+ * and the other is not. */
+static void leaves_zeros(uint32_t m, size_t rows, size_t odd) {
+    static uint32_t work[ZAHUPNIK_LEAST_WORK];
+    uint32_t ones[MOST_ENTRIES], zeros[MOST_ENTRIES] = {0}, curve[MOST_ENTRIES], list[2][MOST_ENTRIES], output[MOST_ENTRIES];
+    size_t n = rows + 1, half = (n + 1) / 2;
+    for (size_t i = 0; i < MOST_ENTRIES; i++) {
+        ones[i] = 1;
+        curve[i] = i % 2 == odd;
+    }
+    expect("plain_expand", "no b", "the number returned",
+           zahupnik_plain_expand(m, ones, rows, zeros, rows, ones, rows, curve, n, list[0], n), ZAHUPNIK_FINISHED);
+    expect("tree_expand", "no b", "the number returned",
+           zahupnik_tree_expand(m, ones, rows, zeros, rows, ones, rows, curve, n, list[1], n, work, ZAHUPNIK_LEAST_WORK),
+           ZAHUPNIK_FINISHED);
+    for (size_t way = 0; way < 2; way++) {
+        size_t others = 0;
+        expect("even_first", "an expanded curve", "the number returned", zahupnik_even_first(list[way], n, output, n), ZAHUPNIK_FINISHED);
+        for (size_t i = 0; i < n; i++) {
+            if ((i < half) == odd)
+                expect("even_first", "an expanded curve", "an entry of the part of zeros", output[i], 0);
+            else
+                others += output[i] != 0;
+        }
+        expect("even_first", "an expanded curve", "that there are other entries", others > 0, n > odd);
+        cases++;
+    }
+}
+
+static void on_zeros(void) {
+    static const uint32_t moduli[] = {2, 4, 7, 15, 2147483646, ZAHUPNIK_GREATEST_MODULUS};
+    static const size_t rows[] = {0, 1, 2, 3, 64, ZAHUPNIK_MOST_ROWS - 1, ZAHUPNIK_MOST_ROWS};
+    for (size_t i = 0; i < sizeof moduli / sizeof *moduli; i++)
+        for (size_t k = 0; k < sizeof rows / sizeof *rows; k++) {
+            leaves_zeros(moduli[i], rows[k], 0);
+            leaves_zeros(moduli[i], rows[k], 1);
+        }
+}
+
+static void on_null_of_orders(void) {
+    const uint32_t one[] = {1};
+    LEAVES(zahupnik_even_first(NO_LIST, NO_LIST), ZAHUPNIK_FINISHED, UINT32_MAX);
+    LEAVES(zahupnik_even_first(NO_LIST, output, 0), ZAHUPNIK_FINISHED, UINT32_MAX);
+    LEAVES(zahupnik_even_first(one, 0, NO_LIST), ZAHUPNIK_FINISHED, UINT32_MAX);
+    LEAVES(zahupnik_even_first(NO_LIST, output, 1), ZAHUPNIK_OUTPUT_LENGTH, UINT32_MAX);
+    LEAVES(zahupnik_even_first(one, 1, NO_LIST), ZAHUPNIK_OUTPUT_LENGTH, UINT32_MAX);
+    LEAVES(zahupnik_even_first(one, 1, output, 1), ZAHUPNIK_FINISHED, 1);
+    LEAVES(zahupnik_even_back(NO_LIST, NO_LIST), ZAHUPNIK_FINISHED, UINT32_MAX);
+    LEAVES(zahupnik_even_back(NO_LIST, output, 0), ZAHUPNIK_FINISHED, UINT32_MAX);
+    LEAVES(zahupnik_even_back(one, 0, NO_LIST), ZAHUPNIK_FINISHED, UINT32_MAX);
+    LEAVES(zahupnik_even_back(NO_LIST, output, 1), ZAHUPNIK_OUTPUT_LENGTH, UINT32_MAX);
+    LEAVES(zahupnik_even_back(one, 1, NO_LIST), ZAHUPNIK_OUTPUT_LENGTH, UINT32_MAX);
+    LEAVES(zahupnik_even_back(one, 1, output, 1), ZAHUPNIK_FINISHED, 1);
+}
+
 int main(void) {
     const struct function functions[] = {
         {"plain_expand", plain_expand, 1, 1, 1, 0, 0},
@@ -970,6 +1121,12 @@ int main(void) {
     on_long_list();
     on_whole_numbers();
     on_null_of_two();
+    for (size_t i = 0; i < ORDERS; i++) {
+        on_order(&orders[i]);
+        on_great_lengths(&orders[i]);
+    }
+    on_zeros();
+    on_null_of_orders();
     printf("limits: %lu cases are as the header says\n", cases);
     return 0;
 }

@@ -5,9 +5,10 @@
  * For each function a line: its name and the most bytes that it took, of accepted cases with r = 127 and r = 0 and of refused ones, whose
  * last a or last c is zero or shares a factor with m, modulo a prime and a composite number; of the text call and of the call that writes
  * a job, for every operation; on a record of 127, 126, 1 and 0 rows, right and damaged; on two channels, one of them prime and one
- * composite, in either order, and refused for a last remainder that is too great and for channels that share a factor as well. A byte counts
- * if it lies between the frame of the caller, which holds the arguments, and the lowest byte that was written; the record that a change hands
- * out is the caller's and is not counted. Exits 1 if a call gives another answer than it should.
+ * composite, in either order, and refused for a last remainder that is too great and for channels that share a factor as well; of the
+ * calls that order a list, of every length that they take, and refused for one number more and for an output of another length. A byte
+ * counts if it lies between the frame of the caller, which holds the arguments, and the lowest byte that was written; the record that a
+ * change hands out is the caller's and is not counted. Exits 1 if a call gives another answer than it should.
  */
 #define _XOPEN_SOURCE 700
 #include <inttypes.h>
@@ -33,6 +34,8 @@ static struct zahupnik_change change;
 static uint32_t second_m, first[MOST + 1], second[MOST + 1];
 static int32_t signed_a[MOST], signed_b[MOST], signed_c[MOST], signed_curve[MOST + 1];
 static int64_t joined[MOST + 1];
+static uint32_t list[ZAHUPNIK_MOST_ENTRIES + 1];
+static size_t list_length, output_length;
 static unsigned char *frame;
 
 #define FAMILY m, a, r, b, r, c, r
@@ -74,6 +77,8 @@ CALL(prepared_tree_decompose, family, curve, n, output, n, work, ZAHUPNIK_LEAST_
 CALL(prepared_moments, family, output, 2 * n - 1, work, ZAHUPNIK_LEAST_WORK)
 CALL(join, m, second_m, first, n, second, n, joined, n)
 CALL(expand_join, m, second_m, signed_a, r, signed_b, r, signed_c, r, signed_curve, n, joined, n)
+CALL(even_first, list, list_length, output, output_length)
+CALL(even_back, list, list_length, output, output_length)
 
 static const struct {
     const char *name;
@@ -104,8 +109,11 @@ static const struct {
     {"zahupnik_prepared_moments", prepared_moments},
     {"zahupnik_join", join},
     {"zahupnik_expand_join", expand_join},
+    {"zahupnik_even_first", even_first},
+    {"zahupnik_even_back", even_back},
 };
-enum { CALLS = sizeof calls / sizeof *calls, FIRST_ON_CHANNELS = CALLS - 2, FIRST_ON_RECORDS = FIRST_ON_CHANNELS - 12 };
+enum { CALLS = sizeof calls / sizeof *calls, FIRST_ORDER = CALLS - 2, FIRST_ON_CHANNELS = FIRST_ORDER - 2 };
+enum { FIRST_ON_RECORDS = FIRST_ON_CHANNELS - 12 };
 
 /* How many bytes of the painted stack lie between the caller's frame and the lowest that the call wrote. */
 static size_t measure(const char *name, void (*run)(void), uint32_t wanted) {
@@ -269,9 +277,28 @@ static size_t most_on_channels(size_t i, uint32_t modulus, uint32_t second_modul
     return greater(most, most_of(i, ZAHUPNIK_FINISHED));
 }
 
+/* The most that a call which orders a list takes, of these lengths. */
+static size_t most_of_lengths(size_t i, size_t numbers, size_t places, uint32_t wanted) {
+    list_length = numbers;
+    output_length = places;
+    return most_of(i, wanted);
+}
+
+static size_t most_on_orders(size_t i) {
+    size_t most = 0;
+    for (size_t k = 0; k <= ZAHUPNIK_MOST_ENTRIES; k++) {
+        list[k] = next();
+        most = greater(most, most_of_lengths(i, k, k, ZAHUPNIK_FINISHED));
+        most = greater(most, most_of_lengths(i, k, k + 1, ZAHUPNIK_OUTPUT_LENGTH));
+    }
+    most = greater(most, most_of_lengths(i, ZAHUPNIK_MOST_ENTRIES, 0, ZAHUPNIK_OUTPUT_LENGTH));
+    return greater(most, most_of_lengths(i, ZAHUPNIK_MOST_ENTRIES + 1, ZAHUPNIK_MOST_ENTRIES + 1, ZAHUPNIK_ROWS));
+}
+
 static size_t most_on(size_t i, uint32_t modulus, uint32_t other) {
     if (i < FIRST_ON_RECORDS) return most_on_lists(i, modulus);
-    return i < FIRST_ON_CHANNELS ? most_on_records(i, modulus) : most_on_channels(i, modulus, other);
+    if (i < FIRST_ON_CHANNELS) return most_on_records(i, modulus);
+    return i < FIRST_ORDER ? most_on_channels(i, modulus, other) : most_on_orders(i);
 }
 
 int main(void) {

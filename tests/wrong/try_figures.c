@@ -12,6 +12,7 @@
 #include "figures.h"
 #include "joining_figures.h"
 #include "library_record.h"
+#include "ordering_figures.h"
 #include "text_model.h"
 #include "zahupnik.h"
 
@@ -279,6 +280,24 @@ static void run_expand_join(const struct expand_join_figure *figure, char *given
     run_joining(&x, figure->number, figure->result, given, wanted);
 }
 
+/* ---- orders */
+
+/* What a call gives, and what it should; it is told too if it has written to the list. */
+static void run_ordering(const struct ordering_figure *figure, bool back, char *given, char *wanted) {
+    uint32_t output[ORDERING_ROOM], untouched[ORDERING_ROOM], list[ORDERING_ROOM];
+    struct ordering x = ordering_figure_lent(figure, back);
+    size_t bytes = x.list.length * sizeof *list;
+    memcpy(list, x.list.entries, bytes);
+    fill(output, ORDERING_ROOM);
+    fill(untouched, ORDERING_ROOM);
+    uint32_t number = (back ? zahupnik_even_back : zahupnik_even_first)(x.list.entries, x.list.length, output, x.output_length);
+    tell_list(given, number, output, x.output_length);
+    tell_list(wanted, figure->number, figure->number ? untouched : ordering_figure_result(figure, back), x.output_length);
+    if (memcmp(list, x.list.entries, bytes) == 0) return;
+    strcat(given, ", the list ");
+    tell_numbers(given, x.list.entries, x.list.length);
+}
+
 /* ---- texts */
 
 static uint8_t output[LEAST_JOB_OUTPUT];
@@ -454,6 +473,10 @@ int main(int argc, char **argv) {
     for (const struct join_figure *figure = JOIN_FIGURES; is_asked("join") && figure->name; figure++) TRY(figure->name, run_join, figure);
     for (const struct expand_join_figure *figure = EXPAND_JOIN_FIGURES; is_asked("expand_join") && figure->name; figure++)
         TRY(figure->name, run_expand_join, figure);
+    for (const struct ordering_figure *figure = ORDERING_FIGURES; figure->name; figure++) {
+        if (is_asked("even_first")) TRY(figure->name, run_ordering, figure, false);
+        if (is_asked("even_back")) TRY(figure->name, run_ordering, figure, true);
+    }
     if (first) printf("; %s: %.*s, not %.*s\n", first, SHOWN_WORDS, first_given, SHOWN_WORDS, first_wanted);
     return first != NULL;
 }

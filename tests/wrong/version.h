@@ -7,6 +7,7 @@
 #define VERSION_H
 
 #include "joining_model.h"
+#include "ordering_model.h"
 #include "prepared_model.h"
 
 /* A call on lists as it was made: what it was lent, and where it writes; the factor is Inverse's. */
@@ -46,12 +47,19 @@ struct joining_call {
     int64_t *output;
 };
 
+/* A call that orders a list as it was made: what it was lent, and where it writes. */
+struct ordering_call {
+    struct ordering lent;
+    uint32_t *output;
+};
+
 /* What the library does. A change hands out a record. */
 uint32_t right(const struct call *call);
 uint32_t right_text(const struct text_call *call);
 uint32_t right_change(const struct change *change, struct record *after);
 uint32_t right_on_record(const struct record_call *call);
 uint32_t right_joined(const struct joining_call *call);
+uint32_t right_ordered(const struct ordering_call *call);
 
 /* The calls that a version is a version of. */
 enum {
@@ -80,9 +88,12 @@ enum {
     PREPARED_MOMENTS = 1 << 22,
     JOIN = 1 << 23,
     EXPAND_JOIN = 1 << 24,
-    CALLS = 25,
+    EVEN_FIRST = 1 << 25,
+    EVEN_BACK = 1 << 26,
+    CALLS = 27,
     ALL = (1 << CALLS) - 1,
     ON_TWO_CHANNELS = JOIN | EXPAND_JOIN,
+    ORDERS = EVEN_FIRST | EVEN_BACK,
     WITHOUT_RECORD = PREPARED_EMPTY - 1,
     CONVERSIONS = WITHOUT_RECORD & ~WRITE_JOB,
     PLAIN_CURVES = PLAIN_EXPAND | PLAIN_ADJOINT | PLAIN_DECOMPOSE,
@@ -96,7 +107,7 @@ enum {
     TO_RECORDS = PREPARED_EMPTY | PREPARED_APPEND | PREPARED_DROP_LAST | PREPARED_REPLACE,
     CHANGES = TO_RECORDS & ~PREPARED_EMPTY,
     WITH_NEW_ROW = PREPARED_APPEND | PREPARED_REPLACE,
-    ON_RECORDS = ALL & ~WITHOUT_RECORD & ~TO_RECORDS & ~ON_TWO_CHANNELS,
+    ON_RECORDS = ALL & ~WITHOUT_RECORD & ~TO_RECORDS & ~ON_TWO_CHANNELS & ~ORDERS,
     TAKE_RECORD = CHANGES | ON_RECORDS,
     BY_THE_TREE_ON_RECORDS = PREPARED_TREE_EXPAND | PREPARED_TREE_ADJOINT | PREPARED_TREE_DECOMPOSE | PREPARED_MOMENTS,
     BY_TRANSPOSED_PRODUCTS = TREE_ADJOINT | TREE_DECOMPOSE | PREPARED_TREE_ADJOINT | PREPARED_TREE_DECOMPOSE,
@@ -107,8 +118,9 @@ enum {
 extern const char *const CALL_NAMES[CALLS];
 
 /* A version: a function for the calls that write lists, for those that write a text, for the changes of a record, for the operations
- * on one and for the calls on two channels, or for some of these. One on lists alone, of the text call, converts the job that was read, and
- * of an operation on a record, the rows of one that is right. A control is right: no test may tell it from the library. */
+ * on one, for the calls on two channels and for those that order a list, or for some of these. One on lists alone, of the text call,
+ * converts the job that was read, and of an operation on a record, the rows of one that is right. A control is right: no test may tell it
+ * from the library. */
 struct version {
     const char *name;
     const char *what;
@@ -118,6 +130,7 @@ struct version {
     uint32_t (*on_change)(const struct change *change, struct record *after);
     uint32_t (*on_record)(const struct record_call *call);
     uint32_t (*on_channels)(const struct joining_call *call);
+    uint32_t (*on_orders)(const struct ordering_call *call);
     bool control;
 };
 

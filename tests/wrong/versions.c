@@ -5,6 +5,7 @@
 #include "channels.h"
 #include "jobs.h"
 #include "lists.h"
+#include "orders.h"
 #include "reasons.h"
 #include "records.h"
 #include "slips.h"
@@ -36,6 +37,8 @@ const char *const CALL_NAMES[CALLS] = {
     "prepared_moments",
     "join",
     "expand_join",
+    "even_first",
+    "even_back",
 };
 
 #define ON_LISTS(version, wrong, which, function) {.name = version, .what = wrong, .calls = which, .on_lists = function}
@@ -50,17 +53,19 @@ const char *const CALL_NAMES[CALLS] = {
     {.name = version, .what = wrong, .calls = which, .on_change = change_function, .on_record = record_function}
 #define OF_REASON(version, wrong, which) ON_BOTH(#version, wrong, which, version, text_##version),
 #define OF_CHANNELS(version, wrong, which) {.name = #version, .what = wrong, .calls = which, .on_channels = channels_##version},
+#define OF_ORDERS(version, wrong, which) {.name = #version, .what = wrong, .calls = which, .on_orders = orders_##version},
 #define DAMAGED(version, wrong) ON_EITHER(#version, wrong, TAKE_RECORD, change_##version, record_##version),
 
 const struct version VERSIONS[] = {
     {.name = "no_slip",
-     .what = "Figures 1 to 3, the job text, the record and the joined value once more",
+     .what = "Figures 1 to 3, the job text, the record, the joined value and the order once more",
      .calls = ALL,
      .on_lists = without_a_slip,
      .on_text = text_without_a_slip,
      .on_change = change_record,
      .on_record = record_without_a_slip,
      .on_channels = channels_without_a_slip,
+     .on_orders = orders_without_a_slip,
      .control = true},
 
     ON_BOTH("refuses", "refuses whatever it is lent", WITHOUT_RECORD, refuses, text_refuses),
@@ -265,5 +270,7 @@ const struct version VERSIONS[] = {
     ON_LISTS("work_past", "a number after the 16,384 cleared", BY_THE_TREE_ON_RECORDS, work_past),
 
     ALL_CHANNELS(OF_CHANNELS)
+
+    ALL_ORDERS(OF_ORDERS)
     {.name = NULL},
 };

@@ -56,6 +56,7 @@ static const struct version *chosen(unsigned call) {
     const int32_t *a, size_t a_length, const int32_t *b, size_t b_length, const int32_t *c, size_t c_length
 #define SIGNED_CURVE const int32_t *curve, size_t curve_count
 #define JOINED int64_t *output, size_t output_length
+#define ORDERED const uint32_t *list, size_t list_length, OUTPUT
 
 /* What ld --wrap calls the library's functions, and the functions in their places. */
 #define BOTH(type, name, ...)                 \
@@ -88,6 +89,8 @@ WRAPPED(prepared_tree_decompose, PREPARED, CURVE, OUTPUT, WORK)
 WRAPPED(prepared_moments, PREPARED, OUTPUT, WORK)
 WRAPPED(join, TWO_CHANNELS, REMAINDERS, JOINED)
 WRAPPED(expand_join, TWO_CHANNELS, SIGNED_ROWS, SIGNED_CURVE, JOINED)
+WRAPPED(even_first, ORDERED)
+WRAPPED(even_back, ORDERED)
 
 #define LISTS x->m, x->a.entries, x->a.length, x->b.entries, x->b.length, x->c.entries, x->c.length
 #define OUT call->output, x->output_length
@@ -164,6 +167,12 @@ uint32_t right_joined(const struct joining_call *call) {
                                 x->output_length);
 }
 
+uint32_t right_ordered(const struct ordering_call *call) {
+    const struct ordering *x = &call->lent;
+    return x->back ? __real_zahupnik_even_back(x->list.entries, x->list.length, OUT)
+                   : __real_zahupnik_even_first(x->list.entries, x->list.length, OUT);
+}
+
 /* ---- the library's functions */
 
 static uint32_t answer(unsigned name, const struct call *call) {
@@ -198,7 +207,12 @@ static uint32_t answer_joined(unsigned name, const struct joining_call *call) {
     return version ? version->on_channels(call) : right_joined(call);
 }
 
-/* No version writes to what a call may not write. */
+static uint32_t answer_ordered(unsigned name, const struct ordering_call *call) {
+    const struct version *version = chosen(name);
+    return version ? version->on_orders(call) : right_ordered(call);
+}
+
+/* Of what a call may not write, a version writes to a list that it orders, and to nothing else. */
 static struct list lent_list(const uint32_t *entries, size_t length) { return (struct list){(uint32_t *)entries, length}; }
 
 static struct signed_list lent_signed(const int32_t *entries, size_t length) { return (struct signed_list){(int32_t *)entries, length}; }
@@ -319,3 +333,12 @@ uint32_t __wrap_zahupnik_expand_join(TWO_CHANNELS, SIGNED_ROWS, SIGNED_CURVE, JO
     call.lent.curve = lent_signed(curve, curve_count);
     return answer_joined(EXPAND_JOIN, &call);
 }
+
+static uint32_t on_order(unsigned name, bool back, ORDERED) {
+    struct ordering_call call = {{back, lent_list(list, list_length), output_length}, output};
+    return answer_ordered(name, &call);
+}
+
+uint32_t __wrap_zahupnik_even_first(ORDERED) { return on_order(EVEN_FIRST, false, list, list_length, output, output_length); }
+
+uint32_t __wrap_zahupnik_even_back(ORDERED) { return on_order(EVEN_BACK, true, list, list_length, output, output_length); }
