@@ -6,7 +6,7 @@ use Rattle.zahupnik.proofs.zahupnik_even_first.Statement.{statement}
 use Rattle.zahupnik.proofs.zahupnik_even_first.Tie as tie
 
 returns : tie.Need-returns
-returns c = list-returned _ (order-positive _ _) _ _ (c .before .before .even-first .ensures) (c .number .ensures)
+returns c = list-returned _ (order-positive _ _) _ _ (c .before .before .before .even-first .ensures) (c .number .ensures)
 
 pub zahupnik-even-first-spec : {M : Type 1} → statement M
 zahupnik-even-first-spec = tie.close (tie.spec (search needs) (search needs) (search needs) returns)
