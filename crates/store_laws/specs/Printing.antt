@@ -10,7 +10,7 @@ use mathlib.Core.List.{List, [], _∷_, _++_, append-assoc, append-nil, map}
 use mathlib.Core.Path.{_≡_, refl, sym, _∙_, ap, ap₂}
 use Prim.Native.Nat.{ℕ, zero, suc, _+_, _*_, _-_, _<_, _≤_}
 use native.Mathlib.Omega.{arith}
-use lib.ListN.{length, take, drop, length-append, length-take, length-drop}
+use lib.ListN.{length, take, drop, length-append, length-drop}
 use lib.Seq.{take-all, take-at, take-add, length-take-le}
 use Rattle.lines.specs.Lines.{alone, linesOf, joined}
 use Rattle.lines.specs.Pieces.{kept, ended, unended, ended-append, unended-append, ended-none, unended-none, ended-text}
@@ -82,12 +82,16 @@ module _ (piece line : List ℕ) (count : ℕ) (out : List ℕ) (from : ℕ) whe
       few = omega (arith, s .few, s .walking .inside);
     }
 
+    -- for the answer of one more line, while the piece has more bytes
+    pub printing-room : at < length piece → from + longestPrinted * length piece ≤ length out → n + longestPrinted ≤ length out′
+    printing-room inside room = omega (arith, s .few, s .same)
+
     module _ (line″ : List ℕ) (e : Bool) (kept″ next : ℕ) (p : LineTaken piece at line′ kept′ line″ e kept″ next)
         (same : length line″ ≡ length line′) (inside : at < length piece) where
       pub printing-line : e ≡ true → from + longestPrinted * length piece ≤ length out → (out″ : List ℕ) (n′ : ℕ)
           → Put out′ n (printedLine (take kept″ line″)) longestPrinted out″ n′ → Printing piece line count out from line″ 0 next out″ n′
       printing-line is room out″ n′ put =
-          let fits : n + longestPrinted ≤ length out′ = omega (arith, s .few, s .same) in
+          let fits = printing-room inside room in
           record {
             said = s .said ++ take kept″ line″ ∷ [];
             walking = walking-line piece line count (s .said) line′ kept′ at (s .walking) line″ e kept″ next p same is;
@@ -139,6 +143,12 @@ module _ (text : List ℕ) where
           let sum : end ≡ at + (end - at) = omega arith in
           ap (λ k. take k text) sum ∙ take-add at (end - at) text
 
+      piece-long : length piece ≡ end - at
+      piece-long = length-take-le (end - at) (drop at text) (omega (arith, length-drop at text))
+
+      pub answering-room : n + longestPrinted * length piece ≤ length out
+      answering-room = omega (arith, s .few, s .room, piece-long)
+
       pub answering-next : (line′ : List ℕ) (kept″ : ℕ) (out′ : List ℕ) (n′ : ℕ) → PieceAnswered piece line kept′ out n line′ kept″ out′ n′
           → length line′ ≡ length line → length out′ ≡ length out → Answering text line′ kept″ out′ n′ end
       answering-next line′ kept″ out′ n′ p same sameOut = record {
@@ -151,7 +161,7 @@ module _ (text : List ℕ) where
               ∙ sym (unended-append 8193 [] (take at text) piece) ∙ ap (unended 8193 []) (sym front);
           within = p .left .within;
         };
-        few = omega (arith, p .few, s .few, length-take (end - at) (drop at text), length-drop at text);
+        few = omega (arith, p .few, s .few, piece-long);
         inside = within;
         size = same ∙ s .size;
         room = omega (arith, s .room);
