@@ -1,66 +1,25 @@
+-- `expanded_even_first` meets its law: the zeros of an even or an odd curve lie together. Assumes nothing.
+use Rattle.order_laws.specs.Holding.{expand-refused, expand-made}
 use borrow.Author.Needs.{needs}
 use Rattle.order_laws.proofs.expanded_even_first.Statement.{statement}
 use Rattle.order_laws.proofs.expanded_even_first.Tie as tie
-use Rattle.order_laws.proofs.expanded_even_first.Reads as reads
-use Rattle.order_laws.proofs.expanded_even_first.Lts as lts
-use Rattle.laws.proofs.expand_by.Reads as expand-by-reads
-use Rattle.order_calls.proofs.even_first.Reads as even-first-reads
 
--- src/lib.rt:50:9
-expand-by-requires : tie.Need-expand-by-requires
-expand-by-requires c κs = search needs
-
-enum-told : tie.Need-enum-told
-enum-told c = search needs
-
--- src/lib.rt:52:9
-enum-told-2 : tie.Need-enum-told-2
-enum-told-2 c = search needs
-
--- src/lib.rt:52:9
-same-length : tie.Need-same-length
-same-length c = search needs
-
--- src/lib.rt:52:9
-same-length-2 : tie.Need-same-length-2
-same-length-2 c = search needs
-
--- src/lib.rt:52:9
 returns : tie.Need-returns
-returns c = ?
+returns c =
+    let expanded = c .before .before .before .before .before .before in
+    expand-refused _ _ _ _ _ _ _ _ _ (expanded .expand-by .ensures) _ (c .enum-told2 .given .1)
 
--- src/lib.rt:54:5
-even-first-requires : tie.Need-even-first-requires
-even-first-requires c κs = search needs
-
--- src/lib.rt:36:1
-same-length-3 : tie.Need-same-length-3
-same-length-3 c = search needs
-
--- src/lib.rt:36:1
-same-length-4 : tie.Need-same-length-4
-same-length-4 c = search needs
-
--- src/lib.rt:36:1
-same-length-5 : tie.Need-same-length-5
-same-length-5 c = search needs
-
--- src/lib.rt:36:1
 returns-2 : tie.Need-returns-2
-returns-2 c = ?
+returns-2 c =
+    let second = c .before .before in
+    let told = second .before .before .before in
+    let expanded = told .before .before .before .before .before .before in
+    expand-made _ _ _ _ _ _ _ _ _ (expanded .expand-by .ensures) (told .enum-told .given .1) (second .even-first .result) _
+    (second .even-first .ensures)
 
 pub expanded-even-first-spec : {M : Type 1} → statement M
 expanded-even-first-spec =
     tie.close
     (tie.spec
-    expand-by-requires
-    enum-told
-    enum-told-2
-    same-length
-    same-length-2
-    returns
-    even-first-requires
-    same-length-3
-    same-length-4
-    same-length-5
-    returns-2)
+    (search needs) (search needs) (search needs) (search needs) (search needs) returns (search needs) (search needs) (search needs)
+    (search needs) returns-2)

@@ -1,56 +1,21 @@
+-- `first_after_back` meets its law: Even first of what Even back hands out returns the list. Assumes nothing.
+use Rattle.order_laws.specs.Holding.{trip-refused, trip-made}
 use borrow.Author.Needs.{needs}
 use Rattle.order_laws.proofs.first_after_back.Statement.{statement}
 use Rattle.order_laws.proofs.first_after_back.Tie as tie
-use Rattle.order_laws.proofs.first_after_back.Reads as reads
-use Rattle.order_laws.proofs.first_after_back.Lts as lts
-use Rattle.order_calls.proofs.even_back.Reads as even-back-reads
-use Rattle.order_calls.proofs.even_first.Reads as even-first-reads
 
--- src/lib.rt:28:9
-even-back-requires : tie.Need-even-back-requires
-even-back-requires c κs = search needs
-
-enum-told : tie.Need-enum-told
-enum-told c = search needs
-
--- src/lib.rt:30:9
-enum-told-2 : tie.Need-enum-told-2
-enum-told-2 c = search needs
-
--- src/lib.rt:30:9
-same-length : tie.Need-same-length
-same-length c = search needs
-
--- src/lib.rt:30:9
 returns : tie.Need-returns
-returns c = ?
+returns c = trip-refused _ _ _ _ _ _ (c .before .before .before .before .even-back .ensures) _ (c .enum-told2 .given .1)
 
--- src/lib.rt:32:5
-even-first-requires : tie.Need-even-first-requires
-even-first-requires c κs = search needs
-
--- src/lib.rt:24:1
-same-length-2 : tie.Need-same-length-2
-same-length-2 c = search needs
-
--- src/lib.rt:24:1
-same-length-3 : tie.Need-same-length-3
-same-length-3 c = search needs
-
--- src/lib.rt:24:1
 returns-2 : tie.Need-returns-2
-returns-2 c = ?
+returns-2 c =
+    let second = c .before .before in
+    let told = second .before .before .before in
+    trip-made _ _ _ _ _ _ (told .before .before .before .before .even-back .ensures) (told .enum-told .given .1) (second .even-first .result) _
+    (second .even-first .ensures)
 
 pub first-after-back-spec : {M : Type 1} → statement M
 first-after-back-spec =
     tie.close
     (tie.spec
-    even-back-requires
-    enum-told
-    enum-told-2
-    same-length
-    returns
-    even-first-requires
-    same-length-2
-    same-length-3
-    returns-2)
+    (search needs) (search needs) (search needs) (search needs) returns (search needs) (search needs) (search needs) returns-2)
