@@ -21,12 +21,8 @@ fn source(direction: Direction, n: usize, k: usize) -> usize
 {
     let half = (n + 1) / 2;
     match direction {
-        Direction::EvenFirst => {
-            if k < half { 2 * k } else { 2 * (k - half) + 1 }
-        }
-        Direction::EvenBack => {
-            if k % 2 == 0 { k / 2 } else { half + k / 2 }
-        }
+        Direction::EvenFirst => { if k < half { 2 * k } else { 2 * (k - half) + 1 } }
+        Direction::EvenBack => { if k % 2 == 0 { k / 2 } else { half + k / 2 } }
     }
 }
 

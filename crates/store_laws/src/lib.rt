@@ -15,7 +15,13 @@ struct Progress {
 
 // Puts what is printed for the lines that end in a piece after the first `from` bytes of an output; of the line that the piece goes on with
 // `count` bytes are kept. The output has room for as many answers as the piece has bytes.
-fn answer_piece(piece: &[u8], line: &mut [u8], count: usize, out: &mut [u8], from: usize) -> Progress
+fn answer_piece(
+    piece: &[u8],
+    line: &mut [u8],
+    count: usize,
+    out: &mut [u8],
+    from: usize,
+) -> Progress
     requires { ⌜ (count ≤ length (now line)) × (from + longestPrinted * length (now piece) ≤ length (now out)) ⌝ }
     ensures { λ r. ⌜ PieceAnswered (now (piece .entry)) (now (line .entry)) count (now (out .entry)) from
         (now (line .exit)) (r .kept) (now (out .exit)) (r .printed) ⌝ }

@@ -147,15 +147,11 @@ printouts-hold : map (λ p. printedLine (bytes (p .line))) printouts ≡ map (λ
 unfolding inputOutcome
 printouts-hold = refl
 
--- 8,192 bytes are looked at, and 8,193 are not, whatever stands in them: zeros; 4,094 numbers 1, and 11 as the first of these
+-- 8,192 bytes are looked at, and 8,193 are not, whatever stands in them: zeros; 11 and 4,093 times 1
 bytes-counted : map printedLine (replicate 8192 48 ∷ replicate 8193 48 ∷ storeLine Direction.EvenFirst (11 ∷ replicate 4093 1) ∷ [])
     ≡ refusalText 2 ∷ refusalText 1 ∷ refusalText 1 ∷ []
 unfolding inputOutcome
 bytes-counted = refl
-
-longest-line : printedLine (storeLine Direction.EvenFirst (replicate 4094 1)) ≡ refusalText 5
-unfolding inputOutcome
-longest-line = refl
 
 -- 128 numbers are taken and 129 are not; a line of 129 with a space after them is malformed
 entries-counted : map printedLine

@@ -43,9 +43,10 @@ part-answer-piece-end c = search needs
 answer-piece-requires : tie.Need-answer-piece-requires Inv-loop μ-loop
 answer-piece-requires c κs =
     let least = c .before .before .before in
-    let state = least .before .before .loop .inv .0 in
-    (omega (arith, state .left .within),
-    answering-room _ _ _ _ _ _ state _ (omega arith) (omega (arith, state .inside, least .least .ensures .1)))
+    let state = least .before .before .loop .inv .0 in (
+      omega (arith, state .left .within),
+      answering-room _ _ _ _ _ _ state _ (omega arith) (omega (arith, state .inside, least .least .ensures .1)),
+    )
 
 loop-less : tie.Need-loop-less Inv-loop μ-loop
 loop-less c =
@@ -56,9 +57,12 @@ loop-again : tie.Need-loop-again Inv-loop μ-loop
 loop-again c =
     let answered = c .before .before .before .before in
     let least = answered .before .before .before .before in
-    let looped = least .before .before in
-    (answering-next _ _ _ _ _ _ (looped .loop .inv .0) _ (omega arith) (omega (arith, looped .loop .inv .0 .inside, least .least .ensures .1)) _ _ _ _
-    (answered .answer-piece .ensures) (omega arith) (omega arith), omega arith, omega arith)
+    let looped = least .before .before in (
+      answering-next _ _ _ _ _ _ (looped .loop .inv .0) _ (omega arith) (omega (arith, looped .loop .inv .0 .inside, least .least .ensures .1)) _ _ _ _
+          (answered .answer-piece .ensures) (omega arith) (omega arith),
+      omega arith,
+      omega arith,
+    )
 
 same-length : tie.Need-same-length Inv-loop μ-loop
 same-length c = search needs
