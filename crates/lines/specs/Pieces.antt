@@ -16,7 +16,8 @@ use lib.ListN.{take}
 use lib.Seq.{take-nil}
 use Rattle.definitions.specs.Reading.{pick}
 use Rattle.definitions.specs.Text.{newline}
-use Rattle.lines.specs.Lines.{begun, alone, linesOf, joined}
+use Rattle.lines.specs.Lines.{begun, linesOf, joined}
+use Rattle.lines.specs.Determining.{alone}
 
 abbrev pub kept : ℕ → List ℕ → List ℕ
 kept room l = take room l

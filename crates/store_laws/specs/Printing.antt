@@ -12,7 +12,8 @@ use Prim.Native.Nat.{ℕ, zero, suc, _+_, _*_, _-_, _<_, _≤_}
 use native.Mathlib.Omega.{arith}
 use lib.ListN.{length, take, drop, length-append, length-drop}
 use lib.Seq.{take-all, take-at, take-add, length-take-le}
-use Rattle.lines.specs.Lines.{alone, linesOf, joined}
+use Rattle.lines.specs.Determining.{alone}
+use Rattle.lines.specs.Lines.{linesOf, joined}
 use Rattle.lines.specs.Pieces.{kept, ended, unended, ended-append, unended-append, ended-none, unended-none, ended-text}
 use Rattle.lines.specs.Taking.{LineTaken}
 use Rattle.lines.specs.Walking.{Open, Walking, walking-starts, walking-past, walking-open, walking-line, walking-on}
