@@ -1,7 +1,7 @@
 -- The lines of a text. A line is counted with its byte 10; the bytes after the last byte 10, if there are any, are a line too.
 --   linesOf t    the lines of t
 --   joined ls    lists one after the other
--- Items 7 and 10 of the change requests. Assumes nothing.
+-- Item 7 of the change requests. Assumes nothing.
 use mathlib.Core.List.{List, [], _∷_, _++_}
 use Prim.Native.Nat.{ℕ}
 use lib.Dec.{eqb}
