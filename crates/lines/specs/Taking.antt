@@ -9,7 +9,7 @@
 use mathlib.Core.Bool.{Bool, true, false, true≢false}
 use mathlib.Core.List.{List, [], _∷_, _++_}
 use mathlib.Core.Path.{_≡_, refl, sym, _∙_, ap}
-use Prim.Native.Nat.{ℕ, _+_, _<_, _≤_}
+use Prim.Native.Nat.{ℕ, _+_, _-_, _<_, _≤_}
 use native.Mathlib.Numerals.{add-one}
 use native.Mathlib.Omega.{arith}
 use lib.Dec.{eqb}
@@ -21,12 +21,16 @@ use Rattle.lines.specs.Pieces.{kept, ended, unended, ended-none, unended
 
 pub record Kept (line : List ℕ) (n b : ℕ) (line′ : List ℕ) (n′ : ℕ) : Type 0 where
   pub within : n′ ≤ length line′
+  pub grown : n′ ≤ n + 1
+  pub some : 0 < length line → 0 < n′
   pub bytes : take n′ line′ ≡ kept (length line) (take n line ++ b ∷ [])
 
 module _ (line : List ℕ) (n b : ℕ) where
   pub kept-room : n < length line → Kept line n b (set line n b) (n + 1)
   kept-room h = record {
     within = omega (arith, length-set line n b);
+    grown = omega arith;
+    some = λ r. omega arith;
     bytes = ap (λ k. take k (set line n b)) (add-one n) ∙ take-suc-set line n b h ∙ sym (take-all (length line) (take n line ++ b ∷ []) short);
   }
     where
@@ -36,6 +40,8 @@ module _ (line : List ℕ) (n b : ℕ) where
   pub kept-full : length line ≤ n → n ≤ length line → Kept line n b line n
   kept-full h k = record {
     within = k;
+    grown = omega arith;
+    some = λ r. omega arith;
     bytes =
         let full : n ≡ length line = omega arith in
         sym (take-append-le (length line) (take n line) (b ∷ []) (omega (arith, length-take-le n line k))
@@ -74,20 +80,23 @@ module _ (room : ℕ) (h t l rest : List ℕ) (g : Going room h t l rest) where
 pub record LineTaken (piece : List ℕ) (from : ℕ) (line : List ℕ) (count : ℕ) (line′ : List ℕ) (e : Bool) (count′ next : ℕ) : Type 0 where
   pub taken : Taken (length line) (take count line) (drop from piece) e (take count′ line′) (drop next piece)
   pub within : count′ ≤ length line′
+  pub grown : count′ ≤ count + (next - from)
   pub inside : next ≤ length piece
   pub onward : from < length piece → from < next
   pub whole : e ≡ false → next ≡ length piece
+  pub some : e ≡ true → 0 < length line → 0 < count′
 
 pub record Taking (piece : List ℕ) (from : ℕ) (line : List ℕ) (count : ℕ) (line′ : List ℕ) (n i : ℕ) : Type 0 where
   pub going : Going (length line) (take count line) (drop from piece) (take n line′) (drop i piece)
   pub size : length line′ ≡ length line
   pub within : n ≤ length line′
+  pub grown : n ≤ count + (i - from)
   pub after : from ≤ i
   pub inside : i ≤ length piece
 
 module _ (piece : List ℕ) (from : ℕ) (line : List ℕ) (count : ℕ) where
   pub taking-starts : count ≤ length line → from ≤ length piece → Taking piece from line count line count from
-  taking-starts h k = record { going = record { lines = refl; left = refl }; size = refl; within = h; after = omega arith; inside = k }
+  taking-starts h k = record { going = record { lines = refl; left = refl }; size = refl; within = h; grown = omega arith; after = omega arith; inside = k }
 
   module _ (line′ : List ℕ) (n i : ℕ) (s : Taking piece from line count line′ n i) where
     abbrev h : List ℕ
@@ -100,9 +109,11 @@ module _ (piece : List ℕ) (from : ℕ) (line : List ℕ) (count : ℕ) where
     taking-past l = record {
       taken = going-past (length line) h t (take n line′) (drop i piece) (s .going) (drop-of-length-le piece l);
       within = s .within;
+      grown = s .grown;
       inside = s .inside;
       onward = λ k. omega (arith, s .inside);
       whole = λ e. omega (arith, s .inside);
+      some = λ e. absurd (true≢false (sym e));
     }
 
     module _ (l : i < length piece) (line″ : List ℕ) (n′ : ℕ) (p : Kept line′ n (getD piece i 0) line″ n′) where
@@ -116,9 +127,11 @@ module _ (piece : List ℕ) (from : ℕ) (line : List ℕ) (count : ℕ) where
       taking-ends e = record {
         taken = going-break (length line) h t (take n line′) (drop i piece) (s .going) (getD piece i 0) (drop (i + 1) piece) next (take n′ line″) bytes e;
         within = p .within;
+        grown = omega (arith, p .grown, s .grown, s .after);
         inside = omega arith;
         onward = λ k. omega (arith, s .after);
         whole = λ f. absurd (true≢false f);
+        some = λ f r. p .some (omega (arith, s .size));
       }
 
       pub taking-on : eqb (getD piece i 0) newline ≡ false → length line″ ≡ length line′ → Taking piece from line count line″ n′ (i + 1)
@@ -126,6 +139,7 @@ module _ (piece : List ℕ) (from : ℕ) (line : List ℕ) (count : ℕ) where
         going = going-on (length line) h t (take n line′) (drop i piece) (s .going) (getD piece i 0) (drop (i + 1) piece) next (take n′ line″) bytes e;
         size = same ∙ s .size;
         within = p .within;
+        grown = omega (arith, p .grown, s .grown, s .after);
         after = omega (arith, s .after);
         inside = omega arith;
       }

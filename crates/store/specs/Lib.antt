@@ -1,2 +1,2 @@
 -- What is known of the program's lists. Assumes nothing.
-pub mod Answering
+pub mod Keeping

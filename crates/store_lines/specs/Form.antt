@@ -1,23 +1,29 @@
 -- The lines of the store that are of the form.
 -- Proved: what is written is read (read-store), and what is read stood there so written (store-read); what is printed for such a line of at most
--- 128 numbers (printed-store), which put behind the other key brings the list back (printed-back). Assumes nothing.
+-- 128 numbers (printed-store), which put behind the other key brings the list back (printed-back); what is printed for a line has at most
+-- eleven times its bytes (printed-short). Assumes nothing.
+use mathlib.Core.Bool.{Bool, true, false}
 use mathlib.Core.List.{List, [], _∷_, _++_}
 use mathlib.Core.Path.{_≡_, refl, sym, _∙_, ap}
-use Prim.Native.Nat.{ℕ, zero, suc, _<_, _≤_}
+use Prim.Native.Nat.{ℕ, zero, suc, _*_, _<_, _≤_}
 use native.Mathlib.Omega.{arith}
-use lib.ListN.{length, getD}
+use borrow.Author.Tests.{ltb-true, ltb-false}
+use lib.Dec.{ltb}
+use lib.ListN.{length, getD, length-append}
 use Rattle.definitions.specs.Reading.{Front, got, bad, readKey, readNumbers, readLine}
-use Rattle.definitions.specs.Text.{greatestNumber, numbers, line, AllWritable}
+use Rattle.definitions.specs.Text.{greatestNumber, decimalWithin, decimal, spaced, numbers, line, refusalText, AllWritable}
 use Rattle.definitions.specs.TextCall.{mostBytes}
 use Rattle.numbers.specs.Lists.{table-entry}
 use Rattle.texts.specs.AnswerTexts.{all-writable, length-line, length-numbers}
+use Rattle.texts.specs.Decimal.{decimal-not-empty}
 use Rattle.texts.specs.LinesReading.{read-numbers-line, numbers-line-read}
+use Rattle.texts.specs.NumbersReading.{length-spaced}
 use Rattle.parity.specs.Orders.{source, source-below, opposite, arranged-length, arranged-table, arranged-back}
 use Rattle.storing.specs.Calls.{mostEntries}
 use Rattle.storing.specs.Order.{arranged}
 use Rattle.storing.specs.Printing.{Asked, asked, malformed, key, storeLine, orAsked, readStore, printedLine}
 use Rattle.storing.specs.declared.Direction.{Direction}
-use Rattle.store_lines.specs.Printed.{printed-list}
+use Rattle.store_lines.specs.Printed.{printed-1, printed-2, printed-5, printed-list}
 
 -- ---- written and read
 other-key : (xs : List ℕ) → readLine (key Direction.EvenFirst) readNumbers (storeLine Direction.EvenBack xs) ≡ bad
@@ -98,3 +104,50 @@ printed-back d xs few writable =
     ap (λ t. printedLine (key (opposite d) ++ t)) (printed-store d xs few writable)
     ∙ printed-store (opposite d) (arranged d xs) (omega (arith, arranged-length d xs)) (arranged-writable d xs writable)
     ∙ ap (λ ys. line [] (numbers ys) []) (arranged-back d xs)
+
+-- ---- how long an answer is
+numbers-long : (xs : List ℕ) → length xs ≤ length (numbers xs)
+unfolding numbers
+numbers-long [] = omega arith
+numbers-long (x ∷ xs) = omega (arith, length-append (decimal x) (spaced xs), decimal-not-empty x, length-spaced xs)
+
+refusal-length : (length (refusalText 1) ≡ 10) × (length (refusalText 2) ≡ 10) × (length (refusalText 5) ≡ 10)
+unfolding refusalText line decimal decimalWithin
+refusal-length = (refl, refl, refl)
+
+module _ (l : List ℕ) (some : 0 < length l) where
+  one-refusal : (k : ℕ) → length (refusalText k) ≡ 10 → printedLine l ≡ refusalText k → length (printedLine l) ≤ 11 * length l
+  one-refusal k ten is = omega (arith, ten, ap length is)
+
+  list-short : (d : Direction) (xs : List ℕ) → readStore l ≡ asked d xs → printedLine l ≡ line [] (numbers (arranged d xs)) []
+      → length (printedLine l) ≤ 11 * length l
+  unfolding storeLine
+  list-short d xs read is =
+      let s = store-read l d xs read in
+      omega (
+        arith,
+        ap length is,
+        length-line [] (numbers (arranged d xs)) [],
+        length-numbers (arranged d xs) (arranged-writable d xs (s .writable)),
+        arranged-length d xs,
+        ap length (s .text),
+        length-line (key d) (numbers xs) [],
+        numbers-long xs,
+      )
+
+  pub printed-short : length (printedLine l) ≤ 11 * length l
+  printed-short = by-length (ltb mostBytes (length l)) refl
+    where
+      by-count : length l ≤ mostBytes → (d : Direction) (xs : List ℕ) → readStore l ≡ asked d xs → (e : Bool) → ltb mostEntries (length xs) ≡ e
+          → length (printedLine l) ≤ 11 * length l
+      by-count h d xs read true e =
+          one-refusal 5 (refusal-length .2) (printed-5 l h d xs read (ltb-true mostEntries (length xs) e))
+      by-count h d xs read false e = list-short d xs read (printed-list l h d xs read (ltb-false mostEntries (length xs) e))
+
+      by-form : length l ≤ mostBytes → (a : Asked) → readStore l ≡ a → length (printedLine l) ≤ 11 * length l
+      by-form h malformed read = one-refusal 2 (refusal-length .1) (printed-2 l h read)
+      by-form h (asked d xs) read = by-count h d xs read (ltb mostEntries (length xs)) refl
+
+      by-length : (e : Bool) → ltb mostBytes (length l) ≡ e → length (printedLine l) ≤ 11 * length l
+      by-length true e = one-refusal 1 (refusal-length .0) (printed-1 l (ltb-true mostBytes (length l) e))
+      by-length false e = by-form (ltb-false mostBytes (length l) e) (readStore l) refl

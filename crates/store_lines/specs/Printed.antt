@@ -1,5 +1,5 @@
 -- What is printed for a line, by the test that decides.
---   longestPrinted   room for what is printed for a line: 128 numbers of ten digits, each with a space before it, and byte 10
+--   printedRoom   room for what is printed for a line: 128 numbers of ten digits, each with a space before it, and byte 10
 -- Proved: printed-1, printed-2, printed-5 and printed-list; the same put into an output, and found at its front (front-printed); what is
 -- kept of a line with room for 8,193 bytes decides what is printed for it (printed-kept). Assumes nothing.
 use mathlib.Core.Bool.{Bool, true, false}
@@ -24,8 +24,8 @@ use Rattle.storing.specs.declared.Direction.{Direction}
 use Rattle.writer.specs.Lines.{lineRoom}
 use Rattle.writer.specs.Putting.{Put, put-as, put-front}
 
-abbrev pub longestPrinted : ℕ
-longestPrinted = 1409
+abbrev pub printedRoom : ℕ
+printedRoom = 1409
 
 module _ (l : List ℕ) where
   pub printed-1 : mostBytes < length l → printedLine l ≡ refusalText 1
@@ -60,26 +60,26 @@ module _ (l : List ℕ) where
 -- ---- put into an output
 pub put-refusal : (old : List ℕ) (at number : ℕ) (new : List ℕ) (next : ℕ) (text : List ℕ)
     → Put old at (line refusalKey (decimal number) []) (lineRoom refusalKey 10) new next → text ≡ refusalText number
-    → Put old at text longestPrinted new next
+    → Put old at text printedRoom new next
 unfolding refusalText
-put-refusal old at number new next text p e = put-as old at _ _ new next p text longestPrinted (sym e) (omega arith)
+put-refusal old at number new next text p e = put-as old at _ _ new next p text printedRoom (sym e) (omega arith)
 
 pub put-list : (old : List ℕ) (at : ℕ) (xs : List ℕ) (new : List ℕ) (next : ℕ) (d : Direction) (ys : List ℕ)
     → Put old at (line [] (numbers ys) []) (lineRoom [] (11 * length ys)) new next → ys ≡ arranged d xs → length ys ≤ mostEntries
-    → Put old at (line [] (numbers (arranged d xs)) []) longestPrinted new next
+    → Put old at (line [] (numbers (arranged d xs)) []) printedRoom new next
 put-list old at xs new next d ys p e h =
-    put-as old at _ _ new next p (line [] (numbers (arranged d xs)) []) longestPrinted (ap (λ zs. line [] (numbers zs) []) e) (omega arith)
+    put-as old at _ _ new next p (line [] (numbers (arranged d xs)) []) printedRoom (ap (λ zs. line [] (numbers zs) []) e) (omega arith)
 
 pub put-printed : (old : List ℕ) (at : ℕ) (text : List ℕ) (new : List ℕ) (next : ℕ) (d : Direction) (xs ys : List ℕ)
-    → Put old at (line [] (numbers (arranged d ys)) []) longestPrinted new next → ys ≡ xs → text ≡ line [] (numbers (arranged d xs)) []
-    → Put old at text longestPrinted new next
+    → Put old at (line [] (numbers (arranged d ys)) []) printedRoom new next → ys ≡ xs → text ≡ line [] (numbers (arranged d xs)) []
+    → Put old at text printedRoom new next
 put-printed old at text new next d xs ys p same e =
-    put-as old at _ _ new next p text longestPrinted (ap (λ zs. line [] (numbers (arranged d zs)) []) same ∙ sym e) (omega arith)
+    put-as old at _ _ new next p text printedRoom (ap (λ zs. line [] (numbers (arranged d zs)) []) same ∙ sym e) (omega arith)
 
 -- and found at its front
-pub front-printed : (old text new : List ℕ) (end : ℕ) → Put old 0 text longestPrinted new end → take end new ≡ text
+pub front-printed : (old text new : List ℕ) (end : ℕ) → Put old 0 text printedRoom new end → take end new ≡ text
 front-printed old text new end p =
-    let w = put-front old text longestPrinted new end p longestPrinted (omega arith) in
+    let w = put-front old text printedRoom new end p printedRoom (omega arith) in
     ap (take end) (w .written) ∙ take-at text (drop end old) end (sym (w .answer))
 
 -- ---- what is kept of a line

@@ -70,7 +70,7 @@ readSome-spaced (suc k) x xs t l h = readSome-step k x _ _ (read-first x xs t (h
         readOn-space (readSome k) x ((decimal y ++ spaced ys) ++ newline ∷ t)
         ∙ ap (λ q. put x (readSome k q)) (append-assoc (decimal y) (spaced ys) (newline ∷ t)) ∙ ap (put x) (next y ys t (omega arith) h)
 
-length-spaced : (xs : List ℕ) → length xs ≤ length (spaced xs)
+pub length-spaced : (xs : List ℕ) → length xs ≤ length (spaced xs)
 unfolding spaced
 length-spaced [] = omega arith
 length-spaced (x ∷ xs) = omega (arith, length-append (decimal x) (spaced xs), length-spaced xs)

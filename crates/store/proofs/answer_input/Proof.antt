@@ -6,16 +6,17 @@ use native.Mathlib.Omega.{arith}
 use lib.ListN.{length}
 use lib.Seq.{length-take-le}
 use Rattle.input.specs.Input.{within-bytes}
-use Rattle.store.specs.Answering.{left-within}
+use Rattle.store.specs.Keeping.{left-within}
 use borrow.Author.Needs.{needs}
 use Rattle.store.proofs.answer_input.Statement.{statement}
 use Rattle.store.proofs.answer_input.Tie as tie
 
 abbrev Inv-loop : tie.InvT-loop
-Inv-loop piece₀ line₀ kept₀ turns₀ piece line kept turns = (kept ≤ length line) × (length line ≡ 8193) × (length piece ≡ 4096)
+Inv-loop piece₀ before₀ line₀ out₀ kept₀ turns₀ piece before line out kept turns =
+    (kept ≤ 8193) × (length before ≡ 8193) × (length line ≡ 8193) × (length out ≡ 136588) × (length piece ≡ 4096)
 
 abbrev μ-loop : tie.MeasureT-loop
-μ-loop piece₀ line₀ kept₀ turns₀ piece line kept turns = turns
+μ-loop piece₀ before₀ line₀ out₀ kept₀ turns₀ piece before line out kept turns = turns
 
 buffer-requires : tie.Need-buffer-requires Inv-loop μ-loop
 buffer-requires c κs = search needs
@@ -23,8 +24,20 @@ buffer-requires c κs = search needs
 line-buffer-requires : tie.Need-line-buffer-requires Inv-loop μ-loop
 line-buffer-requires c κs = search needs
 
+slice-aggregate-before : tie.Need-slice-aggregate-before Inv-loop μ-loop
+slice-aggregate-before c = search needs
+
+line-buffer-requires-2 : tie.Need-line-buffer-requires-2 Inv-loop μ-loop
+line-buffer-requires-2 c κs = search needs
+
 slice-aggregate-line : tie.Need-slice-aggregate-line Inv-loop μ-loop
 slice-aggregate-line c = search needs
+
+print-buffer-requires : tie.Need-print-buffer-requires Inv-loop μ-loop
+print-buffer-requires c κs = search needs
+
+slice-aggregate-out : tie.Need-slice-aggregate-out Inv-loop μ-loop
+slice-aggregate-out c = search needs
 
 loop-holds : tie.Need-loop-holds Inv-loop μ-loop
 loop-holds c = search needs
@@ -44,8 +57,8 @@ enum-told c = search needs
 returns : tie.Need-returns Inv-loop μ-loop
 returns c = search needs
 
-answer-line-requires : tie.Need-answer-line-requires Inv-loop μ-loop
-answer-line-requires c κs = search needs
+answer-last-requires : tie.Need-answer-last-requires Inv-loop μ-loop
+answer-last-requires c κs = search needs
 
 returns-2 : tie.Need-returns-2 Inv-loop μ-loop
 returns-2 c = search needs
@@ -64,7 +77,15 @@ slice-aggregate-answer-piece c =
     sym (length-take-le _ _ (omega (arith, within-bytes (counted .before .before .before .read-some .ensures) (counted .count .given .1))))
 
 answer-piece-requires : tie.Need-answer-piece-requires Inv-loop μ-loop
-answer-piece-requires c κs = search needs
+answer-piece-requires c κs =
+    let counted = c .before .before .before .before .before .before in
+    let most = within-bytes (counted .before .before .before .read-some .ensures) (counted .count .given .1) in (
+      omega (arith, most, length-take-le (counted .count .given .0 .0) (counted .before .before .before .read-some .last .0) (omega (arith, most))),
+      omega arith,
+      omega arith,
+      omega arith,
+      omega arith,
+    )
 
 enum-known-left : tie.Need-enum-known-left Inv-loop μ-loop
 enum-known-left c = search needs
@@ -84,10 +105,14 @@ loop-less c = search needs
 loop-again : tie.Need-loop-again Inv-loop μ-loop
 loop-again c =
     let told = c .before in
-    let answered = told .before .before .before .before in
-    let counted = answered .before .before .before .before .before in
-    let looped = counted .before .before .before .before .before .before in
-    (left-within _ _ _ _ _ _ (answered .answer-piece .ensures) (told .left .given .1), omega (arith, looped .loop .inv .1), omega arith)
+    let answered = told .before .before .before .before .before .before .before .before in
+    let looped = answered .before .before .before .before .before .before .before .before .before .before .before .before .before in (
+      omega (arith, left-within _ _ _ _ _ _ (answered .answer-piece .ensures) (told .left .given .1), looped .loop .inv .1),
+      omega (arith, looped .loop .inv .1),
+      omega (arith, looped .loop .inv .2),
+      omega (arith, looped .loop .inv .3),
+      omega arith,
+    )
 
 returns-5 : tie.Need-returns-5 Inv-loop μ-loop
 returns-5 c = search needs
@@ -96,6 +121,7 @@ pub answer-input-spec : {M : Type 1} → statement M
 answer-input-spec =
     tie.close
     (tie.spec
-    Inv-loop μ-loop buffer-requires line-buffer-requires slice-aggregate-line loop-holds slice-aggregate-read-some read-some-requires
-    enum-known-count enum-told returns answer-line-requires returns-2 returns-3 array-share-prefix-piece slice-aggregate-answer-piece
-    answer-piece-requires enum-known-left enum-told-2 returns-4 sub-turns loop-less loop-again returns-5)
+    Inv-loop μ-loop buffer-requires line-buffer-requires slice-aggregate-before line-buffer-requires-2 slice-aggregate-line
+    print-buffer-requires slice-aggregate-out loop-holds slice-aggregate-read-some read-some-requires enum-known-count enum-told
+    returns answer-last-requires returns-2 returns-3 array-share-prefix-piece slice-aggregate-answer-piece answer-piece-requires
+    enum-known-left enum-told-2 returns-4 sub-turns loop-less loop-again returns-5)

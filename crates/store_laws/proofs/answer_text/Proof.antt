@@ -1,67 +1,79 @@
 -- `answer_text` prints what is printed for a text. The loop's invariant: what is printed for the lines that end in the front of the text is
--- printed. The measure is what is left of the text. Assumes nothing.
+-- printed. The measure is the number of pieces that are left. Assumes nothing.
 use mathlib.Core.Path.{_≡_, sym}
-use Prim.Native.Nat.{_-_}
+use Prim.Native.Nat.{suc, _-_, _≤_}
 use native.Mathlib.Omega.{arith}
 use lib.ListN.{length}
 use lib.Seq.{length-take-le}
-use Rattle.store_laws.specs.Printing.{Answering, answering-starts, answering-room, answering-next, answering-done, answering-last}
+use Rattle.store_laws.specs.Printing.{Stage, answering-starts, answering-room, answering-next, answering-done, answering-last}
 use borrow.Author.Needs.{needs}
 use Rattle.store_laws.proofs.answer_text.Statement.{statement}
 use Rattle.store_laws.proofs.answer_text.Tie as tie
 
 abbrev Inv-loop : tie.InvT-loop
-Inv-loop text size line₀ out₀ kept₀ n₀ at₀ line out kept n at =
-    Answering text line kept out n at × (length out ≡ length out₀) × (length line ≡ length line₀)
+Inv-loop text sizes before₀ line₀ out₀ kept₀ n₀ at₀ k₀ before line out kept n at k =
+    Stage text (length sizes) before kept out n at k × (k ≤ suc (length sizes)) × (length out ≡ length out₀) × (length line ≡ 8193)
+    × (length before ≡ length before₀)
 
 abbrev μ-loop : tie.MeasureT-loop
-μ-loop text size line₀ out₀ kept₀ n₀ at₀ line out kept n at = length text - at
+μ-loop text sizes before₀ line₀ out₀ kept₀ n₀ at₀ k₀ before line out kept n at k = suc (length sizes) - k
 
 loop-holds : tie.Need-loop-holds Inv-loop μ-loop
 loop-holds c =
-    let lent = c .before .before .before .pre in
-    (answering-starts _ _ _ (lent .1) (lent .2), omega arith, omega arith)
+    let lent = c .before .before .before .before .before .pre in
+    (record { answering = answering-starts _ _ _ (lent .0) (lent .2); done = λ h. absurd (omega arith) }, omega arith, omega arith, omega arith, omega arith)
 
-sub-least : tie.Need-sub-least Inv-loop μ-loop
-sub-least c = search needs
-
-least-requires : tie.Need-least-requires Inv-loop μ-loop
-least-requires c κs = search needs
-
-add-end : tie.Need-add-end Inv-loop μ-loop
-add-end c = search needs
+piece-end-requires : tie.Need-piece-end-requires Inv-loop μ-loop
+piece-end-requires c κs = omega (arith, c .before .loop .inv .0 .answering .inside)
 
 sub-answer-piece : tie.Need-sub-answer-piece Inv-loop μ-loop
-sub-answer-piece c = search needs
+sub-answer-piece c = omega (arith, c .piece-end .ensures .0)
 
 part-answer-piece-start : tie.Need-part-answer-piece-start Inv-loop μ-loop
-part-answer-piece-start c = search needs
+part-answer-piece-start c = omega (arith, c .piece-end .ensures .0)
 
 part-answer-piece-end : tie.Need-part-answer-piece-end Inv-loop μ-loop
-part-answer-piece-end c = search needs
+part-answer-piece-end c = omega (arith, c .piece-end .ensures .1)
 
 answer-piece-requires : tie.Need-answer-piece-requires Inv-loop μ-loop
 answer-piece-requires c κs =
-    let least = c .before .before .before in
-    let state = least .before .before .loop .inv .0 in (
-      omega (arith, state .left .within),
-      answering-room _ _ _ _ _ _ state _ (omega arith) (omega (arith, state .inside, least .least .ensures .1)),
+    let ends = c .before .before .before .before in
+    let state = ends .before .before .loop .inv in (
+      omega (arith, state .0 .answering .size),
+      omega (arith, state .3),
+      omega (arith, state .0 .answering .left .within, state .0 .answering .size),
+      answering-room _ _ _ _ _ _ (state .0 .answering) _ (ends .piece-end .ensures .0) (ends .piece-end .ensures .1),
     )
 
+copy-bytes-requires : tie.Need-copy-bytes-requires Inv-loop μ-loop
+copy-bytes-requires c κs =
+    let answered = c .before .before .before .before .before .before in
+    let state = answered .before .before .before .before .before .before .before .loop .inv in
+    (omega (arith, answered .answer-piece .ensures .left .within), omega (arith, answered .answer-piece .ensures .left .within, state .3, state .0 .answering .size))
+
+add-k : tie.Need-add-k Inv-loop μ-loop
+add-k c = omega arith
+
 loop-less : tie.Need-loop-less Inv-loop μ-loop
-loop-less c =
-    let least = c .before .before .before .before .before .before .before .before in
-    omega (arith, least .least .ensures .1, least .least .ensures .2 (omega arith) (omega arith))
+loop-less c = omega arith
 
 loop-again : tie.Need-loop-again Inv-loop μ-loop
 loop-again c =
-    let answered = c .before .before .before .before in
-    let least = answered .before .before .before .before in
-    let looped = least .before .before in (
-      answering-next _ _ _ _ _ _ (looped .loop .inv .0) _ (omega arith) (omega (arith, looped .loop .inv .0 .inside, least .least .ensures .1)) _ _ _ _
-          (answered .answer-piece .ensures) (omega arith) (omega arith),
+    let copied = c .before .before in
+    let answered = copied .before .before .before .before .before .before .before in
+    let ends = answered .before .before .before .before .before in
+    let state = ends .before .before .loop .inv in
+    let size = state .0 .answering .size in (
+      record {
+        answering = answering-next _ _ _ _ _ _ (state .0 .answering) _ (ends .piece-end .ensures .0) (ends .piece-end .ensures .1) _ _ _ _
+            (answered .answer-piece .ensures) (omega arith) _ (copied .copy-bytes .ensures) (omega (arith, size))
+            (omega (arith, answered .answer-piece .ensures .left .within, state .3));
+        done = λ h. omega (arith, ends .piece-end .ensures .2 (omega arith));
+      },
       omega arith,
-      omega arith,
+      omega (arith, state .2),
+      omega (arith, state .3),
+      omega (arith, state .4),
     )
 
 same-length : tie.Need-same-length Inv-loop μ-loop
@@ -70,36 +82,44 @@ same-length c = search needs
 same-length-2 : tie.Need-same-length-2 Inv-loop μ-loop
 same-length-2 c = search needs
 
-returns : tie.Need-returns Inv-loop μ-loop
-returns c = answering-done _ _ _ _ _ _ (c .before .before .loop .inv .0) (omega arith) (c .if1 .taken)
-
-slice-reshare-prefix-put-printed : tie.Need-slice-reshare-prefix-put-printed Inv-loop μ-loop
-slice-reshare-prefix-put-printed c = omega (arith, c .before .before .loop .inv .0 .left .within)
-
-slice-aggregate-put-printed : tie.Need-slice-aggregate-put-printed Inv-loop μ-loop
-slice-aggregate-put-printed c = sym (length-take-le _ _ (c .before .before .before .loop .inv .0 .left .within))
-
-put-printed-requires : tie.Need-put-printed-requires Inv-loop μ-loop
-put-printed-requires c κs =
-    let state = c .before .before .before .before .loop .inv .0 in
-    omega (arith, state .few, state .room, state .inside)
-
 same-length-3 : tie.Need-same-length-3 Inv-loop μ-loop
 same-length-3 c = search needs
 
+returns : tie.Need-returns Inv-loop μ-loop
+returns c = answering-done _ _ _ _ _ _ (c .before .before .loop .inv .0 .answering) (omega (arith, c .before .before .loop .inv .0 .done (omega arith))) (c .if1 .taken)
+
+slice-reshare-prefix-put-printed : tie.Need-slice-reshare-prefix-put-printed Inv-loop μ-loop
+slice-reshare-prefix-put-printed c = omega (arith, c .before .before .loop .inv .0 .answering .left .within)
+
+slice-aggregate-put-printed : tie.Need-slice-aggregate-put-printed Inv-loop μ-loop
+slice-aggregate-put-printed c = sym (length-take-le _ _ (c .before .before .before .loop .inv .0 .answering .left .within))
+
+put-printed-requires : tie.Need-put-printed-requires Inv-loop μ-loop
+put-printed-requires c κs =
+    let state = c .before .before .before .before .loop .inv .0 .answering in
+    omega (arith, state .few, state .room, state .inside)
+
 same-length-4 : tie.Need-same-length-4 Inv-loop μ-loop
 same-length-4 c = search needs
+
+same-length-5 : tie.Need-same-length-5 Inv-loop μ-loop
+same-length-5 c = search needs
+
+same-length-6 : tie.Need-same-length-6 Inv-loop μ-loop
+same-length-6 c = search needs
 
 returns-2 : tie.Need-returns-2 Inv-loop μ-loop
 returns-2 c =
     let put = c .before .before in
     let some = put .before .before .before in
-    answering-last _ _ _ _ _ _ (some .before .before .loop .inv .0) (omega arith) (some .if1 .left) _ _ (put .put-printed .ensures)
+    let state = some .before .before .loop .inv .0 in
+    answering-last _ _ _ _ _ _ (state .answering) (omega (arith, state .done (omega arith))) (some .if1 .left) _ _ (put .put-printed .ensures)
 
 pub answer-text-spec : {M : Type 1} → statement M
 answer-text-spec =
     tie.close
     (tie.spec
-    Inv-loop μ-loop loop-holds sub-least least-requires add-end sub-answer-piece part-answer-piece-start part-answer-piece-end
-    answer-piece-requires loop-less loop-again same-length same-length-2 returns slice-reshare-prefix-put-printed
-    slice-aggregate-put-printed put-printed-requires same-length-3 same-length-4 returns-2)
+    Inv-loop μ-loop loop-holds piece-end-requires sub-answer-piece part-answer-piece-start part-answer-piece-end
+    answer-piece-requires copy-bytes-requires add-k loop-less loop-again same-length same-length-2 same-length-3 returns
+    slice-reshare-prefix-put-printed slice-aggregate-put-printed put-printed-requires same-length-4 same-length-5 same-length-6
+    returns-2)
