@@ -68,7 +68,8 @@
  * are proved to do this on every input (crates/zahupnik; that a job that is written is carried out, crates/text_laws; that a record
  * comes back when a row is put back, and that a record answers as the lists do, crates/prepared_laws; that a joined value is the
  * only one with its remainders in the range, and that Expand and join is exact in it, crates/join_laws; that either order comes back by
- * the other, and where its zeros lie, crates/order_laws); that these declarations fit them is tested (tests/library).
+ * the other, and where the zeros of an expanded curve then lie, crates/order_laws); that these declarations fit them is tested
+ * (tests/library).
  */
 #ifndef ZAHUPNIK_H
 #define ZAHUPNIK_H
@@ -295,10 +296,11 @@ uint32_t zahupnik_expand_join(uint32_t m1, uint32_t m2, const int32_t *a, size_t
 
 /* Even powers first, as a store of expanded curves keeps them: the entries of a list at even indices rising, then those at odd indices
  * rising; and the way back. The numbers are any of 32 bits. Quotients are rounded down, and `half` is (list_length + 1) / 2: how many
- * indices are even. Of what either function writes the other makes the list again. Where every b of a family is zero, F_j has only even
- * powers for an even j and only odd ones for an odd j. So of its expanded curve, even powers first, the entries from `half` on are zero if
- * the curve's entries at odd indices are, and those before `half` are zero if the curve's entries at even indices are.
- * Lengths: list at most ZAHUPNIK_MOST_ENTRIES, 0 too; output the same. Refuse with 5 7. */
+ * indices are even. Of what either function writes the other makes the list again. Where every b of a family is zero, F_0 to F_r have
+ * only even powers for an even index and only odd ones for an odd one. So where a curve is expanded on such a family and put even powers
+ * first, the entries from `half` on are zero if the curve's entries at odd indices are, and those before `half` are zero if the curve's
+ * entries at even indices are.
+ * Lengths: list at most ZAHUPNIK_MOST_ENTRIES, 0 too; output the same, and not the list itself. Refuse with 5 7. */
 
 /* Even first: list[i] goes to output[i / 2] for an even i, and to output[half + i / 2] for an odd i. */
 uint32_t zahupnik_even_first(const uint32_t *list, size_t list_length, uint32_t *output, size_t output_length);

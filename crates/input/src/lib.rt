@@ -9,7 +9,7 @@ pub enum Input {
     Failed,
 }
 
-// One read of standard input, which may bring a part only, as from a pipe. 0 bytes are its end.
+// One read of standard input, which may bring a part only, as from a pipe. Where there is room for a byte, 0 bytes are its end.
 pub fn read_some(part: &mut [u8]) -> Input
     ensures { λ r. ⌜ Within r (length (now (part .exit))) ⌝ }
 {

@@ -18,10 +18,10 @@ use Rattle.laws.specs.Laws.{TwoCallsInput, wayTests, workLeft, Made}
 use Rattle.laws.specs.declared.Way.{Way}
 use Rattle.numbers.specs.Lists.{table-length}
 use Rattle.order_calls.specs.Accepting.{order-passes}
-use Rattle.parity.specs.Orders.{opposite, arranged-length, arranged-back}
+use Rattle.parity.specs.Orders.{arranged-length, arranged-back}
 use Rattle.parity.specs.Zeros.{expand-odd-zero, expand-even-zero, odd-part-zero, even-part-zero}
 use Rattle.storing.specs.Calls.{mostEntries, orderTests, OrderCall}
-use Rattle.storing.specs.Order.{evenFirst, arranged}
+use Rattle.storing.specs.Order.{evenFirst, arranged, opposite}
 use Rattle.storing.specs.Parity.{NoB}
 use Rattle.storing.specs.declared.Direction.{Direction}
 use Rattle.order_laws.specs.Laws.{TripHolds, OrderTrip, ZerosHold, EvenExpanded}
@@ -37,22 +37,24 @@ module _ (d : Direction) (xs one one′ two : List ℕ) (s : Answer) (made₁ : 
   first-is : one′ ≡ after (verdict T₁ []) (arranged d xs) one
   first-is = made₁ .written ∙ ap (λ v. after v (arranged d xs) one) (made₁ .answer)
 
-  trip-holds : (r : Answer) (two′ : List ℕ) → answered r ≡ verdict (T₁ ++ later) [] → two′ ≡ after (answered r) xs two
+  trip-holds : (r : Answer) (two′ : List ℕ) → answered r ≡ verdict (T₁ ++ later) []
+      → two′ ≡ after (answered r) (arranged (opposite d) one′) two
       → length xs ≤ mostEntries → length one ≡ length xs → length two ≡ length xs → TripHolds d xs (answered r) one′ two′
   trip-holds r two′ e w few oneLong twoLong =
       let none₁ : None T₁ = order-passes (length xs) (length one) .1 (record { few = few; outputLength = oneLong }) in
       let none₂ : None later = order-passes (length xs) (length two) .1 (record { few = few; outputLength = twoLong }) in
       let done : answered r ≡ finished [] = e ∙ verdict-finished (T₁ ++ later) [] .1 (none-append T₁ later .1 (none₁, none₂)) in
+      let new : one′ ≡ arranged d xs = first-is ∙ list-new T₁ none₁ (arranged d xs) one in
       record {
         finishes = done;
-        firstIs = first-is ∙ list-new T₁ none₁ (arranged d xs) one;
-        law = w ∙ ap (λ v. after v xs two) done;
+        firstIs = new;
+        law = w ∙ ap (λ v. after v (arranged (opposite d) one′) two) done ∙ ap (arranged (opposite d)) new ∙ arranged-back d xs;
       }
 
   pub trip-refused : (k : ℕ) → s ≡ Answer.Refused k → OrderTrip d xs (answered s) one one′ two two
   trip-refused k q =
       let e = stage-refuses T₁ later all-remain s (made₁ .answer) k q in
-      let stays = list-stays s k xs two q in
+      let stays = list-stays s k (arranged (opposite d) one′) two q in
       record { answer = e; firstIs = first-is; secondIs = stays; holds = trip-holds s two e stays }
 
   module _ (q : s ≡ Answer.Finished) (r : Answer) (two′ : List ℕ) (made₂ : OrderCall (opposite d) one′ (answered r) two two′) where
@@ -66,8 +68,7 @@ module _ (d : Direction) (xs one one′ two : List ℕ) (s : Answer) (made₁ : 
     trip-made =
         let e = stages-end later (stage-passes T₁ later all-remain s (made₁ .answer) q) r
         (made₂ .answer ∙ ap (λ n. verdict (orderTests n (length two)) []) long) in
-        let w = made₂ .written ∙ ap (λ ys. after (answered r) ys two) (ap (arranged (opposite d)) handed ∙ arranged-back d xs) in
-        record { answer = e; firstIs = first-is; secondIs = w; holds = trip-holds r two′ e w }
+        record { answer = e; firstIs = first-is; secondIs = made₂ .written; holds = trip-holds r two′ e (made₂ .written) }
 
 -- ---- zeros
 expand-length : (f : Family) (u : List ℕ) → length (expand f u) ≡ size f

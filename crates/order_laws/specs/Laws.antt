@@ -1,7 +1,8 @@
 -- The laws over the calls that put a list in another order, as the functions of this crate promise them: all that is to be believed of
 -- `order_laws`, and nothing proved. Each is over the very lists that the calls hand out.
---   OrderTrip      the promise of the call by a direction and then of the other: the answer is the verdict of their tests in turn, and each list
---                  is in its order, the second what the first call was lent, from a call that finished, and what it held from every other
+--   OrderTrip      the promise of the call by a direction and then of the other: the answer is the verdict of their tests in turn; the first
+--                  list is the one that was lent, in the order of the first call, and the second that one in the order of the other, each
+--                  from a call that finished, and what it held from every other
 --   TripHolds      on at most 128 numbers and lists as long, both finish, and the second hands out what the first was lent
 --   EvenExpanded   the promise of Expand by a way and then of Even first: the same of their tests and lists
 --   ZerosHold      on an accepted family without b, a curve on it and lists as long as the calls ask, both finish; of a curve with only even
@@ -18,7 +19,7 @@ use Rattle.definitions.specs.Refusals.{Test, Verdict, finished, verdict}
 use Rattle.laws.specs.Laws.{TwoCallsInput, wayTests, workLeft}
 use Rattle.laws.specs.declared.Way.{Way}
 use Rattle.storing.specs.Calls.{mostEntries, orderTests}
-use Rattle.storing.specs.Order.{half, evenFirst, arranged}
+use Rattle.storing.specs.Order.{half, evenFirst, arranged, opposite}
 use Rattle.storing.specs.Parity.{NoB, OnlyEven, OnlyOdd, evenPart, oddPart}
 use Rattle.storing.specs.declared.Direction.{Direction}
 
@@ -32,7 +33,7 @@ module _ (d : Direction) (xs : List ℕ) where
   pub record OrderTrip (v : Verdict) (one one′ two two′ : List ℕ) : Type 0 where
     pub answer : v ≡ verdict (orderTests (length xs) (length one) ++ orderTests (length xs) (length two)) []
     pub firstIs : one′ ≡ after (verdict (orderTests (length xs) (length one)) []) (arranged d xs) one
-    pub secondIs : two′ ≡ after v xs two
+    pub secondIs : two′ ≡ after v (arranged (opposite d) one′) two
     pub holds : length xs ≤ mostEntries → length one ≡ length xs → length two ≡ length xs → TripHolds d xs v one′ two′
 
 -- ---- zeros

@@ -11,7 +11,7 @@ use lib.ListN.{length, getD, set, replicate, length-set, length-replicate}
 use lib.Seq.{getD-set-same, getD-set-other}
 use Rattle.definitions.specs.Number.{table}
 use Rattle.numbers.specs.Lists.{table-length, table-entry, table-equal, table-entries, table-unique}
-use Rattle.storing.specs.Order.{place, placed, evenFirst, evenBack, arranged}
+use Rattle.storing.specs.Order.{place, placed, evenFirst, evenBack, arranged, opposite}
 use Rattle.storing.specs.declared.Direction.{Direction}
 use Rattle.parity.specs.Places.{index, index-below, place-below, place-apart, place-index}
 
@@ -109,10 +109,6 @@ pub arranged-table : (d : Direction) (xs : List ℕ) → arranged d xs ≡ table
 unfolding arranged
 arranged-table Direction.EvenFirst xs = first-table xs
 arranged-table Direction.EvenBack xs = back-table xs
-
-abbrev pub opposite : Direction → Direction
-opposite Direction.EvenFirst = Direction.EvenBack
-opposite Direction.EvenBack = Direction.EvenFirst
 
 pub arranged-back : (d : Direction) (xs : List ℕ) → arranged (opposite d) (arranged d xs) ≡ xs
 unfolding arranged

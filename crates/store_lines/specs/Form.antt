@@ -18,9 +18,9 @@ use Rattle.texts.specs.AnswerTexts.{all-writable, length-line, length-numbers}
 use Rattle.texts.specs.Decimal.{decimal-not-empty}
 use Rattle.texts.specs.LinesReading.{read-numbers-line, numbers-line-read}
 use Rattle.texts.specs.NumbersReading.{length-spaced}
-use Rattle.parity.specs.Orders.{source, source-below, opposite, arranged-length, arranged-table, arranged-back}
+use Rattle.parity.specs.Orders.{source, arranged-length, arranged-table, arranged-back}
 use Rattle.storing.specs.Calls.{mostEntries}
-use Rattle.storing.specs.Order.{arranged}
+use Rattle.storing.specs.Order.{arranged, opposite}
 use Rattle.storing.specs.Printing.{Asked, asked, malformed, key, storeLine, orAsked, readStore, printedLine}
 use Rattle.storing.specs.declared.Direction.{Direction}
 use Rattle.store_lines.specs.Printed.{printed-1, printed-2, printed-5, printed-list}

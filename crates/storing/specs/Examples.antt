@@ -3,7 +3,7 @@
 --   order-tests        the number that each pair of lengths gives: 5 is tested before 7, and nothing else is
 --   after-calls        what the output holds after a call that finishes, and after one that is refused
 --   chebyshev          with every b zero an even curve has zeros in its odd part, an odd one in its even part; with another b it has not
---   printouts          lines beside what is printed for them: of the form, and of others by one slip each
+--   printouts          lines beside what is printed for them: of the form, and of others by one slip each;  no-lines  bytes that are no line
 --   bytes-counted      where 1 begins, and that it comes before 2 and 5; entries-counted  where 5 begins, and that 2 comes before it
 --   inputs             inputs beside what is printed for them: no line, no last byte 10, a refusal among answers
 -- Assumes nothing.
@@ -127,7 +127,6 @@ printouts =
     ∷ "put=5\n" prints "5\n"
     ∷ "put=\n" prints "\n"
     ∷ "back=\n" prints "\n"
-    ∷ "" prints "refused=2\n"
     ∷ "\n" prints "refused=2\n"
     ∷ "put=1 2" prints "refused=2\n"
     ∷ "put=1 2\r\n" prints "refused=2\n"
@@ -139,13 +138,16 @@ printouts =
     ∷ "put=-1\n" prints "refused=2\n"
     ∷ "puts=1\n" prints "refused=2\n"
     ∷ "v=1 2\n" prints "refused=2\n"
-    ∷ "back=1\n\n" prints "refused=2\n"
-    ∷ "put=1\nback=1\n" prints "refused=2\n"
     ∷ []
 
 printouts-hold : map (λ p. printedLine (bytes (p .line))) printouts ≡ map (λ p. bytes (p .prints)) printouts
 unfolding inputOutcome
 printouts-hold = refl
+
+-- bytes that are no line are malformed too: none, and more than one line
+no-lines : map (λ t. printedLine (bytes t)) ("" ∷ "back=1\n\n" ∷ "put=1\nback=1\n" ∷ []) ≡ refusalText 2 ∷ refusalText 2 ∷ refusalText 2 ∷ []
+unfolding inputOutcome
+no-lines = refl
 
 -- 8,192 bytes are looked at, and 8,193 are not, whatever stands in them: zeros; 11 and 4,093 times 1
 bytes-counted : map printedLine (replicate 8192 48 ∷ replicate 8193 48 ∷ storeLine Direction.EvenFirst (11 ∷ replicate 4093 1) ∷ [])

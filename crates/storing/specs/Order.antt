@@ -3,7 +3,7 @@
 --   place n i       where entry i of n goes: the even indices from place 0 on, the odd ones from place half n on
 --   evenFirst xs    the list in which entry i of xs stands at its place
 --   evenBack ys     the list whose entry i is the one at the place of i in ys
---   arranged d xs   by the direction: either of them
+--   arranged d xs   by the direction: either of them;  opposite d  the other direction
 -- Item 7 of the change requests. Assumes nothing.
 use mathlib.Core.List.{List, [], _∷_}
 use Prim.Native.Nat.{ℕ, suc, _+_, _/_, _%_}
@@ -33,3 +33,7 @@ evenBack ys = table (length ys) (λ i. getD ys (place (length ys) i) 0)
 unfoldable pub arranged : Direction → List ℕ → List ℕ
 arranged Direction.EvenFirst xs = evenFirst xs
 arranged Direction.EvenBack xs = evenBack xs
+
+abbrev pub opposite : Direction → Direction
+opposite Direction.EvenFirst = Direction.EvenBack
+opposite Direction.EvenBack = Direction.EvenFirst

@@ -1,11 +1,12 @@
--- What the program `store` prints: for each line of its input one line, a list or a refusal.
+-- What the program `store` is to print: for each line of its input one line, a list or a refusal.
 --   Asked            what a line asks for: a direction and a list; or malformed
 --   storeLine d xs   the line that asks for the direction d of xs, defined by its writer; key d its key
 --   readStore l      asked, with direction and list, if l is such a line of numbers of at most 4294967295, and malformed if not
 --   lineTests l      1: over 8,192 bytes; 2: malformed; 5: more than 128 numbers
 --   printedLine l    what is printed for the bytes l of a line
 --   printedInput t   what is printed for an input: for each of its lines in turn
--- A line that is malformed has no list, so no test follows 2 there. Item 7 of the change requests. Assumes nothing.
+-- printedLine is defined for any bytes, and only of a line, or of one that the input's end leaves open, does the program print it. A line that is
+-- malformed has no list, so no test follows 2 there; 7 is not tested, since the program lends an output as long as the list. Item 7 of the change requests. Assumes nothing.
 use mathlib.Core.Bool.{true, false}
 use mathlib.Core.List.{List, [], _∷_, map}
 use Prim.Native.Nat.{ℕ}
