@@ -19,7 +19,7 @@ use Rattle.laws.specs.declared.Way.{Way}
 use Rattle.numbers.specs.Lists.{table-length}
 use Rattle.order_calls.specs.Accepting.{order-passes}
 use Rattle.parity.specs.Orders.{arranged-length, arranged-back}
-use Rattle.parity.specs.Zeros.{expand-odd-zero, expand-even-zero, odd-part-zero, even-part-zero}
+use Rattle.parity.specs.Zeros.{expand-zero, odd-part-zero, even-part-zero}
 use Rattle.storing.specs.Calls.{mostEntries, orderTests, OrderCall}
 use Rattle.storing.specs.Order.{evenFirst, arranged, opposite}
 use Rattle.storing.specs.Parity.{NoB}
@@ -105,9 +105,9 @@ module _ (way : Way) (f : Family) (u expanded expanded′ output work work′ : 
         expandedIs = expanded-is ∙ list-new E₁ none₁ (expand f u) expanded;
         outputIs = is;
         evenCurve = λ only. rw (is, sym long) (odd-part-zero (expand f u)
-            (λ i h. expand-odd-zero f (accepted .bLength) noB u (input .curve .long) only i (omega (arith, long))));
+            (λ i h. expand-zero f (accepted .bLength) noB u (input .curve .long) 1 only i (omega (arith, long))));
         oddCurve = λ only. rw (is, sym long) (even-part-zero (expand f u)
-            (λ i h. expand-even-zero f (accepted .bLength) noB u (input .curve .long) only i (omega (arith, long))));
+            (λ i h. expand-zero f (accepted .bLength) noB u (input .curve .long) 0 only i (omega (arith, long))));
       }
 
   pub expand-refused : (k : ℕ) → s ≡ Answer.Refused k → EvenExpanded way f u (answered s) expanded expanded′ output output work work′

@@ -1,12 +1,15 @@
 -- Where every b is zero: up to j = r, F_j has only even powers for an even j, and only odd ones for an odd j. So the expanded list of a curve with only even
 -- entries has zeros at the odd indices, which come last when even powers come first; and the reverse of a curve with only odd entries.
--- Proved: term-zero of a recurrence, F-zero of the family, expand-odd-zero and expand-even-zero of the expanded list, odd-part-zero and
--- even-part-zero of that list put even powers first. Assumes nothing.
+-- Proved: term-zero of a recurrence, F-zero of the family, expand-zero of the expanded list, odd-part-zero and even-part-zero of that list
+-- put even powers first. Assumes nothing.
+use mathlib.Core.Bool.{Bool, true, false}
 use mathlib.Core.List.{List}
 use mathlib.Core.Path.{_≡_, refl, sym, _∙_, ap}
 use Prim.Native.Nat.{ℕ, zero, suc, _+_, _*_, _-_, _%_, _<_, _≤_}
 use native.Mathlib.Nat.{zero-mod}
 use native.Mathlib.Omega.{arith}
+use borrow.Author.Tests.{eqb-true, eqb-false}
+use lib.Dec.{eqb}
 use lib.ListN.{length, getD, take, drop, replicate, getD-replicate, length-drop, length-replicate}
 use lib.Seq.{length-take-le, ext-getD, getD-take, getD-drop}
 use Rattle.definitions.specs.Conversion.{expand}
@@ -15,8 +18,8 @@ use Rattle.definitions.specs.Number.{sum}
 use Rattle.numbers.specs.Lists.{getD-default, table-entry}
 use Rattle.numbers.specs.Sums.{sum-zero}
 use Rattle.storing.specs.Order.{half, evenFirst}
-use Rattle.storing.specs.Parity.{NoB, OnlyEven, OnlyOdd, evenPart, oddPart}
-use Rattle.parity.specs.Places.{Parity, even, odd, parity, half-is, index, index-front, index-rest, index-below}
+use Rattle.storing.specs.Parity.{NoB, evenPart, oddPart}
+use Rattle.parity.specs.Places.{half-is, index, index-front, index-rest, index-below}
 use Rattle.parity.specs.Orders.{first-length, first-entry}
 
 -- ---- a recurrence whose first rows have no b: P_{k-1} has no x^i where i + k is even
@@ -63,25 +66,19 @@ module _ (f : Family) (bLength : length (f .b) ≡ rows f) (noB : NoB f) where
         table-entry (size f) (λ i. sum (size f) (λ j. getD u j 0 * F f j i) % f .m) i 0 h
         ∙ ap (λ s. s % f .m) (sum-zero (size f) (λ j. getD u j 0 * F f j i) each) ∙ zero-mod (f .m)
 
-    pub expand-odd-zero : OnlyEven u → (i : ℕ) → i < size f → i % 2 ≡ 1 → getD (expand f u) i 0 ≡ 0
-    expand-odd-zero only i h e = entry-zero i h each
+    -- where the entries at the indices of one parity are zero, so are the coefficients there
+    pub expand-zero : (e : ℕ) → ((j : ℕ) → j < length u → j % 2 ≡ e → getD u j 0 ≡ 0)
+        → (i : ℕ) → i < size f → i % 2 ≡ e → getD (expand f u) i 0 ≡ 0
+    expand-zero e none i h is = entry-zero i h each
       where
         each : (j : ℕ) → j < size f → getD u j 0 * F f j i ≡ 0
-        each j l = split (parity j)
+        each j l = split (eqb (j % 2) e) refl
           where
-            split : Parity j → getD u j 0 * F f j i ≡ 0
-            split (even p) = product-zero′ (getD u j 0) (F f j i) (F-zero j i (omega arith) (omega arith))
-            split (odd p) = product-zero (getD u j 0) (F f j i) (only j (omega arith) p)
-
-    pub expand-even-zero : OnlyOdd u → (i : ℕ) → i < size f → i % 2 ≡ 0 → getD (expand f u) i 0 ≡ 0
-    expand-even-zero only i h e = entry-zero i h each
-      where
-        each : (j : ℕ) → j < size f → getD u j 0 * F f j i ≡ 0
-        each j l = split (parity j)
-          where
-            split : Parity j → getD u j 0 * F f j i ≡ 0
-            split (even p) = product-zero (getD u j 0) (F f j i) (only j (omega arith) p)
-            split (odd p) = product-zero′ (getD u j 0) (F f j i) (F-zero j i (omega arith) (omega arith))
+            split : (t : Bool) → eqb (j % 2) e ≡ t → getD u j 0 * F f j i ≡ 0
+            split true t = product-zero (getD u j 0) (F f j i) (none j (omega arith) (eqb-true (j % 2) e t))
+            split false t =
+                let other = eqb-false (j % 2) e t in
+                product-zero′ (getD u j 0) (F f j i) (F-zero j i (omega arith) (omega arith))
 
 -- ---- the same, even powers first
 module _ (xs : List ℕ) where
