@@ -1,6 +1,6 @@
 /* Zahupnik: conversion between orthogonal bases and powers of x, modulo m, and on two moduli, joined into whole numbers with a sign.
  *
- * m need not be prime. All numbers are whole, and results are remainders from 0 to m - 1, but those of zahupnik_join and
+ * m need not be prime. All numbers are whole, and lists handed out have remainders from 0 to m - 1, but those of zahupnik_join and
  * zahupnik_expand_join, which have a sign, and of zahupnik_even_first and zahupnik_even_back, which have no m. A family has r rows, and
  * row i (i = 1 to r) is a_i, b_i, c_i, at index i - 1 of the lists a, b and c. Its polynomials are F_{-1} = 0, F_0 = 1 and
  * F_i = (a_i x + b_i) F_{i-1} + c_i F_{i-2}. n is r + 1 throughout. Lists have the lowest index or power first.
@@ -300,7 +300,7 @@ uint32_t zahupnik_expand_join(uint32_t m1, uint32_t m2, const int32_t *a, size_t
  * only even powers for an even index and only odd ones for an odd one. So where a curve is expanded on such a family and put even powers
  * first, the entries from `half` on are zero if the curve's entries at odd indices are, and those before `half` are zero if the curve's
  * entries at even indices are.
- * Lengths: list at most ZAHUPNIK_MOST_ENTRIES, 0 too; output the same, and not the list itself. Refuse with 5 7. */
+ * Lengths: list at most ZAHUPNIK_MOST_ENTRIES, 0 too; output the same. The output overlaps the list nowhere. Refuse with 5 7. */
 
 /* Even first: list[i] goes to output[i / 2] for an even i, and to output[half + i / 2] for an odd i. */
 uint32_t zahupnik_even_first(const uint32_t *list, size_t list_length, uint32_t *output, size_t output_length);

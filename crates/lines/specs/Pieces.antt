@@ -5,7 +5,7 @@
 --   unended room h t   what is kept of the line that t leaves open
 --   handed room h ps   what is kept of every line of the pieces ps, of the one that the last leaves open too
 -- Proved: each over two pieces, one after the other (ended-append, unended-append); of the lines of the pieces joined the same is kept, however a
--- text was cut into pieces (handed-lines). Assumes nothing.
+-- text was cut into pieces (handed-lines); what is open of a line has no byte 10 (unended-unbroken). Assumes nothing.
 use mathlib.Core.Bool.{Bool, true, false}
 use mathlib.Core.List.{List, [], _∷_, _++_, append-assoc, append-nil, map}
 use mathlib.Core.Path.{_≡_, refl, sym, _∙_, ap, ap₂}
@@ -17,7 +17,7 @@ use lib.Seq.{take-nil}
 use Rattle.definitions.specs.Reading.{pick}
 use Rattle.definitions.specs.Text.{newline}
 use Rattle.lines.specs.Lines.{begun, linesOf, joined}
-use Rattle.lines.specs.Determining.{alone}
+use Rattle.lines.specs.Determining.{Unbroken, alone}
 
 abbrev pub kept : ℕ → List ℕ → List ℕ
 kept room l = take room l
@@ -156,3 +156,24 @@ ended-text room some t = ap (λ l. ended room l t ++ alone (unended room l t)) (
 
 pub handed-lines : (room : ℕ) → 0 < room → (ps : List (List ℕ)) → handed room [] ps ≡ map (kept room) (linesOf (joined ps))
 handed-lines room some ps = handed-joined room [] ps ∙ ended-text room some (joined ps)
+
+-- ---- what is open of a line has no byte 10
+unbroken-take : (room : ℕ) (l : List ℕ) → Unbroken l → Unbroken (take room l)
+unbroken-take zero l u = tt
+unbroken-take (suc room) [] u = tt
+unbroken-take (suc room) (b ∷ l) u = (u .0, unbroken-take room l (u .1))
+
+unbroken-more : (h : List ℕ) (b : ℕ) → Unbroken h → eqb b newline ≡ false → Unbroken (h ++ b ∷ [])
+unbroken-more [] b u e = (e, tt)
+unbroken-more (c ∷ h) b u e = (u .0, unbroken-more h b (u .1) e)
+
+pub unended-unbroken : (room : ℕ) (h t : List ℕ) → Unbroken h → Unbroken (unended room h t)
+unfolding unended
+unended-unbroken room h [] u = u
+unended-unbroken room h (b ∷ t) u =
+    split (unended-unbroken room [] t tt) (λ v. unended-unbroken room (kept room (h ++ b ∷ [])) t v) (eqb b newline) refl
+  where
+    split : Unbroken (unended room [] t) → (Unbroken (kept room (h ++ b ∷ [])) → Unbroken (unended room (kept room (h ++ b ∷ [])) t))
+        → (e : Bool) → eqb b newline ≡ e → Unbroken (pick e (unended room [] t) (unended room (kept room (h ++ b ∷ [])) t))
+    split broken on true e = broken
+    split broken on false e = on (unbroken-take room (h ++ b ∷ []) (unbroken-more h b u e))

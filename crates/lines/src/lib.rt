@@ -1,5 +1,5 @@
 // Takes the lines of a text that comes in pieces of any length. What is open of a line is kept in a lent list, as far as it has room; the
-// rest of a line is passed over. So a line may lie across any number of pieces, no kept byte is moved again, and a list that has room for one byte more
+// rest of a line is passed over. So a line may lie across any number of pieces, and a list that has room for one byte more
 // than the longest line that is wanted tells by its count that a line was too long.
 ghost use Prim.Native.Nat.{_≤_};
 ghost use lib.ListN.{length};

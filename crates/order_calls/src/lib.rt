@@ -1,5 +1,5 @@
 // The public calls that put a list in another order: even powers first, and the way back. Each makes every test itself, ends on every input,
-// and either writes the list or refuses with the number of the change requests and touches nothing: it has no 'requires', and one 'ensures'
+// and either writes the list or refuses with the number that the change requests give and touches nothing: it has no 'requires', and one 'ensures'
 // that settles answer and output on every input.
 ghost use mathlib.Core.List.{[]};
 ghost use mathlib.Core.Path.{_≡_};
@@ -62,7 +62,8 @@ pub fn arrange(direction: Direction, list: &[u32], output: &mut [u32]) -> Answer
 }
 
 // Even first: the output becomes the list's entries at even indices rising, then those at odd indices rising.
-// Refused with 5: the list has more than 128 numbers; with 7: the output is not as long as the list (both the station's program).
+// Refused with 5: the list has more than 128 numbers; with 7: the output is not as long as the list (both caused by the
+// writer of the station's program).
 pub fn even_first(list: &[u32], output: &mut [u32]) -> Answer
     ensures { λ r. ⌜ OrderCall Direction.EvenFirst (now (list .entry)) (answered r) (now (output .entry)) (now (output .exit)) ⌝ }
 {

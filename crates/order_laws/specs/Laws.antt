@@ -2,7 +2,7 @@
 -- `order_laws`, and nothing proved. Each is over the very lists that the calls hand out.
 --   OrderTrip      the promise of the call by a direction and then of the other: the answer is the verdict of their tests in turn; the first
 --                  list is the one that was lent, in the order of the first call, and the second that one in the order of the other, each
---                  from a call that finished, and what it held from every other
+--                  where its call finished, and what it held where that was refused or not made
 --   TripHolds      on at most 128 numbers and lists as long, both finish, and the second hands out what the first was lent
 --   EvenExpanded   the promise of Expand by a way and then of Even first: the same of their tests and lists
 --   ZerosHold      on an accepted family without b, a curve on it and lists as long as the calls ask, both finish; of a curve with only even

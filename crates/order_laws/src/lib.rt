@@ -32,7 +32,8 @@ fn first_after_back(list: &[u32], between: &mut [u32], output: &mut [u32]) -> An
     order_calls::even_first(between, output)
 }
 
-// Even first of what Expand handed out, by either way: where every b is zero, the zeros of an even or an odd curve lie together.
+// Even first of what Expand handed out, by either way: where every b is zero, the odd part of a curve with only even entries is zeros, and the
+// even part of one with only odd entries.
 fn expanded_even_first(
     way: Way,
     m: u32,

@@ -1,7 +1,8 @@
 -- What is printed for a text that comes in pieces, and the laws of the loop over them.
 --   Answering ..   the state of the loop: what is printed for the lines that end in the front of the text is printed, and what is kept of the line that
 --                  the front leaves open stands at the front of a list;  Stage  the same after k pieces
--- Proved: how the loop begins, goes on and ends; what is printed for what is kept of the lines is what is printed for them. Assumes nothing.
+-- Proved: what is printed for what is kept of the lines is what is printed for them, so that pieces hand over what is printed for the text
+-- (any-cut); how the loop begins, goes on and ends. Assumes nothing.
 use mathlib.Core.List.{List, [], _∷_, _++_, append-nil, map}
 use mathlib.Core.Path.{_≡_, refl, sym, _∙_, ap, ap₂}
 use Prim.Native.Nat.{ℕ, _+_, _*_, _-_, _<_, _≤_}
@@ -10,7 +11,7 @@ use lib.ListN.{length, take, drop, length-drop}
 use lib.Seq.{take-all, take-add, length-take-le}
 use Rattle.lines.specs.Determining.{alone}
 use Rattle.lines.specs.Lines.{linesOf, joined}
-use Rattle.lines.specs.Pieces.{kept, ended, unended, ended-append, unended-append, ended-text}
+use Rattle.lines.specs.Pieces.{kept, ended, unended, handed, ended-append, unended-append, ended-text, handed-lines}
 use Rattle.lines.specs.Walking.{Open}
 use Rattle.storing.specs.Printing.{printedLine, printedInput}
 use Rattle.store_lines.specs.Answering.{printedLines, printed-append, printed-snoc, put-after, PieceAnswered}
@@ -21,6 +22,12 @@ all-kept : (ls : List (List ℕ)) → printedLines (map (kept 8193) ls) ≡ prin
 unfolding joined
 all-kept [] = refl
 all-kept (l ∷ ls) = ap₂ (λ x y. x ++ y) (printed-kept l) (all-kept ls)
+
+-- in the words of the program's writes: what is printed for the lines that the pieces hand over, each with what the one before left open, and for
+-- the line that the last leaves open
+pub any-cut : (ps : List (List ℕ)) → printedLines (handed 8193 [] ps) ≡ printedInput (joined ps)
+unfolding printedInput
+any-cut ps = ap printedLines (handed-lines 8193 (omega arith) ps) ∙ all-kept (linesOf (joined ps))
 
 pub record Answering (text before : List ℕ) (kept′ : ℕ) (out : List ℕ) (n at : ℕ) : Type 0 where
   pub bytes : take n out ≡ printedLines (ended 8193 [] (take at text))

@@ -26,7 +26,8 @@ enum Request {
     Malformed,
 }
 
-// The numbers of a line with a key, put at the front of a lent list as far as it has room. The line is to end the text.
+// The numbers of a line with a key, put at the front of a lent list as far as it has room. A text that goes on
+// after the line is no such line.
 fn count_numbers(text: &[u8], key: &[u8], list: &mut [u32]) -> Count
     ensures { λ r. ⌜ Counted (now (text .entry)) (now (key .entry)) (now (list .exit)) r ⌝ }
 {
@@ -138,8 +139,8 @@ pub fn copy_bytes(from: &[u8], count: usize, to: &mut [u8])
     }
 }
 
-// The same for a piece that goes on with a line of which the first `count` of a list are kept, which stays as it is: what is kept of the line
-// that the piece leaves open is put at the front of another list.
+// As answer_lines, for a piece that goes on with a line of which the first `count` of a list are kept, which stays as it is: what is kept of the
+// line that the piece leaves open is put at the front of another list.
 pub fn answer_piece(
     piece: &[u8],
     before: &[u8],

@@ -2,7 +2,7 @@
 --   first, back        lists of no to six entries, and of numbers at the ends of 32 bits, put either way
 --   order-tests        the number that each pair of lengths gives: 5 is tested before 7, and nothing else is
 --   after-calls        what the output holds after a call that finishes, and after one that is refused
---   chebyshev          with every b zero an even curve has zeros in its odd part, an odd one in its even part; with another b it has not
+--   chebyshev          with every b zero an even curve has zeros in its odd part, an odd one in its even part; with another b the even one has not
 --   printouts          lines beside what is printed for them: of the form, and of others by one slip each;  no-lines  bytes that are no line
 --   bytes-counted      where 1 begins, and that it comes before 2 and 5; entries-counted  where 5 begins, and that 2 comes before it
 --   inputs             inputs beside what is printed for them: no line, no last byte 10, a refusal among answers

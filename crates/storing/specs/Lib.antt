@@ -4,7 +4,7 @@
 --   Parity     what the law of zeros speaks of: families without b, curves with only even or only odd entries, the two parts of a list
 --   Calls      the tests of both calls in their order, and their promises
 --   Printing   what the program `store` is to print for a line, and for an input
---   Examples   lists of every kind, the order of the tests, and lines of every kind, computed
+--   Examples   lists, the order of the tests, lines and inputs, computed
 -- Assumes nothing.
 pub mod Order
 pub mod Parity

@@ -1,5 +1,5 @@
 -- What the law of zeros speaks of.
---   NoB f         every b of the rows is zero; the closing row, which Expand does not use, may have any b
+--   NoB f         every b of the rows is zero; the closing row, whose b is 1 and which Expand does not use, is not asked
 --   OnlyEven u    the curve has only even entries: those at odd indices are zero;  OnlyOdd u  only odd ones
 --   evenPart ys   of a list put even powers first, the entries of even powers;  oddPart ys  those of odd powers
 -- Item 7 of the change requests. Assumes nothing.

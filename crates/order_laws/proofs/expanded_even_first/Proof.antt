@@ -1,4 +1,4 @@
--- `expanded_even_first` meets its law: the zeros of an even or an odd curve lie together. Assumes nothing.
+-- `expanded_even_first` meets its law of zeros. Assumes nothing.
 use Rattle.order_laws.specs.Holding.{expand-refused, expand-made}
 use borrow.Author.Needs.{needs}
 use Rattle.order_laws.proofs.expanded_even_first.Statement.{statement}

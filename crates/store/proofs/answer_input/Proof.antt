@@ -3,10 +3,11 @@
 use mathlib.Core.Path.{_≡_, sym}
 use Prim.Native.Nat.{_≤_}
 use native.Mathlib.Omega.{arith}
-use lib.ListN.{length}
+use lib.ListN.{length, take}
 use lib.Seq.{length-take-le}
 use Rattle.input.specs.Input.{within-bytes}
-use Rattle.store.specs.Keeping.{left-within}
+use Rattle.lines.specs.Determining.{Unbroken}
+use Rattle.store.specs.Keeping.{left-within, left-unbroken}
 use borrow.Author.Needs.{needs}
 use Rattle.store.proofs.answer_input.Statement.{statement}
 use Rattle.store.proofs.answer_input.Tie as tie
@@ -14,6 +15,7 @@ use Rattle.store.proofs.answer_input.Tie as tie
 abbrev Inv-loop : tie.InvT-loop
 Inv-loop piece₀ before₀ line₀ out₀ kept₀ turns₀ piece before line out kept turns =
     (kept ≤ 8193) × (length before ≡ 8193) × (length line ≡ 8193) × (length out ≡ 136588) × (length piece ≡ 4096)
+    × Unbroken (take kept before)
 
 abbrev μ-loop : tie.MeasureT-loop
 μ-loop piece₀ before₀ line₀ out₀ kept₀ turns₀ piece before line out kept turns = turns
@@ -40,7 +42,7 @@ slice-aggregate-out : tie.Need-slice-aggregate-out Inv-loop μ-loop
 slice-aggregate-out c = search needs
 
 loop-holds : tie.Need-loop-holds Inv-loop μ-loop
-loop-holds c = search needs
+loop-holds c = (omega arith, omega arith, omega arith, omega arith, omega arith, tt)
 
 slice-aggregate-read-some : tie.Need-slice-aggregate-read-some Inv-loop μ-loop
 slice-aggregate-read-some c = search needs
@@ -58,7 +60,9 @@ returns : tie.Need-returns Inv-loop μ-loop
 returns c = search needs
 
 answer-last-requires : tie.Need-answer-last-requires Inv-loop μ-loop
-answer-last-requires c κs = search needs
+answer-last-requires c κs =
+    let looped = c .before .before .before .before .before .before .before .before .before .before .before in
+    (omega arith, omega arith, omega arith, omega arith, looped .loop .inv .5)
 
 returns-2 : tie.Need-returns-2 Inv-loop μ-loop
 returns-2 c = search needs
@@ -85,6 +89,7 @@ answer-piece-requires c κs =
       omega arith,
       omega arith,
       omega arith,
+      counted .before .before .before .before .before .before .loop .inv .5,
     )
 
 enum-known-left : tie.Need-enum-known-left Inv-loop μ-loop
@@ -112,6 +117,7 @@ loop-again c =
       omega (arith, looped .loop .inv .2),
       omega (arith, looped .loop .inv .3),
       omega arith,
+      left-unbroken _ _ _ _ _ _ (answered .answer-piece .ensures) (told .left .given .1),
     )
 
 returns-5 : tie.Need-returns-5 Inv-loop μ-loop

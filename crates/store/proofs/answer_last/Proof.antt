@@ -20,7 +20,7 @@ print-last-requires c κs =
     let put = c .before .before .before in
     let lent = put .before .before .before .before .before in
     let long = length-take-le (lent .args .count) (lent .args .list .now) (omega arith) in
-    (omega (arith, long), omega (arith, long), front-printed _ _ _ _ (put .put-printed .ensures))
+    (omega (arith, long), omega (arith, long), lent .pre .4, front-printed _ _ _ _ (put .put-printed .ensures))
 
 pub answer-last-spec : {M : Type 1} → statement M
 answer-last-spec =

@@ -15,7 +15,8 @@ slice-aggregate-print-lines c =
 print-lines-requires : tie.Need-print-lines-requires
 print-lines-requires c κs =
     let answered = c .before .before .before .before .before .before in
-    (omega arith, omega arith, lines-printed _ _ _ _ _ _ _ _ (answered .answer-piece .ensures) (omega arith))
+    let lent = answered .before .before .before .before .before .before .before .before in
+    (omega arith, omega arith, lent .pre .5, lines-printed _ _ _ _ _ _ _ _ (answered .answer-piece .ensures) (omega arith))
 
 returns-2 : tie.Need-returns-2
 returns-2 c =
@@ -24,7 +25,7 @@ returns-2 c =
     let answered = written .before .before .before .before .before .before .before in
     let lent = answered .before .before .before .before .before .before .before .before in
     copied-back _ _ _ _ _ _ _ _ (answered .answer-piece .ensures) _ (copied .copy-bytes .ensures)
-    (omega (arith, answered .answer-piece .ensures .left .within, lent .pre .1, lent .pre .3))
+    (omega (arith, answered .answer-piece .ensures .left .within, lent .pre .1, lent .pre .3)) (lent .pre .5)
 
 pub answer-piece-spec : {M : Type 1} → statement M
 answer-piece-spec =
