@@ -3,7 +3,8 @@
  * m need not be prime. All numbers are whole, and lists handed out have remainders from 0 to m - 1, but those of zahupnik_join and
  * zahupnik_expand_join, which have a sign, and of zahupnik_even_first and zahupnik_even_back, which have no m. A family has r rows, and
  * row i (i = 1 to r) is a_i, b_i, c_i, at index i - 1 of the lists a, b and c. Its polynomials are F_{-1} = 0, F_0 = 1 and
- * F_i = (a_i x + b_i) F_{i-1} + c_i F_{i-2}. n is r + 1 throughout. Lists have the lowest index or power first.
+ * F_i = (a_i x + b_i) F_{i-1} + c_i F_{i-2}. n is r + 1 throughout. Lists have the lowest index or power first, but for those that
+ * zahupnik_even_first writes and zahupnik_even_back is lent.
  * c_1 multiplies F_{-1} = 0 only: it may be any number below m, for zahupnik_expand_join any at all, 0 too, as in Legendre's recurrence, and
  * no converted list depends on it.
  * A number with a sign leaves a remainder from 0 to m - 1 too, from which it differs by a multiple of m: -1 leaves m - 1.

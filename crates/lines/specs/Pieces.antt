@@ -147,7 +147,9 @@ ended-lines room some h (b ∷ t) = split (ended-lines room some [] t) (ended-li
         → pick e (kept room (kept room h ++ b ∷ []) ∷ ended room [] t) (ended room (kept room (kept room h ++ b ∷ [])) t)
         ++ alone (pick e (unended room [] t) (unended room (kept room (kept room h ++ b ∷ [])) t))
         ≡ map (kept room) (glued h (pick e ((b ∷ []) ∷ linesOf t) (begun b (linesOf t))))
-    split broken on true = ap₂ _∷_ again (ap (λ l. ended room l t ++ alone (unended room l t)) (sym (take-nil room)) ∙ broken) ∙ sym (ap (map (kept room)) (glued-some h (b ∷ []) (linesOf t)))
+    split broken on true =
+        ap₂ _∷_ again (ap (λ l. ended room l t ++ alone (unended room l t)) (sym (take-nil room)) ∙ broken)
+        ∙ sym (ap (map (kept room)) (glued-some h (b ∷ []) (linesOf t)))
     split broken on false =
         ap (λ l. ended room l t ++ alone (unended room l t)) again ∙ on ∙ ap (map (kept room)) (glued-one h b (linesOf t))
 

@@ -96,7 +96,14 @@ pub record Taking (piece : List ℕ) (from : ℕ) (line : List ℕ) (count : ℕ
 
 module _ (piece : List ℕ) (from : ℕ) (line : List ℕ) (count : ℕ) where
   pub taking-starts : count ≤ length line → from ≤ length piece → Taking piece from line count line count from
-  taking-starts h k = record { going = record { lines = refl; left = refl }; size = refl; within = h; grown = omega arith; after = omega arith; inside = k }
+  taking-starts h k = record {
+    going = record { lines = refl; left = refl };
+    size = refl;
+    within = h;
+    grown = omega arith;
+    after = omega arith;
+    inside = k;
+  }
 
   module _ (line′ : List ℕ) (n i : ℕ) (s : Taking piece from line count line′ n i) where
     abbrev h : List ℕ
@@ -125,7 +132,8 @@ module _ (piece : List ℕ) (from : ℕ) (line : List ℕ) (count : ℕ) where
 
       pub taking-ends : eqb (getD piece i 0) newline ≡ true → LineTaken piece from line count line″ true n′ (i + 1)
       taking-ends e = record {
-        taken = going-break (length line) h t (take n line′) (drop i piece) (s .going) (getD piece i 0) (drop (i + 1) piece) next (take n′ line″) bytes e;
+        taken = going-break (length line) h t (take n line′) (drop i piece) (s .going) (getD piece i 0) (drop (i + 1) piece) next
+            (take n′ line″) bytes e;
         within = p .within;
         grown = omega (arith, p .grown, s .grown, s .after);
         inside = omega arith;
@@ -136,7 +144,8 @@ module _ (piece : List ℕ) (from : ℕ) (line : List ℕ) (count : ℕ) where
 
       pub taking-on : eqb (getD piece i 0) newline ≡ false → length line″ ≡ length line′ → Taking piece from line count line″ n′ (i + 1)
       taking-on e same = record {
-        going = going-on (length line) h t (take n line′) (drop i piece) (s .going) (getD piece i 0) (drop (i + 1) piece) next (take n′ line″) bytes e;
+        going = going-on (length line) h t (take n line′) (drop i piece) (s .going) (getD piece i 0) (drop (i + 1) piece) next
+            (take n′ line″) bytes e;
         size = same ∙ s .size;
         within = p .within;
         grown = omega (arith, p .grown, s .grown, s .after);

@@ -1,5 +1,6 @@
--- Where every b is zero: up to j = r, F_j has only even powers for an even j, and only odd ones for an odd j. So the expanded list of a curve with only even
--- entries has zeros at the odd indices, which come last when even powers come first; and the reverse of a curve with only odd entries.
+-- Where every b is zero: up to j = r, F_j has only even powers for an even j, and only odd ones for an odd j. So the expanded list of a curve
+-- with only even entries has zeros at the odd indices, which come last when even powers come first; and the reverse of a curve with only odd
+-- entries.
 -- Proved: term-zero of a recurrence, F-zero of the family, expand-zero of the expanded list, odd-part-zero and even-part-zero of that list
 -- put even powers first. Assumes nothing.
 use mathlib.Core.Bool.{Bool, true, false}

@@ -1,6 +1,6 @@
 -- What is printed for a text that comes in pieces, and the laws of the loop over them.
---   Answering ..   the state of the loop: what is printed for the lines that end in the front of the text is printed, and what is kept of the line that
---                  the front leaves open stands at the front of a list;  Stage  the same after k pieces
+--   Answering ..   the state of the loop: what is printed for the lines that end in the front of the text is printed, and what is kept of the
+--                  line that the front leaves open stands at the front of a list;  Stage  the same after k pieces
 -- Proved: what is printed for what is kept of the lines is what is printed for them, so that pieces hand over what is printed for the text
 -- (any-cut); how the loop begins, goes on and ends. Assumes nothing.
 use mathlib.Core.List.{List, [], _∷_, _++_, append-nil, map}

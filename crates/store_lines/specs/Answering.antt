@@ -48,7 +48,9 @@ put-after old n text most new next p h =
     (length-append (take n old) text ∙ omega (arith, p .place, length-take-le n old (omega arith)))
 
 -- ---- the lines of a piece
-pub record PieceAnswered (piece line : List ℕ) (count : ℕ) (out : List ℕ) (from : ℕ) (line′ : List ℕ) (kept′ : ℕ) (out′ : List ℕ) (n : ℕ) : Type 0 where
+-- line and line′, out and out′: before and after; n: how many bytes of out′ are printed then
+pub record PieceAnswered (piece line : List ℕ) (count : ℕ) (out : List ℕ) (from : ℕ) (line′ : List ℕ) (kept′ : ℕ) (out′ : List ℕ)
+    (n : ℕ) : Type 0 where
   pub bytes : take n out′ ≡ take from out ++ printedLines (ended (length line) (take count line) piece)
   pub left : Open (length line) (take count line) piece line′ kept′
   pub few : n + 11 * kept′ ≤ from + 11 * (count + length piece)

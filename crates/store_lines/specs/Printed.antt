@@ -30,7 +30,8 @@ printedRoom = 1409
 module _ (l : List ℕ) where
   pub printed-1 : mostBytes < length l → printedLine l ≡ refusalText 1
   unfolding printedLine lineTests textLengthTest shown
-  printed-1 h = ap shown (verdict-here (textLengthTest (length l)) (askedTests (readStore l)) (lineReply (readStore l)) (lt-ltb mostBytes (length l) h))
+  printed-1 h = ap shown
+      (verdict-here (textLengthTest (length l)) (askedTests (readStore l)) (lineReply (readStore l)) (lt-ltb mostBytes (length l) h))
 
   module _ (h : length l ≤ mostBytes) where
     short : printedLine l ≡ shown (verdict (askedTests (readStore l)) (lineReply (readStore l)))

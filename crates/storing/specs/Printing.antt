@@ -6,7 +6,8 @@
 --   printedLine l    what is printed for the bytes l of a line
 --   printedInput t   what is printed for an input: for each of its lines in turn
 -- printedLine is defined for any bytes, and only of a line, or of one that the input's end leaves open, does the program print it. A line that is
--- malformed has no list, so no test follows 2 there; 7 is not tested, since the program lends an output as long as the list. Item 7 of the change requests. Assumes nothing.
+-- malformed has no list, so no test follows 2 there; 7 is not tested, since the program lends an output as long as the list.
+-- Item 7 of the change requests. Assumes nothing.
 use mathlib.Core.Bool.{true, false}
 use mathlib.Core.List.{List, [], _∷_, map}
 use Prim.Native.Nat.{ℕ}

@@ -20,8 +20,13 @@ abbrev μ-loop : tie.MeasureT-loop
 
 loop-holds : tie.Need-loop-holds Inv-loop μ-loop
 loop-holds c =
-    let lent = c .before .before .before .before .before .pre in
-    (record { answering = answering-starts _ _ _ (lent .0) (lent .2); done = λ h. absurd (omega arith) }, omega arith, omega arith, omega arith, omega arith)
+    let lent = c .before .before .before .before .before .pre in (
+      record { answering = answering-starts _ _ _ (lent .0) (lent .2); done = λ h. absurd (omega arith) },
+      omega arith,
+      omega arith,
+      omega arith,
+      omega arith,
+    )
 
 piece-end-requires : tie.Need-piece-end-requires Inv-loop μ-loop
 piece-end-requires c κs = omega (arith, c .before .loop .inv .0 .answering .inside)
@@ -49,7 +54,8 @@ copy-bytes-requires : tie.Need-copy-bytes-requires Inv-loop μ-loop
 copy-bytes-requires c κs =
     let answered = c .before .before .before .before .before .before in
     let state = answered .before .before .before .before .before .before .before .loop .inv in
-    (omega (arith, answered .answer-piece .ensures .left .within), omega (arith, answered .answer-piece .ensures .left .within, state .3, state .0 .answering .size))
+    let within = answered .answer-piece .ensures .left .within in
+    (omega (arith, within), omega (arith, within, state .3, state .0 .answering .size))
 
 add-k : tie.Need-add-k Inv-loop μ-loop
 add-k c = omega arith
@@ -86,7 +92,9 @@ same-length-3 : tie.Need-same-length-3 Inv-loop μ-loop
 same-length-3 c = search needs
 
 returns : tie.Need-returns Inv-loop μ-loop
-returns c = answering-done _ _ _ _ _ _ (c .before .before .loop .inv .0 .answering) (omega (arith, c .before .before .loop .inv .0 .done (omega arith))) (c .if1 .taken)
+returns c =
+    let state = c .before .before .loop .inv .0 in
+    answering-done _ _ _ _ _ _ (state .answering) (omega (arith, state .done (omega arith))) (c .if1 .taken)
 
 slice-reshare-prefix-put-printed : tie.Need-slice-reshare-prefix-put-printed Inv-loop μ-loop
 slice-reshare-prefix-put-printed c = omega (arith, c .before .before .loop .inv .0 .answering .left .within)

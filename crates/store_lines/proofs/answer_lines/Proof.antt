@@ -44,7 +44,8 @@ loop-again c =
     let ended = put .before .before .before in
     let taken = ended .before .before .before in
     let looped = taken .before .before .before in
-    printing-line _ _ _ _ _ (omega arith) _ _ _ _ _ (looped .loop .inv) _ _ _ _ (taken .take-line .ensures) (omega (arith, looped .loop .inv .walking .size))
+    printing-line _ _ _ _ _ (omega arith) _ _ _ _ _ (looped .loop .inv) _ _ _ _ (taken .take-line .ensures)
+    (omega (arith, looped .loop .inv .walking .size))
     (omega arith) (ended .if1 .taken) (looped .before .before .before .before .pre .2) _ _ (put .put-printed .ensures)
 
 loop-less-2 : tie.Need-loop-less-2 Inv-loop μ-loop
@@ -56,7 +57,8 @@ loop-again-2 : tie.Need-loop-again-2 Inv-loop μ-loop
 loop-again-2 c =
     let taken = c .before .before .before in
     let looped = taken .before .before .before in
-    printing-on _ _ _ _ _ (omega arith) _ _ _ _ _ (looped .loop .inv) _ _ _ _ (taken .take-line .ensures) (omega (arith, looped .loop .inv .walking .size))
+    printing-on _ _ _ _ _ (omega arith) _ _ _ _ _ (looped .loop .inv) _ _ _ _ (taken .take-line .ensures)
+    (omega (arith, looped .loop .inv .walking .size))
     (omega arith) (c .if1 .left)
 
 same-length : tie.Need-same-length Inv-loop μ-loop
