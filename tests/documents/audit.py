@@ -57,13 +57,17 @@ def column(audit, place):
 def faults(audit, trust):
     """What the audit's page says otherwise, or leaves out."""
     spans, texts = column(audit, 1), list(statements(trust))
-    said = set(" ".join(spans)) | {word for span in spans for word in re.findall(r"\w+|[^\s\w(){},;:]+|\S+", span)} | set(" ".join(spans).split())
+    said = set("".join(spans)) | set(" ".join(spans).split()) | set(re.findall(r"\w+", " ".join(spans)))
     for sign in sorted(set().union(*map(notation, texts)) - said):
         yield f"the table of the notation has no {sign}"
     source = " ".join("\n".join(texts).split())
     for example in column(audit, 3):
         if example not in source:
             yield f"no statement has `{example}`, an example of the notation"
-    crates, edits = (int(re.search(pattern, trust)[1]) for pattern in (r"crates proved from nothing: (\d+)", r"must-fail edits: (\d+)"))
-    if f"{crates} crates and {edits} edits are {crates + edits}" not in audit:
-        yield f"it does not say that {crates} crates and {edits} edits are {crates + edits}"
+    figures = [re.search(pattern, trust) for pattern in (r"crates proved from nothing: (\d+)", r"must-fail edits: (\d+)")]
+    if not all(figures):
+        yield "docs/TRUST.md does not have the figures of the crates and of the edits"
+        return
+    crates, edits = (int(figure[1]) for figure in figures)
+    if (sentence := f"{crates} crates and {edits} edits are {crates + edits}") not in audit:
+        yield f"it does not say that {sentence}, as docs/TRUST.md has it"
