@@ -4,10 +4,10 @@
 usage: tests/man/examples.py PAGE FOLDER
 
 What stands from .EX to .EE is taken as its reader sees it and would copy it. A line that begins with `$ ` is a command, a backslash at
-its end goes on with it, and the lines up to the next command are what it prints, on standard output and standard error. The
-commands of a page run in one shell, in the folder, with the PATH as it is here. A block that begins with `/* NAME.c: ` is a program in C: it is put
-into the folder first, under that name, and has to compile without a warning. A block without a command may stand outside of
-the section EXAMPLES only, and is not run.
+its end goes on with it, and the lines up to the next command are what it prints, on standard output and standard error. The commands
+of a page run in one shell, in the folder, with the PATH as it is here. A block that begins with `/* NAME.c: ` is a program in C: it is
+put into the folder first, under that name, and has to compile without a warning. A block without a command may stand outside of the
+section EXAMPLES only, and is not run.
 Fails on a command that prints something else, on a program that no command compiles, on a page without an example, and on a character
 that some formatter shows as another one, so that a copied command would not be what was run. Exits 0 only if everything agrees.
 """
@@ -125,7 +125,8 @@ def main():
         print(__doc__, end="")
         return
     if len(sys.argv) != 3:
-        sys.exit("usage: tests/man/examples.py PAGE FOLDER")
+        print("man: a page and a folder are wanted; usage: tests/man/examples.py PAGE FOLDER", file=sys.stderr)
+        sys.exit(2)
     page, folder = map(pathlib.Path, sys.argv[1:])
     try:
         commands, programs = check(page, folder)

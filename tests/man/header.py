@@ -9,8 +9,9 @@ FOLDER has the pages, man/ if it is not named. A page is read as its reader sees
 - the comment of every function behind its name, with its refusals in their order, and every comment that stands for several;
 - every struct; every constant with its value; every refusal with its meaning; the stack of every call;
 - the paragraphs at the top of the header, but for those of IN_OTHER_WORDS.
-Of channel(1) and store(1) the refusals are those of the call on texts and of the calls that order a list, in that order; of every page each
-name of the library is in a header, the version is the header's, and the title is that of the file. Exits 0 only if all of it is so.
+The refusals and limits of channel(1) are those of the call on texts, in its order, and of store(1) those of the calls that order a list. Of
+every page each name of the library is in a header, the version is the header's, and the title is that of the file. Exits 0 only if all
+of it is so.
 """
 
 import pathlib
@@ -138,11 +139,15 @@ def check_library(page, header, words):
     return values, declared
 
 
-def check_program(page, title, wanted):
-    """The refusals of a program, in their order."""
-    listed = re.findall(r"^ *refused=(\d+)$", "\n".join(sections(page)["REFUSALS"]), flags=re.M)
+def check_program(page, title, wanted, limits):
+    """The refusals of a program in their order, and its limits."""
+    parts = sections(page)
+    listed = re.findall(r"^ *refused=(\d+)$", "\n".join(parts["REFUSALS"]), flags=re.M)
     if listed != wanted:
         fault(f"{title} has the refusals {' '.join(listed)}, and the header {' '.join(wanted)}")
+    for limit in limits:
+        if limit not in spaced(" ".join(parts["LIMITS"])):
+            fault(f"LIMITS of {title} has not '{limit}'")
 
 
 def main():
@@ -159,11 +164,16 @@ def main():
 
     by_name = {name: refusals(comment) for comment, names in entries(header) for name in names}
     texts = [number for number in by_name["zahupnik_convert_text"] if number not in LENT]
-    check_program(read(folder / "channel.1"), "channel(1)", texts)
+    text, rows, modulus, entry = (
+        values[f"ZAHUPNIK_{name}"] for name in ("MOST_TEXT", "MOST_ROWS", "GREATEST_MODULUS", "MOST_ENTRIES")
+    )
+    text = f"{int(text):,} bytes"
+    check_program(read(folder / "channel.1"), "channel(1)", texts, (text, f"{rows} rows", f"at most {modulus}"))
     order = next(refusals(comment) for comment, _ in entries(header) if comment.startswith("Even powers first"))
-    check_program(read(folder / "store.1"), "store(1)", LINE + [number for number in order if number not in LENT])
+    line = LINE + [number for number in order if number not in LENT]
+    check_program(read(folder / "store.1"), "store(1)", line, (text, f"{entry} numbers"))
 
-    known = {*values, *(name for name, _ in declared), *re.findall(r"struct (zahupnik_\w+)", header), "ZAHUPNIK_REFUSED_", "zahupnik_refusal"}
+    known = {*values, "ZAHUPNIK_REFUSED_", *(name for name, _ in declared), *re.findall(r"struct (zahupnik_\w+)", header)}
     version = ".".join(values[f"ZAHUPNIK_VERSION_{part}"] for part in ("MAJOR", "MINOR", "PATCH"))
     for path in sorted(folder.iterdir()):
         page = read(path)
