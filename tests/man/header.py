@@ -99,7 +99,7 @@ def check_library(page, header, words):
 
     listed = spaced(" ".join(parts["NAME"])).partition(" - ")[0].split(", ")
     if listed != ["zahupnik"] + [name for name, _ in declared]:
-        fault(f"NAME of zahupnik(3) has {sorted(set(listed) ^ {'zahupnik', *(name for name, _ in declared)}) or 'another order'}")
+        fault(f"NAME of zahupnik(3) and the headers differ in {sorted(set(listed) ^ {'zahupnik', *(name for name, _ in declared)}) or 'their order'}")
     shown = prototypes("\n".join(line[7:] for line in parts["SYNOPSIS"]))
     for name, prototype in declared:
         if (name, prototype) not in shown:
