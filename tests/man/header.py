@@ -97,9 +97,10 @@ def check_library(page, header, words):
     text = spaced(" ".join(line for lines in parts.values() for line in lines))
     declared = prototypes(header) + prototypes(words)
 
+    named = ["zahupnik"] + [name for name, _ in declared]
     listed = spaced(" ".join(parts["NAME"])).partition(" - ")[0].split(", ")
-    if listed != ["zahupnik"] + [name for name, _ in declared]:
-        fault(f"NAME of zahupnik(3) and the headers differ in {sorted(set(listed) ^ {'zahupnik', *(name for name, _ in declared)}) or 'their order'}")
+    if listed != named:
+        fault(f"NAME of zahupnik(3) and the headers differ in {sorted(set(listed) ^ set(named)) or 'their order'}")
     shown = prototypes("\n".join(line[7:] for line in parts["SYNOPSIS"]))
     for name, prototype in declared:
         if (name, prototype) not in shown:
