@@ -12,7 +12,8 @@ ROOT = pathlib.Path(__file__).resolve().parents[1]
 
 # What is not in every system, and what has it.
 HAS = {
-    "rt": "the command of the Rattle kit that .ci/kit names",
+    "rt": "the command of the Rattle kit that .ci/kit names, to prove and build with",
+    "git": "of Debian's git",
     "nm": "of Debian's binutils",
     "objdump": "of Debian's binutils",
 }

@@ -10,7 +10,7 @@ while [[ $top = */bin/.. ]]; do top=${top%/bin/..}; done # it is shown to users
 
 # What is not in every system, and what has it.
 declare -A has=(
-    [rt]='the command of the Rattle kit that .ci/kit names'
+    [rt]='the command of the Rattle kit that .ci/kit names, to prove and build with'
     [cc]="a C compiler, of Debian's gcc"
     [nm]="of Debian's binutils"
     [objcopy]="of Debian's binutils"
@@ -96,14 +96,14 @@ has_built() { # the next may build
 }
 
 end_started() { # kills all that this script has started, and what that has started; each is stopped first, so that it starts no more
-    local IFS=' ' file line fields more=yes # a read without IFS may be what the signal broke off
+    local file line parent more=yes
     local -A found=([$$]=yes)
     while [ -n "$more" ]; do
         more=''
         for file in /proc/[0-9]*/stat; do
             { IFS= read -r line <"$file"; } 2>/dev/null || continue # it has ended
-            read -r -a fields <<<"${line##*) }" # behind the name its state and its parent
-            if [ -n "${found[${fields[1]}]-}" ] && [ -z "${found[${line%% *}]-}" ]; then
+            parent=${line##*) ? } # behind the name its state, then its parent
+            if [ -n "${found[${parent%% *}]-}" ] && [ -z "${found[${line%% *}]-}" ]; then
                 kill -STOP "${line%% *}" 2>/dev/null || continue
                 found[${line%% *}]=yes more=yes
             fi
