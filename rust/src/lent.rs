@@ -45,12 +45,27 @@ macro_rules! call {
     };
 }
 
-/// See [`crate::version`].
+/// The version of the library that is linked: its major number times 10000, its minor times 100 and its patch, added up. The crate is for
+/// every library of its own major number.
+///
+/// ```
+/// assert_eq!(zahupnik::version() / 10_000, 1);
+/// ```
 pub fn version() -> u32 {
-    10000
+    // SAFETY: The function is lent nothing and handed nothing.
+    unsafe { library::zahupnik_version() }
 }
 
-/// See [`crate::invert`].
+/// Inverse: the one number below m that times x leaves 1 modulo m.
+///
+/// Refuses with Modulus 3, CurveEntry 12, NoInverse 13, which tells the greatest common factor of x and m.
+///
+/// ```
+/// use zahupnik::{invert, Refusal};
+/// assert_eq!(invert(15, 2), Ok(8));
+/// assert_eq!(invert(15, 6), Err(Refusal::NoInverse { factor: 3 }));
+/// assert_eq!(invert(15, 0), Err(Refusal::NoInverse { factor: 15 }));
+/// ```
 pub fn invert(m: u32, x: u32) -> Result<u32, Refusal> {
     let (mut inverse, mut factor) = (0, 0);
     // SAFETY: Both pointers are of initialised numbers, two that do not overlap and that nobody else has.

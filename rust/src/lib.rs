@@ -52,7 +52,8 @@ fn work() -> Vec<u32> {
 
 /// Expand: at k the coefficient of x^k in the sum over i of `curve[i]` F_i, for k and i from 0 to n - 1. Row by row.
 ///
-/// Lengths: a, b, c r; curve n. Refuses with 3 4 5 6 9 17 10 18 11 12.
+/// Lengths: a, b, c r; curve n. Refuses with Modulus 3, Lengths 4, Rows 5, CurveLength 6, Entry 9, AZero 17, AInverse 10, CZero 18,
+/// CInverse 11, CurveEntry 12.
 ///
 /// ```
 /// assert_eq!(zahupnik::plain_expand(7, &[1, 2], &[0, 3], &[1, 5], &[3, 0, 1])?, [1, 3, 2]);
@@ -65,7 +66,8 @@ pub fn plain_expand(m: u32, a: &[u32], b: &[u32], c: &[u32], curve: &[u32]) -> R
 /// Adjoint (transposed expand): at j the sum over i of `curve[i]` times the coefficient of x^i in F_j, for i and j from 0 to n - 1. Row by
 /// row.
 ///
-/// Lengths: a, b, c r; curve n. Refuses with 3 4 5 6 9 17 10 18 11 12.
+/// Lengths: a, b, c r; curve n. Refuses with Modulus 3, Lengths 4, Rows 5, CurveLength 6, Entry 9, AZero 17, AInverse 10, CZero 18,
+/// CInverse 11, CurveEntry 12.
 ///
 /// ```
 /// assert_eq!(zahupnik::plain_adjoint(7, &[1, 2], &[0, 3], &[1, 5], &[3, 0, 1])?, [3, 0, 3]);
@@ -77,7 +79,8 @@ pub fn plain_adjoint(m: u32, a: &[u32], b: &[u32], c: &[u32], curve: &[u32]) -> 
 
 /// Decompose: the one curve that Expand turns into the coefficients. From the top power.
 ///
-/// Lengths: a, b, c r; coefficients n. Refuses with 3 4 5 6 9 17 10 18 11 12.
+/// Lengths: a, b, c r; coefficients n. Refuses with Modulus 3, Lengths 4, Rows 5, CurveLength 6, Entry 9, AZero 17, AInverse 10, CZero 18,
+/// CInverse 11, CurveEntry 12.
 ///
 /// ```
 /// assert_eq!(zahupnik::plain_decompose(7, &[1, 2], &[0, 3], &[1, 5], &[1, 3, 2])?, [3, 0, 1]);
@@ -89,7 +92,7 @@ pub fn plain_decompose(m: u32, a: &[u32], b: &[u32], c: &[u32], coefficients: &[
 
 /// Norms: at i the number (-1)^i c_2 .. c_{i+1} / a_{i+1}, for i from 0 to n - 1, where row n, the closing row, is 1 1 1.
 ///
-/// Lengths: a, b, c r. Refuses with 3 4 5 9 17 10 18 11.
+/// Lengths: a, b, c r. Refuses with Modulus 3, Lengths 4, Rows 5, Entry 9, AZero 17, AInverse 10, CZero 18, CInverse 11.
 ///
 /// ```
 /// assert_eq!(zahupnik::norms(7, &[1, 2], &[0, 3], &[1, 5])?, [1, 1, 5]);
@@ -101,21 +104,24 @@ pub fn norms(m: u32, a: &[u32], b: &[u32], c: &[u32]) -> Result<Vec<u32>, Refusa
 
 /// Expand by the subproduct tree: the list that [`plain_expand`] gives.
 ///
-/// Lengths: a, b, c r; curve n. Refuses with 3 4 5 6 9 17 10 18 11 12.
+/// Lengths: a, b, c r; curve n. Refuses with Modulus 3, Lengths 4, Rows 5, CurveLength 6, Entry 9, AZero 17, AInverse 10, CZero 18,
+/// CInverse 11, CurveEntry 12.
 pub fn tree_expand(m: u32, a: &[u32], b: &[u32], c: &[u32], curve: &[u32]) -> Result<Vec<u32>, Refusal> {
     written(entries(a.len()), |output| lent::tree_expand(m, a, b, c, curve, output, &mut work()))
 }
 
 /// Adjoint by the subproduct tree: the list that [`plain_adjoint`] gives.
 ///
-/// Lengths: a, b, c r; curve n. Refuses with 3 4 5 6 9 17 10 18 11 12.
+/// Lengths: a, b, c r; curve n. Refuses with Modulus 3, Lengths 4, Rows 5, CurveLength 6, Entry 9, AZero 17, AInverse 10, CZero 18,
+/// CInverse 11, CurveEntry 12.
 pub fn tree_adjoint(m: u32, a: &[u32], b: &[u32], c: &[u32], curve: &[u32]) -> Result<Vec<u32>, Refusal> {
     written(entries(a.len()), |output| lent::tree_adjoint(m, a, b, c, curve, output, &mut work()))
 }
 
 /// Decompose by the subproduct tree: the list that [`plain_decompose`] gives.
 ///
-/// Lengths: a, b, c r; coefficients n. Refuses with 3 4 5 6 9 17 10 18 11 12.
+/// Lengths: a, b, c r; coefficients n. Refuses with Modulus 3, Lengths 4, Rows 5, CurveLength 6, Entry 9, AZero 17, AInverse 10, CZero 18,
+/// CInverse 11, CurveEntry 12.
 pub fn tree_decompose(m: u32, a: &[u32], b: &[u32], c: &[u32], coefficients: &[u32]) -> Result<Vec<u32>, Refusal> {
     written(entries(a.len()), |output| lent::tree_decompose(m, a, b, c, coefficients, output, &mut work()))
 }
@@ -126,7 +132,7 @@ pub fn tree_decompose(m: u32, a: &[u32], b: &[u32], c: &[u32], coefficients: &[u
 /// The product law: if Expand turns the curves u and v into s and t, then modulo m the sum over k of the moment at k times the coefficient of
 /// x^k in the product of s and t is the sum over i of u\[i\] v\[i\] d\[i\], where d is what [`norms`] gives.
 ///
-/// Lengths: a, b, c r. Refuses with 3 4 5 9 17 10 18 11.
+/// Lengths: a, b, c r. Refuses with Modulus 3, Lengths 4, Rows 5, Entry 9, AZero 17, AInverse 10, CZero 18, CInverse 11.
 ///
 /// ```
 /// assert_eq!(zahupnik::moments(7, &[1, 2], &[0, 3], &[1, 5])?, [1, 0, 1, 2, 1]);
@@ -143,7 +149,8 @@ pub fn moments(m: u32, a: &[u32], b: &[u32], c: &[u32]) -> Result<Vec<u32>, Refu
 /// decimal, without a leading zero (0 itself excepted), at most 4294967295. Nothing else may follow. An answer text is two lines: `op=` and the
 /// operation; `out=` and the result.
 ///
-/// Length: text [`MOST_TEXT`] or less. Refuses with 1 2 3 4 5 6 9 17 10 18 11 12.
+/// Length: text [`MOST_TEXT`] or less. Refuses with TextTooLong 1, TextForm 2, Modulus 3, Lengths 4, Rows 5, CurveLength 6, Entry 9, AZero
+/// 17, AInverse 10, CZero 18, CInverse 11, CurveEntry 12.
 ///
 /// ```
 /// let answer = zahupnik::convert_text(b"mod=7\na=1 2\nb=0 3\nc=1 5\nop=expand\nv=3 0 1\n")?;
@@ -160,7 +167,8 @@ pub fn convert_text(text: &[u8]) -> Result<Vec<u8>, Refusal> {
 /// [`convert_text`] takes. A job that is written is carried out: `convert_text` finishes on it, with that operation's result on these very
 /// lists.
 ///
-/// Lengths: a, b, c r; curve n, and 0 for moments and norms. Refuses with 3 4 5 6 9 17 10 18 11 12.
+/// Lengths: a, b, c r; curve n, and 0 for moments and norms. Refuses with Modulus 3, Lengths 4, Rows 5, CurveLength 6, Entry 9, AZero 17,
+/// AInverse 10, CZero 18, CInverse 11, CurveEntry 12.
 ///
 /// ```
 /// use zahupnik::{write_job, Operation};
@@ -177,7 +185,8 @@ pub fn write_job(m: u32, a: &[u32], b: &[u32], c: &[u32], operation: Operation, 
 /// Join: at i the joined value of `first[i]` modulo m1 and `second[i]` modulo m2, the one whole number v that leaves these remainders and
 /// has 2 v greater than -(m1 m2) and at most m1 m2.
 ///
-/// Lengths: first and second the same, any. Refuses with 3 3 19 20 12 12: 3 of m1 and then of m2, 12 of first, all of it, and then of second.
+/// Lengths: first and second the same, any. Refuses with Modulus 3, Modulus 3, SharedFactor 19, Remainders 20, CurveEntry 12, CurveEntry
+/// 12: 3 of m1 and then of m2, 12 of first, all of it, and then of second.
 ///
 /// ```
 /// assert_eq!(zahupnik::join(101, 103, &[95, 18, 92, 1], &[97, 18, 94, 1])?, [-6, 18, -9, 1]);
@@ -192,8 +201,9 @@ pub fn join(m1: u32, m2: u32, first: &[u32], second: &[u32]) -> Result<Vec<i64>,
 /// numbers, is in the range that [`join`] says, it is that coefficient; where it is not, it differs from it by a multiple of m1 m2, and
 /// nothing says so.
 ///
-/// Lengths: a, b, c r; curve n. Refuses with 3 3 19 4 5 6 17 10 17 10 18 11 18 11: 3 of m1 and then of m2; 17 and 10 of the remainders
-/// modulo m1 and then modulo m2, and likewise 18 and 11.
+/// Lengths: a, b, c r; curve n. Refuses with Modulus 3, Modulus 3, SharedFactor 19, Lengths 4, Rows 5, CurveLength 6, AZero 17, AInverse
+/// 10, AZero 17, AInverse 10, CZero 18, CInverse 11, CZero 18, CInverse 11: 3 of m1 and then of m2; 17 and 10 of the remainders modulo m1
+/// and then modulo m2, and likewise 18 and 11.
 ///
 /// ```
 /// let powers = zahupnik::expand_join(101, 103, &[-1, -1, -1], &[1, 3, 5], &[0, -1, -4], &[0, 0, 0, 1])?;
@@ -206,7 +216,7 @@ pub fn expand_join(m1: u32, m2: u32, a: &[i32], b: &[i32], c: &[i32], curve: &[i
 
 /// Even first: the entries of a list at even indices rising, then those at odd indices rising. [`even_back`] makes the list again.
 ///
-/// Length: list at most [`MOST_ENTRIES`], 0 too. Refuses with 5.
+/// Length: list at most [`MOST_ENTRIES`], 0 too. Refuses with Rows 5.
 ///
 /// ```
 /// let stored = zahupnik::even_first(&[10, 11, 12, 13, 14])?;
@@ -220,7 +230,7 @@ pub fn even_first(list: &[u32]) -> Result<Vec<u32>, Refusal> {
 
 /// Even back: of what [`even_first`] gave, the list again; and `even_first` undoes it likewise.
 ///
-/// Length: list at most [`MOST_ENTRIES`], 0 too. Refuses with 5.
+/// Length: list at most [`MOST_ENTRIES`], 0 too. Refuses with Rows 5.
 pub fn even_back(list: &[u32]) -> Result<Vec<u32>, Refusal> {
     written(list.len().min(MOST_ENTRIES), |output| lent::even_back(list, output))
 }

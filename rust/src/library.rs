@@ -29,6 +29,7 @@ const _: () = assert!(std::mem::size_of::<usize>() == 8, "size_t has 64 bits on 
 
 #[rustfmt::skip]
 extern "C" {
+    pub fn zahupnik_version() -> u32;
     pub fn zahupnik_invert(m: u32, x: u32, inverse: *mut u32, factor: *mut u32) -> u32;
     pub fn zahupnik_plain_expand(m: u32, a: *const u32, a_length: usize, b: *const u32, b_length: usize,
                                  c: *const u32, c_length: usize, curve: *const u32, curve_length: usize,

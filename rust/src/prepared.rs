@@ -40,14 +40,15 @@ impl Prepared {
     /// How many bytes a record has.
     pub const BYTES: usize = size_of::<Record>();
 
-    /// The family without rows. Refuses with 3.
+    /// The family without rows. Refuses with Modulus 3.
     pub fn empty(m: u32) -> Result<Self, Refusal> {
         lent::prepared_empty(m)
     }
 
     /// The family of these rows: the empty one with each row appended.
     ///
-    /// Lengths: a, b, c the same, [`MOST_ROWS`] or less. Refuses as [`norms`](crate::norms) does, with 3 4 5 9 17 10 18 11.
+    /// Lengths: a, b, c the same, [`MOST_ROWS`] or less. Refuses as [`norms`](crate::norms) does, with Modulus 3, Lengths 4, Rows 5, Entry
+    /// 9, AZero 17, AInverse 10, CZero 18, CInverse 11.
     ///
     /// ```
     /// use zahupnik::Prepared;
@@ -60,19 +61,19 @@ impl Prepared {
         rows.fold(Self::empty(m), |family, ((&a, &b), &c)| family?.append(a, b, c))
     }
 
-    /// The family with the row a, b, c behind its last. Refuses with 14 5 9 17 10 18 11; 5 and those after it are of the new row, and 18
-    /// and 11 pass over it where it is row 1.
+    /// The family with the row a, b, c behind its last. Refuses with Record 14, Rows 5, Entry 9, AZero 17, AInverse 10, CZero 18, CInverse
+    /// 11; 5 and those after it are of the new row, and 18 and 11 pass over it where it is row 1.
     pub fn append(&self, a: u32, b: u32, c: u32) -> Result<Self, Refusal> {
         lent::prepared_append(self, a, b, c)
     }
 
-    /// The family without its last row. After an append it is the family before it. Refuses with 14 15.
+    /// The family without its last row. After an append it is the family before it. Refuses with Record 14, NoRows 15.
     pub fn drop_last(&self) -> Result<Self, Refusal> {
         lent::prepared_drop_last(self)
     }
 
-    /// The family with a, b, c in the place of a row, counted from 1. Refuses with 14 16 9 17 10 18 11; 9 and those after it are of the
-    /// new row, and 18 and 11 pass over it where it is row 1.
+    /// The family with a, b, c in the place of a row, counted from 1. Refuses with Record 14, AbsentRow 16, Entry 9, AZero 17, AInverse 10,
+    /// CZero 18, CInverse 11; 9 and those after it are of the new row, and 18 and 11 pass over it where it is row 1.
     pub fn replace(&self, row: u32, a: u32, b: u32, c: u32) -> Result<Self, Refusal> {
         lent::prepared_replace(self, row, a, b, c)
     }
@@ -113,42 +114,44 @@ impl Prepared {
         MOST_ROWS.min(self.record.rows as usize)
     }
 
-    /// [`plain_expand`](crate::plain_expand) on this family. Length: curve n. Refuses with 14 6 12.
+    /// [`plain_expand`](crate::plain_expand) on this family. Length: curve n. Refuses with Record 14, CurveLength 6, CurveEntry 12.
     pub fn plain_expand(&self, curve: &[u32]) -> Result<Vec<u32>, Refusal> {
         written(entries(self.held()), |output| lent::prepared_plain_expand(self, curve, output))
     }
 
-    /// [`plain_adjoint`](crate::plain_adjoint) on this family. Length: curve n. Refuses with 14 6 12.
+    /// [`plain_adjoint`](crate::plain_adjoint) on this family. Length: curve n. Refuses with Record 14, CurveLength 6, CurveEntry 12.
     pub fn plain_adjoint(&self, curve: &[u32]) -> Result<Vec<u32>, Refusal> {
         written(entries(self.held()), |output| lent::prepared_plain_adjoint(self, curve, output))
     }
 
-    /// [`plain_decompose`](crate::plain_decompose) on this family. Length: coefficients n. Refuses with 14 6 12.
+    /// [`plain_decompose`](crate::plain_decompose) on this family. Length: coefficients n. Refuses with Record 14, CurveLength 6,
+    /// CurveEntry 12.
     pub fn plain_decompose(&self, coefficients: &[u32]) -> Result<Vec<u32>, Refusal> {
         written(entries(self.held()), |output| lent::prepared_plain_decompose(self, coefficients, output))
     }
 
-    /// [`norms`](crate::norms) of this family. Refuses with 14.
+    /// [`norms`](crate::norms) of this family. Refuses with Record 14.
     pub fn norms(&self) -> Result<Vec<u32>, Refusal> {
         written(entries(self.held()), |output| lent::prepared_norms(self, output))
     }
 
-    /// [`tree_expand`](crate::tree_expand) on this family. Length: curve n. Refuses with 14 6 12.
+    /// [`tree_expand`](crate::tree_expand) on this family. Length: curve n. Refuses with Record 14, CurveLength 6, CurveEntry 12.
     pub fn tree_expand(&self, curve: &[u32]) -> Result<Vec<u32>, Refusal> {
         written(entries(self.held()), |output| lent::prepared_tree_expand(self, curve, output, &mut work()))
     }
 
-    /// [`tree_adjoint`](crate::tree_adjoint) on this family. Length: curve n. Refuses with 14 6 12.
+    /// [`tree_adjoint`](crate::tree_adjoint) on this family. Length: curve n. Refuses with Record 14, CurveLength 6, CurveEntry 12.
     pub fn tree_adjoint(&self, curve: &[u32]) -> Result<Vec<u32>, Refusal> {
         written(entries(self.held()), |output| lent::prepared_tree_adjoint(self, curve, output, &mut work()))
     }
 
-    /// [`tree_decompose`](crate::tree_decompose) on this family. Length: coefficients n. Refuses with 14 6 12.
+    /// [`tree_decompose`](crate::tree_decompose) on this family. Length: coefficients n. Refuses with Record 14, CurveLength 6, CurveEntry
+    /// 12.
     pub fn tree_decompose(&self, coefficients: &[u32]) -> Result<Vec<u32>, Refusal> {
         written(entries(self.held()), |output| lent::prepared_tree_decompose(self, coefficients, output, &mut work()))
     }
 
-    /// [`moments`](crate::moments) of this family. Refuses with 14.
+    /// [`moments`](crate::moments) of this family. Refuses with Record 14.
     pub fn moments(&self) -> Result<Vec<u32>, Refusal> {
         written(moment_entries(self.held()), |output| lent::prepared_moments(self, output, &mut work()))
     }

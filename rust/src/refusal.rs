@@ -54,62 +54,62 @@ macro_rules! refusals {
     };
 }
 
-const UNKNOWN: &str = "a number that this crate has no words for: take the crate that came with the library";
+const UNKNOWN: &str = "no call answers with this number: look where it came from";
 
 refusals! {
     /// The job text has more than [`MOST_TEXT`](crate::MOST_TEXT) bytes.
-    1 TextTooLong "the job text is too long";
+    1 TextTooLong "the text has more than 8192 bytes: send a shorter one";
     /// The job text is not of the form; or no job text has this operation.
-    2 TextForm "the form";
+    2 TextForm "the text is not of its form, or a number names no operation: write it as its form is, or name one of the five operations";
     /// m, or m1 or m2, is below 2 or above [`GREATEST_MODULUS`](crate::GREATEST_MODULUS).
-    3 Modulus "m";
+    3 Modulus "a channel number is below 2 or above 2147483647: choose another";
     /// The lists a, b and c are not equally long.
-    4 Lengths "lengths";
+    4 Lengths "a, b and c are not equally long: give each of them one number for every row";
     /// There are more than [`MOST_ROWS`](crate::MOST_ROWS) rows, or an append would make them; or a list that is to change its order has
     /// more than [`MOST_ENTRIES`](crate::MOST_ENTRIES) numbers.
-    5 Rows "rows";
+    5 Rows "there are more than 127 rows, or more than 128 numbers in a list to be ordered: use a shorter family, or list";
     /// The curve, or the list of coefficients, is not n long; or not empty in a job for moments or norms.
-    6 CurveLength "curve length";
+    6 CurveLength "the curve is too short or too long: give one number more than there are rows, or none for moments and norms";
     /// The output is not as long as the result; or too short for an answer text or a job text. Only a call of [`lent`](crate::lent) meets
     /// this: elsewhere the crate makes the output.
-    7 OutputLength "output";
+    7 OutputLength "the output is not as long as the result, or has too little room for a text: lend one of the length that the header states";
     /// The working list is shorter than [`LEAST_WORK`](crate::LEAST_WORK). Only a call of [`lent`](crate::lent) meets this.
-    8 WorkTooShort "work";
+    8 WorkTooShort "the working list has fewer than 16384 numbers: lend a longer one";
     /// An entry of a, b or c is not below m.
-    9 Entry "entry";
+    9 Entry "a number of a, b or c is not below the channel number: correct it, or reduce the family";
     /// Some a has no inverse modulo m: that of the lowest such row is not zero, and shares a factor with m.
-    10 AInverse "a";
+    10 AInverse "a number of a shares a factor with the channel number: choose one without that factor, or correct the family";
     /// Some c from row 2 on has no inverse modulo m: that of the lowest such row is not zero, and shares a factor with m.
-    11 CInverse "c";
+    11 CInverse "a number of c, from row 2 on, shares a factor with the channel number: choose one without that factor, or correct the family";
     /// A curve entry, a coefficient, a remainder to join or the number to invert is not below its m.
-    12 CurveEntry "curve entry";
+    12 CurveEntry "a number of the curve, to be joined or to be inverted is not below the channel number: correct it, or reduce it";
     /// The number to invert has no inverse modulo m.
     13 NoInverse {
         /// The greatest common factor of the number and m: m where the number is zero, above 1 and below m where it is not.
         factor
-    } "no inverse";
+    } "the number has no inverse: the factor that comes with it says why, the channel number itself for zero";
     /// The prepared family is not the record of its own rows, or these are not accepted.
-    14 Record "record";
+    14 Record "the prepared family is not the record of its own rows, or these are not accepted: make it anew from its rows";
     /// There is no row to drop.
-    15 NoRows "no rows";
+    15 NoRows "there is no row to drop: drop no more rows than were appended";
     /// There is no such row to replace.
-    16 AbsentRow "absent row";
+    16 AbsentRow "there is no such row to replace: name one from 1 to the number of rows";
     /// Some a has no inverse modulo m: that of the lowest such row is zero; of [`expand_join`](crate::expand_join), it leaves zero.
-    17 AZero "a zero";
+    17 AZero "a number of a is zero, or leaves zero, and is the first of them without an inverse: correct the family";
     /// Some c from row 2 on has no inverse modulo m: that of the lowest such row is zero; of [`expand_join`](crate::expand_join), it
     /// leaves zero.
-    18 CZero "c zero";
+    18 CZero "a number of c, from row 2 on, is zero, or leaves zero, and is the first of them without an inverse: correct the family";
     /// m1 and m2 share a factor greater than 1.
-    19 SharedFactor "shared";
+    19 SharedFactor "the two channel numbers share a factor: choose another one of them";
     /// The two lists of remainders are not equally long.
-    20 Remainders "remainders";
+    20 Remainders "the two lists of remainders are not equally long: lend as many of the one as of the other";
 }
 
 impl fmt::Display for Refusal {
     fn fmt(&self, f: &mut fmt::Formatter<'_>) -> fmt::Result {
         match self {
-            Self::NoInverse { factor: 1.. } => write!(f, "{}", self.words()),
-            Self::Unknown(number) => write!(f, "{number}: {}", self.words()),
+            Self::NoInverse { factor: factor @ 1.. } => write!(f, "{} (the factor is {factor})", self.words()),
+            Self::Unknown(number) => write!(f, "{} (the number is {number})", self.words()),
             _ => f.write_str(self.words()),
         }
     }
