@@ -1,10 +1,12 @@
 //! Finds libzahupnik.a and has it linked into the crate, or says where it looked and what to do.
 //!
-//! Looked for, and the first that is there is taken:
-//!   1. ZAHUPNIK_LIB_DIR, a folder; where it is set, nowhere else;
-//!   2. ../../../lib, where the crate stands in an archive or an installation as share/zahupnik/rust;
-//!   3. ../target/staticlib, where it stands in the repository and `rt staticlib zahupnik` has built;
-//!   4. the libdir that pkg-config (or the command that PKG_CONFIG names) has for zahupnik, of this crate's major version.
+//! Looked for in these places, and the first that has it is taken:
+//!
+//! 1. ZAHUPNIK_LIB_DIR, a folder; where it is set, nowhere else;
+//! 2. ../../../lib, where the crate stands in an archive or an installation as share/zahupnik/rust;
+//! 3. ../target/staticlib, where it stands in the repository and `rt staticlib zahupnik` has built;
+//! 4. the libdir that pkg-config, or the command that PKG_CONFIG names, has for zahupnik of the crate's major version.
+//!
 //! What came with the crate goes before what is installed, so that a crate is not run on the library of another version.
 
 use std::env;
@@ -71,15 +73,14 @@ fn holds_library(folder: &Path) -> bool {
 fn ask_pkg_config() -> Result<PathBuf, String> {
     let command = env::var_os("PKG_CONFIG").unwrap_or_else(|| "pkg-config".into());
     let shown = command.to_string_lossy().into_owned();
+    let ask = |words: &[&str]| Command::new(&command).args(words).output().map_err(|error| format!("{shown}: {error}"));
     let major: u32 = told("CARGO_PKG_VERSION_MAJOR").parse().unwrap_or_default();
-    let (wanted, below) = (format!("zahupnik >= {major}"), format!("zahupnik < {}", major + 1));
-    let asked = Command::new(command).args(["--variable=libdir", &wanted, &below]).output();
-    let answer = asked.map_err(|error| format!("{shown}: {error}"))?;
-    let folder = String::from_utf8_lossy(&answer.stdout).trim().to_string();
-    if answer.status.success() && !folder.is_empty() {
-        return Ok(PathBuf::from(folder));
+    if !ask(&["--exists", &format!("zahupnik >= {major} zahupnik < {}", major + 1)])?.status.success() {
+        return Err(format!("{shown} knows no zahupnik of version {major}"));
     }
-    Err(format!("{shown} knows no zahupnik of version {major}"))
+    let folder = ask(&["--variable=libdir", "zahupnik"])?.stdout;
+    // some versions of the command put a backslash before a space
+    Ok(PathBuf::from(String::from_utf8_lossy(&folder).trim().replace("\\ ", " ")))
 }
 
 fn not_found(beside: &[PathBuf], asked: Result<PathBuf, String>) -> String {

@@ -1,6 +1,6 @@
 //! The C functions one to one: what a call writes is lent to it as slices, and nothing is allocated.
 //!
-//! Each does what the call of the same name in the [crate](crate) does, which is written over it, and [`Prepared`]'s methods likewise
+//! Each does what the call of the same name in the [crate] does, which is written over it, and [`Prepared`]'s methods likewise
 //! over those with `prepared_`. A list must have the length that the function's line states, or it refuses with
 //! [`Refusal::OutputLength`], or [`Refusal::WorkTooShort`] for a working list below [`LEAST_WORK`](crate::LEAST_WORK). A refusal leaves
 //! output and working list as they were. After a call that finished, the first `LEAST_WORK` numbers of the working list are zero.
@@ -97,28 +97,12 @@ pub fn norms(m: u32, a: &[u32], b: &[u32], c: &[u32], output: &mut [u32]) -> Res
 }
 
 /// Lengths: a, b, c r; curve n; output n; work `LEAST_WORK` or more. See [`crate::tree_expand`].
-pub fn tree_expand(
-    m: u32,
-    a: &[u32],
-    b: &[u32],
-    c: &[u32],
-    curve: &[u32],
-    output: &mut [u32],
-    work: &mut [u32],
-) -> Result<(), Refusal> {
+pub fn tree_expand(m: u32, a: &[u32], b: &[u32], c: &[u32], curve: &[u32], output: &mut [u32], work: &mut [u32]) -> Result<(), Refusal> {
     call!(zahupnik_tree_expand(m; a, b, c, curve; output, work))
 }
 
 /// Lengths: a, b, c r; curve n; output n; work `LEAST_WORK` or more. See [`crate::tree_adjoint`].
-pub fn tree_adjoint(
-    m: u32,
-    a: &[u32],
-    b: &[u32],
-    c: &[u32],
-    curve: &[u32],
-    output: &mut [u32],
-    work: &mut [u32],
-) -> Result<(), Refusal> {
+pub fn tree_adjoint(m: u32, a: &[u32], b: &[u32], c: &[u32], curve: &[u32], output: &mut [u32], work: &mut [u32]) -> Result<(), Refusal> {
     call!(zahupnik_tree_adjoint(m; a, b, c, curve; output, work))
 }
 
@@ -263,15 +247,7 @@ pub fn join(m1: u32, m2: u32, first: &[u32], second: &[u32], output: &mut [i64])
 }
 
 /// Lengths: a, b, c r; curve n; output n. See [`crate::expand_join`].
-pub fn expand_join(
-    m1: u32,
-    m2: u32,
-    a: &[i32],
-    b: &[i32],
-    c: &[i32],
-    curve: &[i32],
-    output: &mut [i64],
-) -> Result<(), Refusal> {
+pub fn expand_join(m1: u32, m2: u32, a: &[i32], b: &[i32], c: &[i32], curve: &[i32], output: &mut [i64]) -> Result<(), Refusal> {
     call!(zahupnik_expand_join(m1, m2; a, b, c, curve; output))
 }
 

@@ -5,17 +5,8 @@ use crate::vectors::{expect, expect_same, number, run, Checked, Line};
 use zahupnik::{lent, Prepared, Refusal};
 
 /// The functions by their numbers in the vectors, from 1.
-const FUNCTIONS: [&str; 9] = [
-    "plain_expand",
-    "plain_adjoint",
-    "plain_decompose",
-    "norms",
-    "invert",
-    "tree_expand",
-    "tree_adjoint",
-    "tree_decompose",
-    "moments",
-];
+const FUNCTIONS: [&str; 9] =
+    ["plain_expand", "plain_adjoint", "plain_decompose", "norms", "invert", "tree_expand", "tree_adjoint", "tree_decompose", "moments"];
 
 fn invert(m: u32, x: u32, wanted: &mut Line) -> Checked<u32> {
     let answer = zahupnik::invert(m, x);

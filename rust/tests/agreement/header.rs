@@ -101,8 +101,7 @@ fn fields(code: &str, name: &str) -> Vec<String> {
     let members = body.split(';').map(squeezed).filter(|member| !member.is_empty());
     members
         .flat_map(|member| {
-            let at = member.find(|letter| letter == ' ').expect("a type and names");
-            let at = if member.starts_with("struct ") { member.rfind(' ').expect("a name") } else { at };
+            let at = if member.starts_with("struct ") { member.rfind(' ') } else { member.find(' ') }.expect("a type and names");
             let kind = rust_type(&member[..at]);
             let field = |field: &str| match field.trim().split_once('[') {
                 None => format!("pub {}: {kind}", field.trim()),

@@ -5,16 +5,8 @@ use crate::vectors::{expect, expect_same, number, run, Checked, Line};
 use zahupnik::{lent, Prepared, Refusal, MOST_ENTRIES, MOST_ROWS};
 
 const CHANGES: [&str; 4] = ["empty", "append", "drop_last", "replace"];
-const OPERATIONS: [&str; 8] = [
-    "plain_expand",
-    "plain_adjoint",
-    "plain_decompose",
-    "norms",
-    "tree_expand",
-    "tree_adjoint",
-    "tree_decompose",
-    "moments",
-];
+const OPERATIONS: [&str; 8] =
+    ["plain_expand", "plain_adjoint", "plain_decompose", "norms", "tree_expand", "tree_adjoint", "tree_decompose", "moments"];
 
 /// The record of 765 numbers.
 fn record_of(numbers: &[u32]) -> Checked<Prepared> {

@@ -113,7 +113,9 @@ pub fn run(name: &str, functions: &[&str], mut case: impl FnMut(&mut Line, &mut 
         match ran {
             Ok(Some((function, answer))) => drop(met.entry(function).or_default().insert(answer)),
             Ok(None) => {}
-            Err(why) => panic!("{name}, case {}: {why}\n case {}\n wanted {}", index + 1, shortened(given), shortened(wanted)),
+            Err(why) => {
+                panic!("{name}, case {}: {}\n case {}\n wanted {}", index + 1, shortened(&why), shortened(given), shortened(wanted))
+            }
         }
     }
     if let Some(mut listed) = header::answers() {

@@ -30,8 +30,8 @@ fn case(given: &mut Line, wanted: &mut Line) -> Checked<Option<(String, u32)>> {
             Operation::Moments => zahupnik::moments(m, &a, &b, &c),
             Operation::Norms => zahupnik::norms(m, &a, &b, &c),
         };
-        let carried_out = result.map(|result| answer_text(operation, &result).into_bytes());
-        expect("what the text call answers", zahupnik::convert_text(&text), carried_out)?;
+        let carried_out = zahupnik::convert_text(&text).map(|answer| String::from_utf8_lossy(&answer).into_owned());
+        expect("what the text call answers", carried_out, result.map(|result| answer_text(operation, &result)))?;
     }
     Ok(Some(("write_job".into(), number(&answer))))
 }
