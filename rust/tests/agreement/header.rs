@@ -77,7 +77,10 @@ fn rust_parameter(c: &str) -> String {
 
 #[test]
 fn declarations_are_those_of_the_header() {
-    let Some(header) = read("zahupnik.h") else { return };
+    let header = match read("zahupnik.h") {
+        Some(header) => header,
+        None => return,
+    };
     let wanted: Vec<String> = functions(&without_comments(&header))
         .iter()
         .map(|(returned, name, parameters)| {
@@ -114,7 +117,10 @@ fn fields(code: &str, name: &str) -> Vec<String> {
 
 #[test]
 fn records_have_the_fields_of_the_header() {
-    let Some(header) = read("zahupnik.h") else { return };
+    let header = match read("zahupnik.h") {
+        Some(header) => header,
+        None => return,
+    };
     let header = without_comments(&header);
     for (c, rust) in [("zahupnik_prepared", "Record"), ("zahupnik_change", "Change")] {
         let (_, after) = LIBRARY.split_once(&format!("pub struct {rust} {{")).expect("the struct");
@@ -151,7 +157,10 @@ fn rust_name(refusal: Refusal) -> String {
 
 #[test]
 fn numbers_and_names_are_those_of_the_header() {
-    let Some(header) = read("zahupnik.h") else { return };
+    let header = match read("zahupnik.h") {
+        Some(header) => header,
+        None => return,
+    };
     let mut wanted = defined(&header);
     let version = ["VERSION_MAJOR", "VERSION_MINOR", "VERSION_PATCH"].map(|part| wanted.remove(part).expect("the version"));
     let crate_version = ["MAJOR", "MINOR", "PATCH"].iter().zip([
@@ -189,7 +198,10 @@ fn refusals() -> Vec<Refusal> {
 
 #[test]
 fn words_are_those_of_the_header() {
-    let (Some(header), Some(words)) = (read("zahupnik.h"), read("zahupnik_refusal.h")) else { return };
+    let (header, words) = match (read("zahupnik.h"), read("zahupnik_refusal.h")) {
+        (Some(header), Some(words)) => (header, words),
+        _ => return,
+    };
     let words = without_comments(&words);
     let said = |case: &str| {
         let (_, after) = words.split_once(case).unwrap_or_else(|| panic!("no words in the header for {case}"));

@@ -95,9 +95,11 @@ fn shortened(line: &str) -> String {
 /// Runs a case for each line of NAME.in and NAME.out, which says the function and the number that it answered with. Every answer that the
 /// header lists for these functions has to be met, and no other.
 pub fn run(name: &str, functions: &[&str], mut case: impl FnMut(&mut Line, &mut Line) -> Checked<Option<(String, u32)>>) {
-    let Some(folder) = folder() else {
-        note(&format!("{name}: note: no ../tests/vectors here and ZAHUPNIK_VECTORS is not set, so these vectors were left out"));
-        return;
+    let folder = match folder() {
+        Some(folder) => folder,
+        None => {
+            return note(&format!("{name}: note: no ../tests/vectors here and ZAHUPNIK_VECTORS is not set, so these vectors were left out"))
+        }
     };
     let read = |ending: &str| {
         let path = folder.join(format!("{name}.{ending}"));
