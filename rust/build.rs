@@ -44,13 +44,13 @@ fn expect_machine() -> Result<(), String> {
 
 /// The folder that has the library.
 fn find() -> Result<PathBuf, String> {
-    if let Some(folder) = env::var_os("ZAHUPNIK_LIB_DIR") {
+    if let Some(folder) = env::var_os("ZAHUPNIK_LIB_DIR").filter(|folder| !folder.is_empty()) {
         let folder = PathBuf::from(folder);
         if holds_library(&folder) {
             return Ok(folder);
         }
         return Err(format!(
-            "ZAHUPNIK_LIB_DIR is '{}', and there is no {FILE} there: set it to the folder that has {FILE}, or unset it",
+            "ZAHUPNIK_LIB_DIR is '{}', and there is no {FILE} there: set it to the whole path of the folder that has {FILE}, or unset it",
             folder.display()
         ));
     }

@@ -28,7 +28,7 @@ fn answer(number: u32) -> Result<(), Refusal> {
 
 /// What a change's number and record say.
 fn changed(change: Change) -> Result<Prepared, Refusal> {
-    answer(change.answer).map(|()| Prepared::from(change.family))
+    answer(change.answer).map(|()| Prepared { record: change.family })
 }
 
 /// Calls a function of the library on numbers or a record, then on lists that it reads, then on lists that it writes.

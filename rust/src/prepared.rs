@@ -30,12 +30,6 @@ pub struct Prepared {
     pub(crate) record: Record,
 }
 
-impl From<Record> for Prepared {
-    fn from(record: Record) -> Self {
-        Self { record }
-    }
-}
-
 impl Prepared {
     /// How many bytes a record has.
     pub const BYTES: usize = size_of::<Record>();
