@@ -129,8 +129,8 @@ pub fn tree_decompose(m: u32, a: &[u32], b: &[u32], c: &[u32], coefficients: &[u
 /// Moments: at k the coefficient of x^k in the power series rev(G_{n-1}, n) / rev(F_n, n + 1), for k from 0 to 2n - 2, where
 /// rev(P, k) = x^(k-1) P(1/x), row n, the closing row, is 1 1 1, and G is F begun with row 2.
 ///
-/// The product law: if Expand turns the curves u and v into s and t, then modulo m the sum over k of the moment at k times the coefficient of
-/// x^k in the product of s and t is the sum over i of u\[i\] v\[i\] d\[i\], where d is what [`norms`] gives.
+/// The product law: if Expand turns the curves u and v into s and t, then modulo m the sum over k of the moment at k times the coefficient
+/// of x^k in the product of s and t is the sum over i of u\[i\] v\[i\] d\[i\], where d is what [`norms`] gives.
 ///
 /// Lengths: a, b, c r. Refuses with Modulus 3, Lengths 4, Rows 5, Entry 9, AZero 17, AInverse 10, CZero 18, CInverse 11.
 ///
@@ -146,8 +146,8 @@ pub fn moments(m: u32, a: &[u32], b: &[u32], c: &[u32]) -> Result<Vec<u32>, Refu
 ///
 /// A job text is six lines, each ended by byte 10: `mod=` and m; `a=`, `b=` and `c=` with the rows; `op=` and the operation's
 /// [word](Operation::word); `v=` with the curve, which is empty for moments and norms. Between two numbers stands one space. A number is
-/// decimal, without a leading zero (0 itself excepted), at most 4294967295. Nothing else may follow. An answer text is two lines: `op=` and the
-/// operation; `out=` and the result.
+/// decimal, without a leading zero (0 itself excepted), at most 4294967295. Nothing else may follow. An answer text is two lines: `op=` and
+/// the operation; `out=` and the result.
 ///
 /// Length: text [`MOST_TEXT`] or less. Refuses with TextTooLong 1, TextForm 2, Modulus 3, Lengths 4, Rows 5, CurveLength 6, Entry 9, AZero
 /// 17, AInverse 10, CZero 18, CInverse 11, CurveEntry 12.

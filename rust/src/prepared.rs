@@ -9,8 +9,8 @@ use std::mem::size_of;
 /// A prepared family: the rows with their inverses and the norms, worked out once.
 ///
 /// It is a record of 3,060 bytes without a pointer, which may be stored and sent ([`to_bytes`](Self::to_bytes)). Nobody is trusted with it:
-/// any bytes are a value of this type ([`from_bytes`](Self::from_bytes)), every call tests all of it, and refuses with [`Refusal::Record`] one
-/// that is not the record of its own rows. That is no checksum: a record that was changed into the right one of another family is taken.
+/// any bytes are a value of this type ([`from_bytes`](Self::from_bytes)), every call tests all of it, and refuses with [`Refusal::Record`]
+/// one that is not the record of its own rows. That is no checksum: a record that was changed into the right one of another family is taken.
 ///
 /// A change gives the record of the changed family, and the old one stays as it is. With the old row put back it is the old record.
 ///
@@ -87,8 +87,8 @@ impl Prepared {
         self.record.rows
     }
 
-    /// The a of the rows, row i at index i - 1. A record that is not right may state any count of rows: of such a one as many are given as it
-    /// has room for.
+    /// The a of the rows, row i at index i - 1. A record that is not right may state any count of rows: of such a one as many are given as
+    /// it has room for.
     pub fn a(&self) -> &[u32] {
         &self.record.a[..self.held()]
     }
@@ -150,8 +150,8 @@ impl Prepared {
         written(moment_entries(self.held()), |output| lent::prepared_moments(self, output, &mut work()))
     }
 
-    /// The bytes of the record, as C has them: numbers of 32 bits in this machine's byte order, m, r, a, b, c, the inverses of a and of c, and
-    /// the norms.
+    /// The bytes of the record, as C has them: numbers of 32 bits in this machine's byte order, m, r, a, b, c, the inverses of a and of c,
+    /// and the norms.
     pub fn to_bytes(&self) -> [u8; Self::BYTES] {
         let Record { modulus, rows, a, b, c, a_inverses, c_inverses, norms } = &self.record;
         let lists = a.iter().chain(b).chain(c).chain(a_inverses).chain(c_inverses).chain(norms);
