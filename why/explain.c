@@ -85,9 +85,9 @@ uint32_t explain(FILE *out, const struct input *input) {
         fprintf(out, "accepted: ");
     else
         fprintf(out, "refused=%" PRIu32 ": %s\n", number, zahupnik_refusal(number));
-    if (number == ZAHUPNIK_TEXT_TOO_LONG)
+    if (number == ZAHUPNIK_REFUSED_TEXT_TOO_LONG)
         print_length(out, input);
-    else if (number == ZAHUPNIK_TEXT_FORM) {
+    else if (number == ZAHUPNIK_REFUSED_TEXT_FORM) {
         if (tell_slips(out, input->text, input->length) == 0) fprintf(out, "where it is not of the form this program does not see\n");
     } else if (!read_job(input->text, input->length, &job))
         fprintf(out, "what the job says this program does not see\n");

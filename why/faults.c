@@ -20,7 +20,7 @@ static uint32_t test_modulus(FILE *out, const struct job *job) {
     if (out)
         fprintf(out, "line 1, place %zu: mod is %" PRIu32 "; it is from 2 to %" PRIu32 "\n", job->lines[MOD].places[0], modulus_of(job),
                 ZAHUPNIK_GREATEST_MODULUS);
-    return ZAHUPNIK_MODULUS;
+    return ZAHUPNIK_REFUSED_MODULUS;
 }
 
 static uint32_t test_lengths(FILE *out, const struct job *job) {
@@ -28,14 +28,14 @@ static uint32_t test_lengths(FILE *out, const struct job *job) {
     if (out)
         for (int i = A; i <= C; i++)
             fprintf(out, "line %d: %s has %zu number%s\n", i + 1, keys[i], job->lines[i].length, plural(job->lines[i].length));
-    return ZAHUPNIK_LENGTHS;
+    return ZAHUPNIK_REFUSED_LENGTHS;
 }
 
 static uint32_t test_rows(FILE *out, const struct job *job) {
     size_t rows = job->lines[A].length;
     if (!has_rows(job) || rows <= ZAHUPNIK_MOST_ROWS) return 0;
     if (out) fprintf(out, "lines 2 to 4: there are %zu rows; a family has at most %d\n", rows, ZAHUPNIK_MOST_ROWS);
-    return ZAHUPNIK_ROWS;
+    return ZAHUPNIK_REFUSED_ROWS;
 }
 
 static uint32_t test_curve_length(FILE *out, const struct job *job) {
@@ -44,13 +44,13 @@ static uint32_t test_curve_length(FILE *out, const struct job *job) {
         if (length == 0) return 0;
         if (out)
             fprintf(out, "line 6: v= has %zu number%s; for %s it has none\n", length, plural(length), operations[job->operation]);
-        return ZAHUPNIK_CURVE_LENGTH;
+        return ZAHUPNIK_REFUSED_CURVE_LENGTH;
     }
     if (!has_rows(job) || rows > ZAHUPNIK_MOST_ROWS || length == rows + 1) return 0;
     if (out)
         fprintf(out, "line 6: v= has %zu number%s; with r = %zu row%s it has n = r + 1 = %zu\n", length, plural(length), rows, plural(rows),
                 rows + 1);
-    return ZAHUPNIK_CURVE_LENGTH;
+    return ZAHUPNIK_REFUSED_CURVE_LENGTH;
 }
 
 /* Whether the family needs an inverse of the number in this line and row, counted from 0: c_1 needs none, nor does any b. */
@@ -59,7 +59,7 @@ static int needs_inverse(int line, size_t row) { return line == A || (line == C 
 /* Says after a number why it has no inverse modulo m; says nothing and returns 0 if it has one. */
 static uint32_t without_inverse(FILE *out, uint32_t m, uint32_t number) {
     uint32_t inverse = 0, factor = 0;
-    if (zahupnik_invert(m, number, &inverse, &factor) != ZAHUPNIK_NO_INVERSE) return 0;
+    if (zahupnik_invert(m, number, &inverse, &factor) != ZAHUPNIK_REFUSED_NO_INVERSE) return 0;
     if (out && factor == m) fprintf(out, "zero, and zero has no inverse");
     if (out && factor != m) fprintf(out, "%" PRIu32 ", which shares the factor %" PRIu32 " with m = %" PRIu32, number, factor, m);
     return factor;
@@ -75,7 +75,7 @@ static uint32_t test_entries(FILE *out, const struct job *job) {
         for (int i = A; i <= C; i++) {
             const struct list *list = &job->lines[i];
             if (row >= list->length || list->numbers[row] < m) continue;
-            found = ZAHUPNIK_ENTRY;
+            found = ZAHUPNIK_REFUSED_ENTRY;
             if (!out) return found;
             uint32_t remainder = list->numbers[row] % m;
             fprintf(out, "row %zu: %c is %" PRIu32 ", not below m = %" PRIu32 "; its remainder is ", row + 1, *keys[i], list->numbers[row], m);
@@ -102,10 +102,10 @@ static uint32_t test_inverses(FILE *out, const struct job *job, int line, uint32
     return found;
 }
 static uint32_t test_a_inverses(FILE *out, const struct job *job) {
-    return test_inverses(out, job, A, ZAHUPNIK_A_ZERO, ZAHUPNIK_A_INVERSE);
+    return test_inverses(out, job, A, ZAHUPNIK_REFUSED_A_ZERO, ZAHUPNIK_REFUSED_A_INVERSE);
 }
 static uint32_t test_c_inverses(FILE *out, const struct job *job) {
-    return test_inverses(out, job, C, ZAHUPNIK_C_ZERO, ZAHUPNIK_C_INVERSE);
+    return test_inverses(out, job, C, ZAHUPNIK_REFUSED_C_ZERO, ZAHUPNIK_REFUSED_C_INVERSE);
 }
 
 static uint32_t test_curve_entries(FILE *out, const struct job *job) {
@@ -115,7 +115,7 @@ static uint32_t test_curve_entries(FILE *out, const struct job *job) {
     const char *belongs = job->operation == ZAHUPNIK_EXPAND ? "F_" : "x^";
     for (size_t i = 0; i < curve->length; i++) {
         if (curve->numbers[i] < m) continue;
-        found = ZAHUPNIK_CURVE_ENTRY;
+        found = ZAHUPNIK_REFUSED_CURVE_ENTRY;
         if (!out) return found;
         fprintf(out, "v[%zu], which belongs to %s%zu, is %" PRIu32 ", not below m = %" PRIu32 "; its remainder is %" PRIu32
                 " (line 6, place %zu)\n", i, belongs, i, curve->numbers[i], m, curve->numbers[i] % m, curve->places[i]);
