@@ -117,7 +117,7 @@ static uint32_t test_curve_entries(FILE *out, const struct job *job) {
         if (curve->numbers[i] < m) continue;
         found = ZAHUPNIK_REFUSED_CURVE_ENTRY;
         if (!out) return found;
-        fprintf(out, "v[%zu], which belongs to %s%zu, is %" PRIu32 ", not below m = %" PRIu32 "; its remainder is %" PRIu32
+        fprintf(out, "curve[%zu], which belongs to %s%zu, is %" PRIu32 ", not below m = %" PRIu32 "; its remainder is %" PRIu32
                 " (line 6, place %zu)\n", i, belongs, i, curve->numbers[i], m, curve->numbers[i] % m, curve->places[i]);
     }
     return found;

@@ -70,8 +70,8 @@ static void read_key(const uint8_t *text, struct line *line) {
         line->contents = line->key_end = sign + 1;
     } else {
         line->meant = key_like(text + at, letters - at);
-        line->contents = line->key_end = letters;
-        if (line->meant == LINES) line->contents = line->key_end = at;
+        line->key_end = line->meant < LINES ? letters : at;
+        line->contents = skip_blanks(text, line->key_end, end);
         if (line->meant == LINES && letters - at >= 4 && operation_like(text + at, letters - at) < OPERATIONS) line->meant = OP;
     }
 }

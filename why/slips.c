@@ -2,6 +2,7 @@
  *
  * After a slip it goes on behind it, so that a text full of slips can be mended at once. Every line, its key, its contents and its ending
  * are compared with the form, so a text without a slip is of the form, and a text of the form has none. */
+#include <inttypes.h>
 #include <stdarg.h>
 #include <stdlib.h>
 #include <string.h>
@@ -22,6 +23,7 @@ struct slips {
     const uint8_t *text;
     size_t length, count, room;
     struct slip *slip;
+    uint32_t m; /* the channel number, or 0 if it cannot be read */
 };
 
 static const char *const a_job = "a job of six lines: mod=, a=, b=, c=, op= and v=";
@@ -114,6 +116,15 @@ static size_t skip_word(const struct slips *slips, size_t at, size_t end, int (*
     return at;
 }
 
+/* Reads one or more digits as a number. Returns whether they are a number of 32 bits. */
+static int read_number(const uint8_t *text, size_t start, size_t end, uint32_t *number) {
+    uint64_t value = 0;
+    size_t at = start;
+    for (; at < end && text[at] >= '0' && text[at] <= '9' && value <= UINT32_MAX; at++) value = 10 * value + (text[at] - '0');
+    *number = (uint32_t)value;
+    return start < end && at == end && value <= UINT32_MAX;
+}
+
 /* A word that should be a number. */
 static void check_number(struct slips *slips, const struct line *line, size_t start, size_t end) {
     const uint8_t *text = slips->text;
@@ -124,9 +135,14 @@ static void check_number(struct slips *slips, const struct line *line, size_t st
     if (other < end) {
         uint32_t code = character_at(text, other, end).code;
         name_character(text, other, end, sign);
-        if (other == start && (code == '-' || code == 0x2212))
-            note(slips, line, other, end - other, "a number from 0 on: for -1 write m - 1, worked out", "%s in %s", sign, word);
-        else if (other == start && code == '+')
+        if (other == start && (code == '-' || code == 0x2212)) {
+            uint32_t number = 0;
+            snprintf(expected, sizeof expected, "a number without a sign");
+            if (slips->m && read_number(text, other + character_at(text, other, end).bytes, end, &number))
+                snprintf(expected, sizeof expected, "%" PRIu32 ", which is -%" PRIu32 " modulo %" PRIu32,
+                         (slips->m - number % slips->m) % slips->m, number, slips->m);
+            note(slips, line, other, end - other, expected, "%s in %s", sign, word);
+        } else if (other == start && code == '+')
             note(slips, line, other, end - other, "a number without a sign", "%s in %s", sign, word);
         else if (other > start && code == '.')
             note(slips, line, other, end - other, "a whole number", "%s in %s", sign, word);
@@ -141,9 +157,9 @@ static void check_number(struct slips *slips, const struct line *line, size_t st
         snprintf(expected, sizeof expected, "%s, without a zero before it", right);
         note(slips, line, start, digits - start, expected, "a leading zero in %s", word);
     }
-    uint64_t number = 0;
-    for (size_t at = digits; at < end && number <= UINT32_MAX; at++) number = 10 * number + (text[at] - '0');
-    if (number > UINT32_MAX) note(slips, line, start, end - start, "a number of at most 4294967295", "the number %s", word);
+    uint32_t number;
+    if (!read_number(text, digits, end, &number))
+        note(slips, line, start, end - start, "a number of at most 4294967295", "the number %s", word);
 }
 
 /* The numbers of a line: one if it is the line mod=, else any number of them with one space between two. */
@@ -158,9 +174,9 @@ static void check_numbers(struct slips *slips, const struct line *line) {
         name_run(slips, gap, at, run);
         if (words == 0 && at > gap)
             note(slips, line, gap, at - gap,
-                 at < end || one ? "the first number right behind =" : "byte 10, the line end, right behind =", "%s behind =", run);
+                 at < end || one ? "the first number right after =" : "byte 10, the line end, right after =", "%s after =", run);
         else if (at == end && at > gap && line->ending != JOINED)
-            note(slips, line, gap, at - gap, "byte 10, the line end, right behind the last number", "%s at the end of the line", run);
+            note(slips, line, gap, at - gap, "byte 10, the line end, right after the last number", "%s at the end of the line", run);
         else if (at < end && words > 0 && !one && !(at == gap + 1 && text[gap] == ' ')) {
             size_t wrong = gap;
             while (wrong < at && text[wrong] == ' ') wrong++;
@@ -174,9 +190,9 @@ static void check_numbers(struct slips *slips, const struct line *line) {
         if (++words == 2) second = word;
     }
     if (one && words == 0)
-        note(slips, line, end, 1, "one number behind mod=, the channel number", "no number");
+        note(slips, line, end, 1, "one number after mod=, the channel number", "no number");
     else if (one && words > 1)
-        note(slips, line, second, end - second, "one number behind mod=, the channel number", "%zu numbers", words);
+        note(slips, line, second, end - second, "one number after mod=, the channel number", "%zu numbers", words);
 }
 
 /* The operation. */
@@ -185,7 +201,7 @@ static void check_operation(struct slips *slips, const struct line *line) {
     size_t end = line->end, at = skip(slips, line->contents, end, is_blank);
     char run[WORDS], word[QUOTE_ROOM];
     name_run(slips, line->contents, at, run);
-    if (at > line->contents) note(slips, line, line->contents, at - line->contents, "the operation right behind =", "%s behind =", run);
+    if (at > line->contents) note(slips, line, line->contents, at - line->contents, "the operation right after =", "%s after =", run);
     if (at == end) {
         note(slips, line, end, 1, five_operations, "no operation");
         return;
@@ -202,10 +218,12 @@ static void check_operation(struct slips *slips, const struct line *line) {
     name_run(slips, gap, at, run);
     if (at < end) {
         quote(text, at, end, word);
-        note(slips, line, gap, end - gap, "byte 10, the line end, right behind the operation", "%s behind the operation", word);
+        note(slips, line, gap, end - gap, "byte 10, the line end, right after the operation", "%s after the operation", word);
     } else if (at > gap && line->ending != JOINED)
-        note(slips, line, gap, at - gap, "byte 10, the line end, right behind the operation", "%s at the end of the line", run);
+        note(slips, line, gap, at - gap, "byte 10, the line end, right after the operation", "%s at the end of the line", run);
 }
+
+static int begins_number(uint8_t byte) { return (byte >= '0' && byte <= '9') || byte == '-' || byte == '+'; }
 
 /* What a line opens with. Returns whether the rest of it can be read as the contents of the line that is meant. */
 static int check_key(struct slips *slips, const struct line *line) {
@@ -243,14 +261,13 @@ static int check_key(struct slips *slips, const struct line *line) {
         return 1;
     }
     quote(text, line->key, line->end, found);
-    int begins_contents = strchr("0123456789-+", text[line->key]) != NULL && text[line->key] != 0;
-    if (begins_contents || (line->meant == OP && line->role != REPLACED)) {
+    if (begins_number(text[line->key]) || (line->meant == OP && line->role != REPLACED)) {
         snprintf(expected, sizeof expected, "%s before it", key);
-        note(slips, line, line->key, line->end - line->key, expected, "%s without a key", found);
+        note(slips, line, line->key, 1, expected, "%s without a key", found);
         return 1;
     }
     snprintf(expected, sizeof expected, "the line %s", key);
-    note(slips, line, line->key, line->end - line->key, expected, "%s", found);
+    note(slips, line, line->key, 1, expected, "%s", found);
     return 0;
 }
 
@@ -258,7 +275,7 @@ static int check_key(struct slips *slips, const struct line *line) {
 static void note_moved(struct slips *slips, const struct line *line) {
     char expected[WORDS] = "";
     append(expected, "it as line %d", line->meant + 1);
-    if (line->meant > 0) append(expected, ", behind %s", keys[line->meant - 1]);
+    if (line->meant > 0) append(expected, ", after %s", keys[line->meant - 1]);
     note(slips, line, line->start, line->key_end - line->start, expected, "the line %s out of order", keys[line->meant]);
 }
 
@@ -271,7 +288,7 @@ static void note_missing(struct slips *slips, const struct lines *lines, int fro
     append(expected, count == 1 ? "the line " : "the lines ");
     for (int line = from; line < to; line++)
         if (!lines->of[line]) append(expected, "%s%s", between(i++, count), keys[line]);
-    append(expected, at < slips->length ? " before it" : " before it; %s missing", count == 1 ? "it is" : "they are");
+    append(expected, " before it");
     if (at < slips->length) snprintf(found, sizeof found, "the line %s", keys[next->meant]);
     note(slips, next, at, 1, expected, "%s", found);
 }
@@ -311,23 +328,28 @@ static void note_endings(struct slips *slips, const struct lines *lines, enum en
     }
 }
 
-/* Lines that are too many. Behind the last of the six they are told together. */
-static void note_extra(struct slips *slips, const struct lines *lines, size_t from, size_t to, int behind_all) {
+/* Lines that are too many. Those after the last of the six are told together, and so are empty ones. */
+static void note_extra(struct slips *slips, const struct lines *lines, size_t from, size_t to, int after_all) {
     const struct line *line = &lines->line[from];
+    size_t more = to - from - 1;
     char found[WORDS] = "", quoted[QUOTE_ROOM];
-    const char *expected = behind_all ? "the end of the text behind the line v=" : "none of it";
+    const char *expected = "the six lines mod=, a=, b=, c=, op= and v= only";
     quote(slips->text, line->start, line->end, quoted);
-    if (line->role == EMPTY)
+    if (line->role == EMPTY) {
         append(found, line->end > line->start ? "a line of blanks only" : "an empty line");
-    else if (line->role == DOUBLE)
+        expected = "no such line";
+    } else if (line->role == DOUBLE) {
         append(found, "a second line %s", keys[line->meant]);
-    else
+        expected = "one such line only";
+    } else if (begins_number(slips->text[line->start])) {
+        append(found, "%s without a key", quoted);
+        expected = "the numbers of a list in one line, after its key";
+    } else
         append(found, "%s, which is none of the six lines", quoted);
-    if (to > from + 1 && behind_all) append(found, " and %zu more line%s", to - from - 1, to - from == 2 ? "" : "s");
-    struct slip *slip = note(slips, line, line->start, line->end > line->start ? line->end - line->start : 1, expected, "%s", found);
+    if (after_all) expected = "the end of the text after the line v=";
+    if (more) append(found, " and %zu more line%s%s", more, more == 1 ? "" : "s", after_all ? "" : " like it");
+    struct slip *slip = note(slips, line, line->start, 1, expected, "%s", found);
     if (line->role == DOUBLE) append(slip->more, "line %zu is %s", lines->of[line->meant]->number, keys[line->meant]);
-    if (line->role == EMPTY && to > from + 1 && !behind_all)
-        append(slip->more, "%zu empty lines, up to line %zu", to - from, lines->line[to - 1].number);
 }
 
 /* A text that is something else than a job. Returns whether it is. */
@@ -388,16 +410,18 @@ static void find_slips(struct slips *slips) {
         note(slips, &first, start, 1, a_job, "%s, and none of the six lines further on", quoted);
         return;
     }
+    const struct line *mod = lines.of[MOD];
+    if (mod && (!read_number(slips->text, mod->contents, mod->end, &slips->m) || slips->m > ZAHUPNIK_GREATEST_MODULUS)) slips->m = 0;
     note_endings(slips, &lines, CR_LF, "byte 13 before byte 10 (CR LF)");
     note_endings(slips, &lines, CR, "byte 13 (CR) in place of byte 10");
 
-    size_t behind = 0; /* the last of the six lines */
+    size_t last = 0; /* of the six lines */
     for (size_t i = 0; i < lines.count; i++)
-        if (lines.line[i].role <= REPLACED) behind = i;
+        if (lines.line[i].role <= REPLACED) last = i;
     int next = 0; /* the first of the six that was not met in order, nor told to be missing */
     for (size_t i = 0; i < lines.count; i++) {
         const struct line *line = &lines.line[i];
-        if (i > behind) {
+        if (i > last) {
             if (next < LINES) note_missing(slips, &lines, next, LINES, line, line->start);
             note_extra(slips, &lines, i, lines.count, 1);
             next = LINES;
@@ -405,7 +429,7 @@ static void find_slips(struct slips *slips) {
         }
         if (line->role > REPLACED) {
             size_t to = i + 1;
-            while (line->role == EMPTY && to < behind && lines.line[to].role == EMPTY) to++;
+            while (line->role == EMPTY && to < last && lines.line[to].role == EMPTY) to++;
             note_extra(slips, &lines, i, to, 0);
             i = to - 1;
             continue;
@@ -427,7 +451,7 @@ static void find_slips(struct slips *slips) {
     }
     struct line end = lines.line[lines.count - 1];
     if (end.ending == NOTHING)
-        note(slips, &end, length, 1, "byte 10, the line end, behind the last line too", "the end of the text");
+        note(slips, &end, length, 1, "byte 10, the line end, after the last line too", "the end of the text");
     else {
         end.number++;
         end.line_start = length;
