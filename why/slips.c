@@ -276,7 +276,8 @@ static void note_moved(struct slips *slips, const struct line *line) {
     char expected[WORDS] = "";
     append(expected, "it as line %d", line->meant + 1);
     if (line->meant > 0) append(expected, ", after %s", keys[line->meant - 1]);
-    note(slips, line, line->start, line->key_end - line->start, expected, "the line %s out of order", keys[line->meant]);
+    note(slips, line, line->key, line->key_end > line->key ? line->key_end - line->key : 1, expected, "the line %s out of order",
+         keys[line->meant]);
 }
 
 /* The lines from `from` on and before `to` that are missing, noted at a place once. */
@@ -468,12 +469,11 @@ static void show_line(FILE *out, const struct slips *slips, const struct slip *s
     for (size_t at = last; at < end; at++)
         if (text[at] == '\r') end = at + 1;
     if (end == slip->line_start) return;
-    size_t from = slip->line_start, to = end;
-    if (to - from > SHOWN) {
-        if (slip->at[0] - from > SHOWN / 2) from = slip->at[0] - SHOWN / 2;
-        if (to - from > SHOWN) to = from + SHOWN;
-    }
-    char shown[SHOWN + 2], marks[SHOWN + 2];
+    const char *points = "...";
+    size_t from = slip->line_start, to = end, least_cut = strlen(points) + 1;
+    if (slip->at[0] - from >= SHOWN / 2 + least_cut && to - from >= SHOWN + least_cut) from = slip->at[0] - SHOWN / 2;
+    if (to - from >= SHOWN + least_cut) to = from + SHOWN;
+    char shown[SHOWN + 8], marks[SHOWN + 8];
     size_t marked = 0;
     for (size_t at = from; at <= to; at++) {
         uint8_t byte = at < to ? text[at] : ' ';
@@ -486,8 +486,8 @@ static void show_line(FILE *out, const struct slips *slips, const struct slip *s
                 marked = at - from + 1;
             }
     }
-    const char *cut = from > slip->line_start ? "..." : "";
-    fprintf(out, "    %s%.*s%s\n", cut, (int)(to - from), shown, to < end ? "..." : "");
+    const char *cut = from > slip->line_start ? points : "";
+    fprintf(out, "    %s%.*s%s\n", cut, (int)(to - from), shown, to < end ? points : "");
     fprintf(out, "    %*s%.*s\n", (int)strlen(cut), "", (int)marked, marks);
 }
 
