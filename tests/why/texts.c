@@ -12,7 +12,7 @@
 #include "explain.h"
 #include "slips.h"
 
-enum { DAMAGED = 20000, MOST_BASES = 400, LONGEST_BASE = 600, LONGEST_TEXT = 3 * ZAHUPNIK_MOST_TEXT, MOST_NUMBER = 20, SEED = 23 };
+enum { DAMAGED = 50000, MOST_BASES = 400, LONGEST_BASE = 600, LONGEST_TEXT = 3 * ZAHUPNIK_MOST_TEXT, MOST_NUMBER = 20, SEED = 23 };
 
 struct text {
     uint8_t bytes[LONGEST_TEXT];
