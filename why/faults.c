@@ -78,7 +78,8 @@ static uint32_t test_entries(FILE *out, const struct job *job) {
             found = ZAHUPNIK_REFUSED_ENTRY;
             if (!out) return found;
             uint32_t remainder = list->numbers[row] % m;
-            fprintf(out, "row %zu: %c is %" PRIu32 ", not below m = %" PRIu32 "; its remainder is ", row + 1, *keys[i], list->numbers[row], m);
+            fprintf(out, "row %zu: %c is %" PRIu32 ", not below m = %" PRIu32 "; its remainder is ", row + 1, *keys[i],
+                    list->numbers[row], m);
             if (!needs_inverse(i, row) || !without_inverse(out, m, remainder)) fprintf(out, "%" PRIu32, remainder);
             fprintf(out, " (line %d, place %zu)\n", i + 1, list->places[row]);
         }

@@ -43,7 +43,8 @@ static struct slip *new_slip(struct slips *slips) {
 }
 
 /* Notes a slip in a line: where, over how many bytes, what is expected, and what was found, as printf takes it. */
-static struct slip *note(struct slips *slips, const struct line *line, size_t at, size_t bytes, const char *expected, const char *found, ...) {
+static struct slip *note(struct slips *slips, const struct line *line, size_t at, size_t bytes, const char *expected,
+                         const char *found, ...) {
     char words[WORDS];
     va_list arguments;
     va_start(arguments, found);

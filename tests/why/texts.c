@@ -1,4 +1,5 @@
-/* Has texts explained, all in one process: the reference's vectors, and accepted ones of these with random damage.
+/* Has texts explained, all in one process: the reference's vectors, accepted ones of these with random damage, and long ones of two
+ * characters.
  *
  * usage: texts IN OUT     what tests/reference/texts.py writes
  *
@@ -102,7 +103,8 @@ static void check_text(const struct text *text, uint32_t number, size_t piece) {
     if (explained != number || strncmp(words, opening, strlen(opening)) != 0) differs(text, words, "the number is not the text call's");
     if (words[size - 1] != '\n') differs(text, words, "the last line is not ended");
     if (strstr(words, "this program does not see")) differs(text, words, "it does not see what is wrong");
-    if ((told > 0) != (number == ZAHUPNIK_REFUSED_TEXT_FORM)) differs(text, words, "slips are told, and the number is not 2, or the other way round");
+    if ((told > 0) != (number == ZAHUPNIK_REFUSED_TEXT_FORM))
+        differs(text, words, "slips are told, and the number is not 2, or the other way round");
     check_slips(text, words, number == ZAHUPNIK_REFUSED_TEXT_FORM ? told : 0);
     free(words);
     if (number <= MOST_NUMBER) tally[number]++;
@@ -141,10 +143,12 @@ static void random_line(struct random *random, const struct text *text, size_t *
 }
 
 static void damage(struct random *random, struct text *text) {
-    static const char *const words[] = {" ",   "  ",  "\t",       ",",      ", ",     ";",     ".",    "-",      "+",    "=",       ":",
-                                        "\r",  "\n",  "\r\n",     "0",      "00",     "7",     "A",    "x",      "a=",   "v=",      "op=",
-                                        "mod=", "norms", "\xef\xbb\xbf", "\xc2\xa0", "\xd9\xa3", "\x80", "\xff", "\xe2\x88\x92", "#", "4294967296",
-                                        "1 2", "expand", "refused=", "\nmod=7\n", "put=", "\n\n", "9999999999", "\"", "B =", "C:"};
+    static const char *const words[] = {
+        " ",    "  ",  "\t",  ",",     ", ",     ";",      ".",    "-",      "+",        "=",            ":",
+        "\r",   "\n",  "\n\n", "\r\n",  "0",      "00",     "7",    "1 2",    "A",        "x",            "#",
+        "\"",   "a=",  "v=",  "op=",   "mod=",   "B =",    "C:",   "put=",   "refused=", "\nmod=7\n",    "norms",
+        "\x80", "expand", "\xff", "\xc2\xa0", "\xd9\xa3", "9999999999", "4294967296", "\xef\xbb\xbf", "\xe2\x88\x92",
+    };
     const char *word = ONE_OF(random, words);
     size_t at = below(random, text->length + 1), start, length, other, other_length;
     uint8_t byte = (uint8_t)below(random, 256);
@@ -197,5 +201,14 @@ int main(int argc, char **argv) {
         check_text(&text, number_of(&text), 1 + below(&random, 300));
     }
     print_tally("damaged texts");
+    static const char characters[] = "\n\r\t ,=0a1vm-\0\xff";
+    for (size_t i = 0; i < sizeof characters - 1; i++)
+        for (size_t j = 0; j < sizeof characters - 1; j++) {
+            struct random random = random_of_case(SEED, DAMAGED + i * sizeof characters + j);
+            text.length = ZAHUPNIK_MOST_TEXT;
+            for (size_t at = 0; at < text.length; at++) text.bytes[at] = (uint8_t)characters[one_in(&random, 3) ? i : j];
+            check_text(&text, number_of(&text), text.length);
+        }
+    print_tally("long texts of two characters");
     return 0;
 }
