@@ -132,14 +132,14 @@ static void order_lines(struct lines *lines) {
         for (int least = 0; least <= LINES; least++) {
             const struct line *line = &lines->line[i];
             most[i][least] = most[i + 1][least];
-            if (line->meant == LINES || line->meant < least) continue;
+            if (line->meant >= LINES || line->meant < least) continue;
             uint16_t with = (uint16_t)(most[i + 1][line->meant + 1] + (line->exact ? 4 : 3));
             if (with > most[i][least]) most[i][least] = with;
         }
     int least = 0;
     for (size_t i = 0; i < lines->count; i++) {
         struct line *line = &lines->line[i];
-        if (line->meant == LINES || line->meant < least) continue;
+        if (line->meant >= LINES || line->meant < least) continue;
         if (most[i + 1][line->meant + 1] + (line->exact ? 4 : 3) < most[i][least]) continue;
         line->role = IN_ORDER;
         lines->of[line->meant] = line;

@@ -18,15 +18,15 @@ enum role {
 };
 
 struct line {
-    size_t number;           /* counted from 1 */
-    size_t line_start;       /* where the line of this number begins, and its first place */
-    size_t start, end;       /* its bytes, without its ending */
-    size_t key, contents;    /* behind blanks; behind the key and = */
-    size_t key_end;          /* behind what seems to be the key, with = or what stands for it */
+    size_t number;       /* counted from 1 */
+    size_t line_start;   /* where the line of this number begins: its place 1. A line with several keys is several of these */
+    size_t start, end;   /* its bytes, without its ending */
+    size_t key, key_end; /* what seems to be its key, with = or what stands for that; empty if there is none */
+    size_t contents;     /* where what follows the key begins */
     enum ending ending;
     enum role role;
-    int meant;               /* the line of a job that it seems to be, or LINES if none */
-    int exact;               /* whether it opens with the key, byte for byte */
+    int meant; /* the line of a job that it seems to be, or LINES if none */
+    int exact; /* whether it opens with the key, byte for byte */
 };
 
 enum { MOST_LINES = ZAHUPNIK_MOST_TEXT + 1 };
