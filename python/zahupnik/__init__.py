@@ -17,7 +17,7 @@ raises Refused:
 >>> zahupnik.plain_expand(7, [1, 7], [0, 3], [1, 5], [3, 0, 1])
 Traceback (most recent call last):
     ...
-zahupnik.refusals.Refused: refused with 9: what is wrong: what to do
+zahupnik.Refused: refused with 9: a number of a, b or c is not below the channel number: correct it, or reduce the family
 
 The library is loaded at the first call; NoLibrary says where it was looked for, if there is none. Calls from several threads run side by side
 and do not disturb one another. `zahupnik.lent` has the calls with everything lent by the caller, and `python3 -m zahupnik` answers, writes
@@ -43,6 +43,7 @@ from .calls import (
     write_job,
 )
 from .declarations import GREATEST_MODULUS, MOST_ENTRIES, MOST_ROWS, MOST_TEXT, Operation
+from .explaining import NoExplanation, explain
 from .library import NoLibrary, __version__, library_path
 from .prepared import (
     Prepared,
@@ -60,3 +61,47 @@ from .prepared import (
     prepared_tree_expand,
 )
 from .refusals import Refusal, Refused
+
+__all__ = [
+    "__version__",
+    "convert_text",
+    "even_back",
+    "even_first",
+    "expand_join",
+    "explain",
+    "GREATEST_MODULUS",
+    "invert",
+    "join",
+    "library_path",
+    "moments",
+    "MOST_ENTRIES",
+    "MOST_ROWS",
+    "MOST_TEXT",
+    "NoExplanation",
+    "NoLibrary",
+    "norms",
+    "Operation",
+    "plain_adjoint",
+    "plain_decompose",
+    "plain_expand",
+    "Prepared",
+    "prepared_append",
+    "prepared_drop_last",
+    "prepared_empty",
+    "prepared_moments",
+    "prepared_norms",
+    "prepared_plain_adjoint",
+    "prepared_plain_decompose",
+    "prepared_plain_expand",
+    "prepared_replace",
+    "prepared_tree_adjoint",
+    "prepared_tree_decompose",
+    "prepared_tree_expand",
+    "Refusal",
+    "Refused",
+    "tree_adjoint",
+    "tree_decompose",
+    "tree_expand",
+    "version",
+    "write_job",
+]
