@@ -16,11 +16,13 @@ Exit status: 0 if it printed what it was asked for, a refusal of answer being an
 something failed, and standard error says what; 2 if the words are not of this form.
 """
 
+from __future__ import annotations
+
 import os
 import re
 import signal
 import sys
-from typing import Callable, Dict, List, NoReturn
+from typing import Callable, NoReturn
 
 from . import NoExplanation, NoLibrary, Operation, Refused, __version__, convert_text, explain, library_path, version, write_job
 from .declarations import MOST_TEXT
@@ -104,9 +106,9 @@ def operation_of(word: str) -> int:
     return OPERATIONS[word]
 
 
-def lines_of(words: List[str]) -> Dict[str, List[int]]:
+def lines_of(words: list[str]) -> dict[str, list[int]]:
     """The numbers of each line of a job, the operation's too."""
-    lines: Dict[str, List[int]] = {}
+    lines: dict[str, list[int]] = {}
     key = ""
     for word in words:
         entry = word
@@ -134,19 +136,19 @@ def lines_of(words: List[str]) -> Dict[str, List[int]]:
     return lines
 
 
-def expect_no_words(words: List[str]) -> None:
+def expect_no_words(words: list[str]) -> None:
     """Nothing stands behind the command."""
     if words:
         misused(words[0], "is one word too many")
 
 
-def answer(words: List[str]) -> None:
+def answer(words: list[str]) -> None:
     """The command answer."""
     expect_no_words(words)
     put(answered(read_job()))
 
 
-def write(words: List[str]) -> None:
+def write(words: list[str]) -> None:
     """The command write."""
     lines = lines_of(words)
     try:
@@ -156,7 +158,7 @@ def write(words: List[str]) -> None:
     put(job)
 
 
-def explained(words: List[str]) -> None:
+def explained(words: list[str]) -> None:
     """The command explain. Without the program why, the number and its words are all that can be said."""
     expect_no_words(words)
     text = read_job()
@@ -170,20 +172,20 @@ def explained(words: List[str]) -> None:
         raise Failure(str(error)) from None
 
 
-def print_version(words: List[str]) -> None:
+def print_version(words: list[str]) -> None:
     """The package's version, and the library's with its file."""
     expect_no_words(words)
     put(f"zahupnik {__version__}\n".encode())
     put(f"library {dotted(version())}, {library_path()}\n".encode())
 
 
-def print_help(words: List[str]) -> None:
+def print_help(words: list[str]) -> None:
     """The usage."""
     expect_no_words(words)
     put(USAGE.encode())
 
 
-COMMANDS: Dict[str, Callable[[List[str]], None]] = {
+COMMANDS: dict[str, Callable[[list[str]], None]] = {
     "answer": answer,
     "write": write,
     "explain": explained,
@@ -193,7 +195,7 @@ COMMANDS: Dict[str, Callable[[List[str]], None]] = {
 }
 
 
-def main(words: List[str]) -> int:
+def main(words: list[str]) -> int:
     """Do what the words of a command line ask for; the exit status."""
     try:
         if not words:

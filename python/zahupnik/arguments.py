@@ -4,70 +4,72 @@ What C cannot take raises TypeError (not a whole number, not a list) or ValueErr
 names the argument, and in a list the index.
 """
 
+from __future__ import annotations
+
 from array import array
 from operator import index
-from typing import TYPE_CHECKING, Any, Iterable, SupportsIndex, Union
+from typing import TYPE_CHECKING, Iterable, SupportsIndex, Union
 
-from .declarations import BYTES, UNSIGNED, Numbers
+from .declarations import BYTES, UNSIGNED, NumberType
 
 if TYPE_CHECKING:
-    IntArray = array[int]
+    Array = array[int]
 else:
-    IntArray = array
+    Array = array
 
+Number = SupportsIndex
+NumberList = Iterable[SupportsIndex]
 Bytes = Union[bytes, bytearray, memoryview]
-List = Iterable[SupportsIndex]
 
 
-def article(value: object) -> str:
+def named_type(value: object) -> str:
     """The type of a value, for a message."""
     name = type(value).__name__
     return f"{'an' if name[0] in 'aeiou' else 'a'} {name}"
 
 
-def number(name: str, value: SupportsIndex, numbers: Numbers = UNSIGNED) -> int:
+def number(name: str, value: Number, c_type: NumberType = UNSIGNED) -> int:
     """A whole number that the type holds. True and False are none."""
     try:
         if isinstance(value, bool):
             raise TypeError
         whole = index(value)
     except TypeError:
-        raise TypeError(f"{name} is {article(value)}, and should be a whole number (int)") from None
-    if not numbers.least <= whole <= numbers.greatest:
+        raise TypeError(f"{name} is {named_type(value)}, and should be a whole number (int)") from None
+    if not c_type.least <= whole <= c_type.greatest:
         shown = str(whole) if whole.bit_length() <= 128 else f"a number of {whole.bit_length()} bits"
-        raise ValueError(f"{name} is {shown}, and should be from {numbers.least} to {numbers.greatest}")
+        raise ValueError(f"{name} is {shown}, and should be from {c_type.least} to {c_type.greatest}")
     return whole
 
 
-def entries(name: str, values: List, numbers: Numbers = UNSIGNED) -> IntArray:
-    """A new array of a list's numbers: of any iterable in order, but no text."""
-    if isinstance(values, array) and values.typecode == numbers.code:
+def number_list(name: str, values: NumberList, c_type: NumberType = UNSIGNED) -> Array:
+    """A new array of the numbers of a list, which is any iterable with an order, but no text."""
+    if isinstance(values, array) and values.typecode == c_type.code:
         return values[:]
     try:
         if isinstance(values, (str, bytes, bytearray, set, frozenset, dict)):
             raise TypeError
         iterator = iter(values)
     except TypeError:
-        raise TypeError(f"{name} is {article(values)}, and should be a list of whole numbers") from None
-    given = list(iterator)
-    if bool not in set(map(type, given)):
+        raise TypeError(f"{name} is {named_type(values)}, and should be a list of whole numbers") from None
+    entries = list(iterator)
+    if bool not in set(map(type, entries)):
         try:
-            return array(numbers.code, map(index, given))
+            return array(c_type.code, map(index, entries))
         except (TypeError, OverflowError):
             pass  # said again below, with the index
-    return array(numbers.code, [number(f"{name}[{i}]", entry, numbers) for i, entry in enumerate(given)])
+    return array(c_type.code, [number(f"{name}[{i}]", entry, c_type) for i, entry in enumerate(entries)])
 
 
-def text(name: str, value: Bytes) -> IntArray:
-    """A new array of a text's bytes."""
+def byte_list(name: str, value: Bytes) -> Array:
+    """A new array of the bytes of a text or of a record."""
     if isinstance(value, (bytes, bytearray, memoryview)):
         return array(BYTES.code, bytes(value))
-    said = ": encode it" if isinstance(value, str) else ""
-    raise TypeError(f"{name} is {article(value)}, and should be bytes{said}")
+    raise TypeError(f"{name} is {named_type(value)}, and should be bytes{': encode it' if isinstance(value, str) else ''}")
 
 
-def lent(name: str, value: Any, numbers: Numbers) -> IntArray:
+def lent_array(name: str, value: object, c_type: NumberType) -> Array:
     """The very array that a caller lends."""
-    if not isinstance(value, array) or value.typecode != numbers.code:
-        raise TypeError(f"{name} is {article(value)}, and should be an array of typecode '{numbers.code}'")
-    return value
+    if isinstance(value, array) and value.typecode == c_type.code:
+        return value
+    raise TypeError(f"{name} is {named_type(value)}, and should be an array of typecode '{c_type.code}'")

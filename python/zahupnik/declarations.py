@@ -3,10 +3,12 @@
 This is the one place where the package says how a function of C is called. tests/python holds each of these against the header.
 """
 
+from __future__ import annotations
+
 import ctypes
 from array import array
 from enum import Enum, IntEnum
-from typing import Any, Dict, List, NamedTuple, Tuple
+from typing import Any, NamedTuple
 
 GREATEST_MODULUS = 2147483647
 MOST_ROWS = 127
@@ -54,7 +56,7 @@ class Change(ctypes.Structure):
     _fields_ = [("answer", ctypes.c_uint32), ("family", Record)]
 
 
-class Numbers(NamedTuple):
+class NumberType(NamedTuple):
     """A type of C's whole numbers: its name, the code of an array of them, the least and the greatest."""
 
     c_name: str
@@ -63,17 +65,17 @@ class Numbers(NamedTuple):
     greatest: int
 
 
-BYTES = Numbers("uint8_t", "B", 0, 2**8 - 1)
-UNSIGNED = Numbers("uint32_t", "I", 0, 2**32 - 1)
-SIGNED = Numbers("int32_t", "i", -(2**31), 2**31 - 1)
-WIDE = Numbers("int64_t", "q", -(2**63), 2**63 - 1)
+BYTES = NumberType("uint8_t", "B", 0, 2**8 - 1)
+UNSIGNED = NumberType("uint32_t", "I", 0, 2**32 - 1)
+SIGNED = NumberType("int32_t", "i", -(2**31), 2**31 - 1)
+WIDE = NumberType("int64_t", "q", -(2**63), 2**63 - 1)
 
 RECORD_BYTES = ctypes.sizeof(Record)
 
 
 def fits_this_machine() -> bool:
     """Whether Python's arrays and ctypes have the sizes that the header's types have."""
-    sizes = [array(numbers.code).itemsize for numbers in (BYTES, UNSIGNED, SIGNED, WIDE)]
+    sizes = [array(c_type.code).itemsize for c_type in (BYTES, UNSIGNED, SIGNED, WIDE)]
     return sizes == [1, 4, 4, 8] and (RECORD_BYTES, ctypes.sizeof(Change)) == (3060, 3064)
 
 
@@ -92,7 +94,7 @@ class Parameter(NamedTuple):
 
     name: str
     kind: Kind
-    numbers: Numbers = UNSIGNED
+    c_type: NumberType = UNSIGNED
 
     @property
     def is_written(self) -> bool:
@@ -109,11 +111,11 @@ class Parameter(NamedTuple):
         if self.kind is Kind.RECORD:
             return f"struct zahupnik_prepared {self.name}"
         if self.kind is Kind.NUMBER:
-            return f"{self.numbers.c_name} {self.name}"
-        pointer = f"{'' if self.is_written else 'const '}{self.numbers.c_name} *{self.name}"
+            return f"{self.c_type.c_name} {self.name}"
+        pointer = f"{'' if self.is_written else 'const '}{self.c_type.c_name} *{self.name}"
         return f"{pointer}, size_t {self.name}_length" if self.is_list else pointer
 
-    def argument_types(self) -> List[Any]:
+    def argument_types(self) -> list[Any]:
         """What ctypes is told of it. A pointer goes by its address: that the array has the parameter's type, lent.py looks."""
         if self.kind is Kind.RECORD:
             return [Record]
@@ -122,12 +124,12 @@ class Parameter(NamedTuple):
         return [ctypes.c_void_p, ctypes.c_size_t] if self.is_list else [ctypes.c_void_p]
 
 
-def _numbers(*names: str) -> Tuple[Parameter, ...]:
+def _numbers(*names: str) -> tuple[Parameter, ...]:
     return tuple(Parameter(name, Kind.NUMBER) for name in names)
 
 
-def _read(*names: str, numbers: Numbers = UNSIGNED) -> Tuple[Parameter, ...]:
-    return tuple(Parameter(name, Kind.READ, numbers) for name in names)
+def _read(*names: str, c_type: NumberType = UNSIGNED) -> tuple[Parameter, ...]:
+    return tuple(Parameter(name, Kind.READ, c_type) for name in names)
 
 
 _ROWS = _numbers("m") + _read("a", "b", "c")
@@ -141,7 +143,7 @@ _WORK = (Parameter("work", Kind.WRITTEN),)
 _LENGTH = (Parameter("length", Kind.WRITTEN_ONE),)
 
 # The functions that return a number, by the name behind zahupnik_.
-CALLS: Dict[str, Tuple[Parameter, ...]] = {
+CALLS: dict[str, tuple[Parameter, ...]] = {
     "version": (),
     "invert": _numbers("m", "x") + (Parameter("inverse", Kind.WRITTEN_ONE), Parameter("factor", Kind.WRITTEN_ONE)),
     "plain_expand": _ROWS + _CURVE + _OUTPUT,
@@ -152,7 +154,7 @@ CALLS: Dict[str, Tuple[Parameter, ...]] = {
     "tree_adjoint": _ROWS + _CURVE + _OUTPUT + _WORK,
     "tree_decompose": _ROWS + _COEFFICIENTS + _OUTPUT + _WORK,
     "moments": _ROWS + _OUTPUT + _WORK,
-    "convert_text": _read("text", numbers=BYTES) + _TEXT_OUTPUT + _WORK + _LENGTH,
+    "convert_text": _read("text", c_type=BYTES) + _TEXT_OUTPUT + _WORK + _LENGTH,
     "write_job": _ROWS + _numbers("operation") + _CURVE + _TEXT_OUTPUT + _LENGTH,
     "prepared_plain_expand": _FAMILY + _CURVE + _OUTPUT,
     "prepared_plain_adjoint": _FAMILY + _CURVE + _OUTPUT,
@@ -163,13 +165,13 @@ CALLS: Dict[str, Tuple[Parameter, ...]] = {
     "prepared_tree_decompose": _FAMILY + _COEFFICIENTS + _OUTPUT + _WORK,
     "prepared_moments": _FAMILY + _OUTPUT + _WORK,
     "join": _numbers("m1", "m2") + _read("first", "second") + _WIDE_OUTPUT,
-    "expand_join": _numbers("m1", "m2") + _read("a", "b", "c", "curve", numbers=SIGNED) + _WIDE_OUTPUT,
+    "expand_join": _numbers("m1", "m2") + _read("a", "b", "c", "curve", c_type=SIGNED) + _WIDE_OUTPUT,
     "even_first": _read("list") + _OUTPUT,
     "even_back": _read("list") + _OUTPUT,
 }
 
 # The functions that return a change.
-CHANGES: Dict[str, Tuple[Parameter, ...]] = {
+CHANGES: dict[str, tuple[Parameter, ...]] = {
     "prepared_empty": _numbers("m"),
     "prepared_append": _FAMILY + _numbers("a", "b", "c"),
     "prepared_drop_last": _FAMILY,

@@ -1,12 +1,13 @@
 """What is wrong with a job text, in words: by the program `why`, which is found here and run."""
 
+from __future__ import annotations
+
 import os
 import shutil
 import subprocess
-from typing import List, Optional
+from typing import Optional
 
-from . import arguments
-from .arguments import Bytes
+from .arguments import Bytes, byte_list
 from .library import library_path, repository
 
 VARIABLE = "ZAHUPNIK_WHY"
@@ -15,8 +16,10 @@ VARIABLE = "ZAHUPNIK_WHY"
 class NoExplanation(OSError):
     """The program `why` is not to be found or has failed; the message says which."""
 
+    __module__ = "zahupnik"
 
-def places() -> List[str]:
+
+def places() -> list[str]:
     """Where the program is looked for, the first place first; after these on the PATH."""
     if os.environ.get(VARIABLE):
         return [os.environ[VARIABLE]]
@@ -45,7 +48,7 @@ def explain(text: Bytes) -> str:
 
     The library itself says the number alone: `convert_text` raises it.
     """
-    job = arguments.text("text", text).tobytes()
+    job = byte_list("text", text).tobytes()
     program = _program()
     try:
         run = subprocess.run([program], input=job, stdout=subprocess.PIPE, stderr=subprocess.PIPE, check=False)

@@ -1,11 +1,13 @@
 """Finds libzahupnik.so.1, loads it once, at the first call, and looks whether it is one that this package can use."""
 
+from __future__ import annotations
+
 import ctypes
 import os
 import platform
 import sys
 from functools import lru_cache
-from typing import Any, List, Tuple
+from typing import Any
 
 from .declarations import declare, fits_this_machine
 
@@ -18,6 +20,8 @@ _HERE = os.path.dirname(os.path.abspath(__file__))
 
 class NoLibrary(OSError):
     """There is no library that this package can use; the message says where it looked, what it found there, and what to do."""
+
+    __module__ = "zahupnik"
 
 
 class _Unfit(Exception):
@@ -38,7 +42,7 @@ def repository() -> str:
     return os.path.dirname(os.path.dirname(_HERE))
 
 
-def places() -> List[str]:
+def places() -> list[str]:
     """Where the library is looked for, the first place first. A bare name is left to the loader."""
     if os.environ.get(VARIABLE):
         return [os.environ[VARIABLE]]
@@ -48,7 +52,7 @@ def places() -> List[str]:
     return [os.path.join(folder, NAME) for folder in folders] + [NAME, os.path.join("/usr/local/lib", NAME)]
 
 
-def numbers_of(version: int) -> Tuple[int, int, int]:
+def numbers_of(version: int) -> tuple[int, int, int]:
     """Major, minor and patch of what zahupnik_version returns."""
     return version // 10000, version // 100 % 100, version % 100
 
@@ -90,7 +94,7 @@ def _load(place: str) -> Any:
 
 
 @lru_cache(maxsize=None)
-def _loaded() -> Tuple[Any, str]:
+def _loaded() -> tuple[Any, str]:
     _expect_machine()
     found = []
     for place in places():

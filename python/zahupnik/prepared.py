@@ -1,14 +1,15 @@
 """A prepared family: its rows with their inverses and the norms, worked out once."""
 
-from typing import Any, List, SupportsIndex, Tuple, Type, TypeVar
+from __future__ import annotations
 
-from . import arguments, calls, lent
-from .arguments import Bytes
-from .calls import expect_finished, output_of
-from .declarations import MOST_ROWS, RECORD_BYTES, Record
+from array import array
+from typing import Callable
+
+from . import calls, lent
+from .arguments import Bytes, Number, NumberList, byte_list, number_list
+from .calls import expect_finished, length_on, output_of
+from .declarations import RECORD_BYTES, UNSIGNED, Record
 from .refusals import Refusal
-
-Self = TypeVar("Self", bound="Prepared")
 
 
 class Prepared:
@@ -30,32 +31,26 @@ class Prepared:
     __slots__ = ("_record",)
     _record: Record
 
-    def __init__(self, m: int, a: arguments.List = (), b: arguments.List = (), c: arguments.List = ()) -> None:
+    def __init__(self, m: Number, a: NumberList = (), b: NumberList = (), c: NumberList = ()) -> None:
         """The record of the rows a, b and c modulo m; refused as `norms` refuses these lists."""
-        rows = [arguments.entries(name, column) for name, column in (("a", a), ("b", b), ("c", c))]
+        rows = [number_list(name, column) for name, column in (("a", a), ("b", b), ("c", c))]
         calls.norms(m, *rows)
         record = _changed("prepared_empty", m)
         for row in zip(*rows):
             record = _changed("prepared_append", record, *row)
         self._record = record
 
-    @classmethod
-    def from_bytes(cls: Type[Self], data: Bytes) -> Self:
+    @staticmethod
+    def from_bytes(data: Bytes) -> Prepared:
         """The record that these 3,060 bytes are, right or not.
 
         >>> Prepared.from_bytes(bytes(Prepared(7))) == Prepared(7)
         True
         """
-        given = arguments.text("data", data)
+        given = byte_list("data", data)
         if len(given) != RECORD_BYTES:
             raise ValueError(f"data has {len(given)} bytes, and should have {RECORD_BYTES}")
-        return cls._of(Record.from_buffer_copy(given))
-
-    @classmethod
-    def _of(cls: Type[Self], record: Record) -> Self:
-        made = cls.__new__(cls)
-        made._record = record
-        return made
+        return _of(Record.from_buffer_copy(given))
 
     @property
     def modulus(self) -> int:
@@ -68,27 +63,27 @@ class Prepared:
         return self._record.rows
 
     @property
-    def a(self) -> List[int]:
+    def a(self) -> list[int]:
         """The a of every row."""
         return self._column("a")
 
     @property
-    def b(self) -> List[int]:
+    def b(self) -> list[int]:
         """The b of every row."""
         return self._column("b")
 
     @property
-    def c(self) -> List[int]:
+    def c(self) -> list[int]:
         """The c of every row."""
         return self._column("c")
 
     @property
-    def a_inverses(self) -> List[int]:
+    def a_inverses(self) -> list[int]:
         """The inverse of every a modulo m."""
         return self._column("a_inverses")
 
     @property
-    def c_inverses(self) -> List[int]:
+    def c_inverses(self) -> list[int]:
         """The inverse of every c modulo m, and 0 for the first, which needs none."""
         return self._column("c_inverses")
 
@@ -98,123 +93,128 @@ class Prepared:
         >>> Prepared(7, [1], [0], [1]).is_right(), Prepared.from_bytes(bytes(3060)).is_right()
         (True, False)
         """
-        return lent.call("prepared_norms", self._record, calls.made(0)) != Refusal.RECORD
+        return lent.call("prepared_norms", self._record, array(UNSIGNED.code)) != Refusal.RECORD
 
-    def append(self: Self, a: int, b: int, c: int) -> Self:
+    def append(self, a: Number, b: Number, c: Number) -> Prepared:
         """The record with the row a, b, c behind its last.
 
         >>> Prepared(7).append(1, 0, 1).rows
         1
         """
-        return self._of(_changed("prepared_append", self._record, a, b, c))
+        return _of(_changed("prepared_append", self._record, a, b, c))
 
-    def drop_last(self: Self) -> Self:
+    def drop_last(self) -> Prepared:
         """The record without its last row.
 
         >>> Prepared(7).append(1, 0, 1).drop_last() == Prepared(7)
         True
         """
-        return self._of(_changed("prepared_drop_last", self._record))
+        return _of(_changed("prepared_drop_last", self._record))
 
-    def replace(self: Self, row: int, a: int, b: int, c: int) -> Self:
+    def replace(self, row: Number, a: Number, b: Number, c: Number) -> Prepared:
         """The record with a, b, c in the place of a row, counted from 1.
 
         >>> Prepared(7, [1, 2], [0, 3], [1, 5]).replace(2, 4, 0, 6)
         Prepared(7, a=[1, 4], b=[0, 0], c=[1, 6])
         """
-        return self._of(_changed("prepared_replace", self._record, row, a, b, c))
+        return _of(_changed("prepared_replace", self._record, row, a, b, c))
 
-    def plain_expand(self, curve: arguments.List) -> List[int]:
+    def plain_expand(self, curve: NumberList) -> list[int]:
         """Expand, row by row, as `zahupnik.plain_expand` does it on the lists.
 
         >>> Prepared(7, [1, 2], [0, 3], [1, 5]).plain_expand([3, 0, 1])
         [1, 3, 2]
         """
-        return self._converted("prepared_plain_expand", "curve", curve)
+        return self._converted("prepared_plain_expand", curve)
 
-    def plain_adjoint(self, curve: arguments.List) -> List[int]:
+    def plain_adjoint(self, curve: NumberList) -> list[int]:
         """Adjoint, row by row, as `zahupnik.plain_adjoint` does it on the lists.
 
         >>> Prepared(7, [1, 2], [0, 3], [1, 5]).plain_adjoint([3, 0, 1])
         [3, 0, 3]
         """
-        return self._converted("prepared_plain_adjoint", "curve", curve)
+        return self._converted("prepared_plain_adjoint", curve)
 
-    def plain_decompose(self, coefficients: arguments.List) -> List[int]:
+    def plain_decompose(self, coefficients: NumberList) -> list[int]:
         """Decompose, from the top power, as `zahupnik.plain_decompose` does it on the lists.
 
         >>> Prepared(7, [1, 2], [0, 3], [1, 5]).plain_decompose([1, 3, 2])
         [3, 0, 1]
         """
-        return self._converted("prepared_plain_decompose", "coefficients", coefficients)
+        return self._converted("prepared_plain_decompose", coefficients)
 
-    def norms(self) -> List[int]:
+    def norms(self) -> list[int]:
         """Norms, as `zahupnik.norms` gives them for the lists.
 
         >>> Prepared(7, [1, 2], [0, 3], [1, 5]).norms()
         [1, 1, 5]
         """
-        return output_of("prepared_norms", self._entries(), self._record)
+        return self._converted("prepared_norms")
 
-    def tree_expand(self, curve: arguments.List) -> List[int]:
+    def tree_expand(self, curve: NumberList) -> list[int]:
         """Expand by the subproduct tree, as `zahupnik.tree_expand` does it on the lists.
 
         >>> Prepared(7, [1, 2], [0, 3], [1, 5]).tree_expand([3, 0, 1])
         [1, 3, 2]
         """
-        return self._converted("prepared_tree_expand", "curve", curve)
+        return self._converted("prepared_tree_expand", curve)
 
-    def tree_adjoint(self, curve: arguments.List) -> List[int]:
+    def tree_adjoint(self, curve: NumberList) -> list[int]:
         """Adjoint by the subproduct tree, as `zahupnik.tree_adjoint` does it on the lists.
 
         >>> Prepared(7, [1, 2], [0, 3], [1, 5]).tree_adjoint([3, 0, 1])
         [3, 0, 3]
         """
-        return self._converted("prepared_tree_adjoint", "curve", curve)
+        return self._converted("prepared_tree_adjoint", curve)
 
-    def tree_decompose(self, coefficients: arguments.List) -> List[int]:
+    def tree_decompose(self, coefficients: NumberList) -> list[int]:
         """Decompose by the subproduct tree, as `zahupnik.tree_decompose` does it on the lists.
 
         >>> Prepared(7, [1, 2], [0, 3], [1, 5]).tree_decompose([1, 3, 2])
         [3, 0, 1]
         """
-        return self._converted("prepared_tree_decompose", "coefficients", coefficients)
+        return self._converted("prepared_tree_decompose", coefficients)
 
-    def moments(self) -> List[int]:
+    def moments(self) -> list[int]:
         """Moments, as `zahupnik.moments` gives them for the lists.
 
         >>> Prepared(7, [1, 2], [0, 3], [1, 5]).moments()
         [1, 0, 1, 2, 1]
         """
-        return output_of("prepared_moments", 2 * self._entries() - 1, self._record)
+        return self._converted("prepared_moments")
 
     def __bytes__(self) -> bytes:
         return bytes(self._record)
 
     def __eq__(self, other: object) -> bool:
-        return bytes(self) == bytes(other) if isinstance(other, Prepared) else NotImplemented
+        if not isinstance(other, Prepared):
+            return NotImplemented
+        return bytes(self) == bytes(other)
 
     def __hash__(self) -> int:
         return hash(bytes(self))
 
-    def __reduce__(self) -> Tuple[Any, ...]:
-        return type(self).from_bytes, (bytes(self),)
+    def __reduce__(self) -> tuple[Callable[[Bytes], Prepared], tuple[bytes]]:
+        return Prepared.from_bytes, (bytes(self),)
 
     def __repr__(self) -> str:
         if not self.is_right():
             return f"<Prepared with modulus {self.modulus} and {self.rows} rows that is not the record of its own rows>"
         return f"Prepared({self.modulus}, a={self.a}, b={self.b}, c={self.c})"
 
-    def _column(self, name: str) -> List[int]:
-        column: List[int] = getattr(self._record, name)[: self.rows]
+    def _column(self, name: str) -> list[int]:
+        column: list[int] = getattr(self._record, name)[: self.rows]
         return column
 
-    def _entries(self) -> int:
-        """n; a record that says more rows than there may be is refused before the output is looked at."""
-        return min(self.rows, MOST_ROWS) + 1
+    def _converted(self, name: str, *lists: NumberList) -> list[int]:
+        read = calls.read_lists(name, *lists)
+        return output_of(name, length_on(name, self.rows), self._record, *read)
 
-    def _converted(self, name: str, parameter: str, curve: arguments.List) -> List[int]:
-        return output_of(name, self._entries(), self._record, arguments.entries(parameter, curve))
+
+def _of(record: Record) -> Prepared:
+    prepared = Prepared.__new__(Prepared)
+    prepared._record = record
+    return prepared
 
 
 def _changed(name: str, *given: lent.Lent) -> Record:
@@ -223,7 +223,7 @@ def _changed(name: str, *given: lent.Lent) -> Record:
     return record
 
 
-def prepared_empty(m: int) -> Prepared:
+def prepared_empty(m: Number) -> Prepared:
     """The record of the family without rows, which is `Prepared(m)`.
 
     >>> prepared_empty(7)

@@ -3,6 +3,8 @@
 The names are those of include/zahupnik.h, the words those of include/zahupnik_refusal.h; tests/python holds both against the headers.
 """
 
+from __future__ import annotations
+
 from enum import IntEnum
 from typing import Optional, Union
 
@@ -16,7 +18,7 @@ class Refusal(IntEnum):
 
     words: str
 
-    def __new__(cls, number: int, words: str) -> "Refusal":
+    def __new__(cls, number: int, words: str) -> Refusal:
         refusal = int.__new__(cls, number)
         refusal._value_ = number
         refusal.words = words
@@ -74,7 +76,7 @@ class Refused(Exception):
         super().__init__(number)
         self.factor = factor
         try:
-            refusal = Refusal(number)
+            refusal = Refusal(number)  # type: ignore[call-arg]  # mypy takes it for __new__
         except ValueError:
             self.number, self.words = number, NO_REFUSAL
         else:
