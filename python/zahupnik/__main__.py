@@ -10,7 +10,8 @@ answer   prints the answer text of a job text, or refused= and the number, as th
 write    prints a job text. A word with = opens a line of it, and the words up to the next one with = go on with it. The six lines come in
          any order, each once; a= alone is an empty list. op= is expand, adjoint, decompose, moments or norms; for the last two v= stands
          alone
-explain  prints what is wrong with a job text, and where, in words: by the program why
+explain  prints what is wrong with a job text, and where, in words, or what the job is: by the program why. Where that is not to be found,
+         only whether the job is refused, by which number, and its words
 
 Exit status: 0 if it printed what it was asked for, a refusal of answer being an answer; 1 if the job is refused and so not written, or if
 something failed, and standard error says what; 2 if the words are not of this form.
@@ -24,8 +25,9 @@ import signal
 import sys
 from typing import Callable, NoReturn
 
-from . import NoExplanation, NoLibrary, Operation, Refused, __version__, convert_text, explain, library_path, version, write_job
+from . import NoExplanation, NoLibrary, Operation, Refused, __version__, convert_text, library_path, version, write_job
 from .declarations import MOST_TEXT
+from .explaining import explain_input, program
 from .library import dotted
 
 USAGE = (__doc__ or "").partition("\n\n")[2]
@@ -159,17 +161,25 @@ def write(words: list[str]) -> None:
 
 
 def explained(words: list[str]) -> None:
-    """The command explain. Without the program why, the number and its words are all that can be said."""
+    """The command explain. Without the program why, only its first line can be told."""
     expect_no_words(words)
-    text = read_job()
     try:
-        put(explain(text).encode())
+        program()
     except NoExplanation as error:
-        try:
-            convert_text(text)
-        except Refused as refused:
-            put(f"{refused}\n".encode())
+        put(first_line(read_job()))
         raise Failure(str(error)) from None
+    if sys.stdin is None:
+        raise Failure("standard input is closed")
+    put(explain_input().encode())
+
+
+def first_line(text: bytes) -> bytes:
+    """Whether a job is refused, by which number, and its words."""
+    try:
+        convert_text(text)
+    except Refused as refused:
+        return f"refused={int(refused.number)}: {refused.words}\n".encode()
+    return b"accepted\n"
 
 
 def print_version(words: list[str]) -> None:
@@ -208,7 +218,7 @@ def main(words: list[str]) -> int:
     except Misuse as misuse:
         say(f"{misuse}\n{USAGE.rstrip()}")
         return 2
-    except (Failure, NoLibrary) as failure:
+    except (Failure, NoExplanation, NoLibrary) as failure:
         say(str(failure))
         return 1
     return 0
