@@ -6,8 +6,8 @@ from array import array
 from typing import Callable
 
 from . import calls, lent
-from .arguments import Bytes, Number, NumberList, byte_list, number_list
-from .calls import expect_finished, length_on, output_of
+from .arguments import Bytes, Number, NumberList, byte_list, named_type, number_list
+from .calls import expect_finished, length_on, output_of, read_lists
 from .declarations import RECORD_BYTES, UNSIGNED, Record
 from .refusals import Refusal
 
@@ -101,7 +101,7 @@ class Prepared:
         >>> Prepared(7).append(1, 0, 1).rows
         1
         """
-        return _of(_changed("prepared_append", self._record, a, b, c))
+        return _of(_changed("prepared_append", _record_of(self), a, b, c))
 
     def drop_last(self) -> Prepared:
         """The record without its last row.
@@ -109,7 +109,7 @@ class Prepared:
         >>> Prepared(7).append(1, 0, 1).drop_last() == Prepared(7)
         True
         """
-        return _of(_changed("prepared_drop_last", self._record))
+        return _of(_changed("prepared_drop_last", _record_of(self)))
 
     def replace(self, row: Number, a: Number, b: Number, c: Number) -> Prepared:
         """The record with a, b, c in the place of a row, counted from 1.
@@ -117,7 +117,7 @@ class Prepared:
         >>> Prepared(7, [1, 2], [0, 3], [1, 5]).replace(2, 4, 0, 6)
         Prepared(7, a=[1, 4], b=[0, 0], c=[1, 6])
         """
-        return _of(_changed("prepared_replace", self._record, row, a, b, c))
+        return _of(_changed("prepared_replace", _record_of(self), row, a, b, c))
 
     def plain_expand(self, curve: NumberList) -> list[int]:
         """Expand, row by row, as `zahupnik.plain_expand` does it on the lists.
@@ -125,7 +125,7 @@ class Prepared:
         >>> Prepared(7, [1, 2], [0, 3], [1, 5]).plain_expand([3, 0, 1])
         [1, 3, 2]
         """
-        return self._converted("prepared_plain_expand", curve)
+        return _converted("prepared_plain_expand", self, curve)
 
     def plain_adjoint(self, curve: NumberList) -> list[int]:
         """Adjoint, row by row, as `zahupnik.plain_adjoint` does it on the lists.
@@ -133,7 +133,7 @@ class Prepared:
         >>> Prepared(7, [1, 2], [0, 3], [1, 5]).plain_adjoint([3, 0, 1])
         [3, 0, 3]
         """
-        return self._converted("prepared_plain_adjoint", curve)
+        return _converted("prepared_plain_adjoint", self, curve)
 
     def plain_decompose(self, coefficients: NumberList) -> list[int]:
         """Decompose, from the top power, as `zahupnik.plain_decompose` does it on the lists.
@@ -141,7 +141,7 @@ class Prepared:
         >>> Prepared(7, [1, 2], [0, 3], [1, 5]).plain_decompose([1, 3, 2])
         [3, 0, 1]
         """
-        return self._converted("prepared_plain_decompose", coefficients)
+        return _converted("prepared_plain_decompose", self, coefficients)
 
     def norms(self) -> list[int]:
         """Norms, as `zahupnik.norms` gives them for the lists.
@@ -149,7 +149,7 @@ class Prepared:
         >>> Prepared(7, [1, 2], [0, 3], [1, 5]).norms()
         [1, 1, 5]
         """
-        return self._converted("prepared_norms")
+        return _converted("prepared_norms", self)
 
     def tree_expand(self, curve: NumberList) -> list[int]:
         """Expand by the subproduct tree, as `zahupnik.tree_expand` does it on the lists.
@@ -157,7 +157,7 @@ class Prepared:
         >>> Prepared(7, [1, 2], [0, 3], [1, 5]).tree_expand([3, 0, 1])
         [1, 3, 2]
         """
-        return self._converted("prepared_tree_expand", curve)
+        return _converted("prepared_tree_expand", self, curve)
 
     def tree_adjoint(self, curve: NumberList) -> list[int]:
         """Adjoint by the subproduct tree, as `zahupnik.tree_adjoint` does it on the lists.
@@ -165,7 +165,7 @@ class Prepared:
         >>> Prepared(7, [1, 2], [0, 3], [1, 5]).tree_adjoint([3, 0, 1])
         [3, 0, 3]
         """
-        return self._converted("prepared_tree_adjoint", curve)
+        return _converted("prepared_tree_adjoint", self, curve)
 
     def tree_decompose(self, coefficients: NumberList) -> list[int]:
         """Decompose by the subproduct tree, as `zahupnik.tree_decompose` does it on the lists.
@@ -173,7 +173,7 @@ class Prepared:
         >>> Prepared(7, [1, 2], [0, 3], [1, 5]).tree_decompose([1, 3, 2])
         [3, 0, 1]
         """
-        return self._converted("prepared_tree_decompose", coefficients)
+        return _converted("prepared_tree_decompose", self, coefficients)
 
     def moments(self) -> list[int]:
         """Moments, as `zahupnik.moments` gives them for the lists.
@@ -181,7 +181,7 @@ class Prepared:
         >>> Prepared(7, [1, 2], [0, 3], [1, 5]).moments()
         [1, 0, 1, 2, 1]
         """
-        return self._converted("prepared_moments")
+        return _converted("prepared_moments", self)
 
     def __bytes__(self) -> bytes:
         return bytes(self._record)
@@ -206,15 +206,23 @@ class Prepared:
         column: list[int] = getattr(self._record, name)[: self.rows]
         return column
 
-    def _converted(self, name: str, *lists: NumberList) -> list[int]:
-        read = calls.read_lists(name, *lists)
-        return output_of(name, length_on(name, self.rows), self._record, *read)
-
 
 def _of(record: Record) -> Prepared:
     prepared = Prepared.__new__(Prepared)
     prepared._record = record
     return prepared
+
+
+def _record_of(family: object) -> Record:
+    """The record of a family; the header's names for the methods may be called with something else."""
+    if not isinstance(family, Prepared):
+        raise TypeError(f"family is {named_type(family)}, and should be a Prepared")
+    return family._record
+
+
+def _converted(name: str, family: Prepared, *lists: NumberList) -> list[int]:
+    record = _record_of(family)
+    return output_of(name, length_on(name, record.rows), record, *read_lists(name, *lists))
 
 
 def _changed(name: str, *given: lent.Lent) -> Record:
