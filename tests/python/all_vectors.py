@@ -9,11 +9,11 @@ for a call has to be met. Prints how many agree and exits 0; shows the first tha
 """
 
 import pathlib
-import re
 import sys
 from array import array
 from collections import Counter
 from functools import lru_cache
+from itertools import zip_longest
 
 HERE = pathlib.Path(__file__).parent
 VECTORS = HERE.parent / "vectors"
@@ -23,7 +23,7 @@ import header  # noqa: E402
 import zahupnik  # noqa: E402
 from vectors import EXPECTED_LINE, INPUT_LINE, fields, unquoted  # noqa: E402
 from zahupnik import Prepared, Refused, lent  # noqa: E402
-from zahupnik.declarations import BYTES, CALLS, CHANGES, SIGNED, UNSIGNED, WIDE, Kind, Record  # noqa: E402
+from zahupnik.declarations import BYTES, CALLS, CHANGES, UNSIGNED, WIDE, Kind, Record  # noqa: E402
 
 OF_LENT_ALONE = (7, 8)
 SUM_MODULUS = 4294967291
@@ -204,7 +204,7 @@ class Steps:
         if name in ("record", "set"):
             (self.make if name == "record" else self.set)(line)
             expect("the end of the line", line.ended(), True)
-            answer = Call("prepared_norms", [self.record], {"output": 0}).answer
+            answer = lent.call("prepared_norms", self.record, array(UNSIGNED.code))
             expect("what norms answers without an output", [answer], wanted.numbers)
             expect("is_right", Prepared.from_bytes(bytes(self.record)).is_right(), answer == 7)
         elif f"prepared_{name}" in CHANGES:
@@ -283,36 +283,41 @@ def expect_output(name, given, line, wanted):
 
 
 def _lines(name):
-    return [line.split() for line in (VECTORS / name).read_text().splitlines()]
+    with (VECTORS / name).open() as file:
+        yield from map(str.split, file)
 
 
 def _numbers(name):
-    return [Line(words) for words in _lines(name)]
+    return map(Line, _lines(name))
 
 
 def _texts(name, pattern):
-    return list(fields(VECTORS / name, pattern))
+    return fields(VECTORS / name, pattern)
 
 
-def runs():
-    """Of each pair of files: its name, the function that runs a line, the lines of both."""
-    yield "calls", run_call, _numbers("calls.in"), _numbers("calls.out")
-    yield "texts", run_text, _texts("texts.in", INPUT_LINE), _texts("texts.out", EXPECTED_LINE)
-    yield "written", run_written, _numbers("written.in"), _texts("written.out", EXPECTED_LINE)
-    yield "prepared", Steps().run, _lines("prepared.in"), _numbers("prepared.out")
-    yield "joined", run_joined, _numbers("joined.in"), _numbers("joined.out")
-    yield "ordered", run_ordered, _numbers("ordered.in"), _numbers("ordered.out")
+# Of each pair of files: what runs a line, and the lines of both, read as they are run.
+FILES = {
+    "calls": lambda: (run_call, _numbers("calls.in"), _numbers("calls.out")),
+    "texts": lambda: (run_text, _texts("texts.in", INPUT_LINE), _texts("texts.out", EXPECTED_LINE)),
+    "written": lambda: (run_written, _numbers("written.in"), _texts("written.out", EXPECTED_LINE)),
+    "prepared": lambda: (Steps().run, _lines("prepared.in"), _numbers("prepared.out")),
+    "joined": lambda: (run_joined, _numbers("joined.in"), _numbers("joined.out")),
+    "ordered": lambda: (run_ordered, _numbers("ordered.in"), _numbers("ordered.out")),
+}
 
 
-def compare(name, run, given, wanted):
-    """Run every line of a pair of files; Difference at the first that differs."""
-    expect(f"the number of lines of {name}.out", len(wanted), len(given))
-    expect(f"whether {name}.in has lines", bool(given), True)
-    for number, (line, expected) in enumerate(zip(given, wanted), 1):
+def compare(name):
+    """Run every line of a pair of files and count them; Difference at the first that differs."""
+    run, *files = FILES[name]()
+    number = 0
+    for number, (given, wanted) in enumerate(zip_longest(*files), 1):
         try:
-            run(line, expected)
+            expect("whether both files have the line", None not in (given, wanted), True)
+            run(given, wanted)
         except Difference as difference:
             raise Difference(f"{name}, line {number}: {difference}") from None
+    expect(f"whether {name}.in has lines", number > 0, True)
+    return number
 
 
 def expect_pairs():
@@ -327,10 +332,9 @@ def expect_pairs():
 
 def main():
     """Run all of them."""
-    for name, run, given, wanted in runs():
+    for name in FILES:
         met["face"] = 0
-        compare(name, run, given, wanted)
-        print(f"python: {name}: {len(given)} agree, {met['face']} of them by lists in and lists out too")
+        print(f"python: {name}: {compare(name)} agree, {met['face']} of them by lists in and lists out too")
     print(f"python: {expect_pairs()} pairs of a call and an answer met, all that the header lists")
     return 0
 
