@@ -222,7 +222,6 @@ class Explain(Program):
         finally:
             del os.environ["ZAHUPNIK_WHY"]
 
-    @unittest.skipUnless(WHY.exists(), "the program why is not built")
     def test_why_beside_the_library(self):
         for job in sorted(EXAMPLES.glob("*.job")):
             text = job.read_bytes()
