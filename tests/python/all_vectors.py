@@ -5,7 +5,7 @@ usage: python3 tests/python/all_vectors.py
 Each case goes through zahupnik.lent with everything lent that its line says, and what is left is held against the line that is expected:
 answer, output, working list, record. Unless the answer is 7 or 8, which cannot be had there, it also goes through zahupnik's own face: the
 same output must come back, or Refused with the same number. tests/reference says what the files hold. Every refusal that the header lists
-for a call has to be met. Prints how many agree and exits 0; shows the first that differs and exits 1.
+for a call has to be met. Prints how many agree and exits 0; shows the first that differs and exits 1. Bad arguments exit with 2.
 """
 
 import pathlib
@@ -17,10 +17,11 @@ from itertools import zip_longest
 
 HERE = pathlib.Path(__file__).parent
 VECTORS = HERE.parent / "vectors"
-sys.path[:0] = [str(HERE.parents[1] / "python"), str(HERE.parent / "texts"), str(HERE)]
+sys.path[:0] = [str(HERE.parents[1] / "python"), str(HERE.parents[1] / "bin"), str(HERE.parent / "texts"), str(HERE)]
 
 import header  # noqa: E402
 import zahupnik  # noqa: E402
+from script import Failure, Parser, run_script  # noqa: E402
 from vectors import EXPECTED_LINE, INPUT_LINE, fields, unquoted  # noqa: E402
 from zahupnik import Prepared, Refused, lent  # noqa: E402
 from zahupnik.declarations import BYTES, CALLS, CHANGES, UNSIGNED, WIDE, Kind, Record  # noqa: E402
@@ -43,7 +44,7 @@ NAMES = {
 met = Counter()
 
 
-class Difference(Exception):
+class Difference(Failure):
     """The package does not do what a line says."""
 
 
@@ -332,6 +333,7 @@ def expect_pairs():
 
 def main():
     """Run all of them."""
+    Parser(__doc__).parse_args()
     for name in FILES:
         met["face"] = 0
         print(f"python: {name}: {compare(name)} agree, {met['face']} of them by lists in and lists out too")
@@ -340,10 +342,4 @@ def main():
 
 
 if __name__ == "__main__":
-    if len(sys.argv) > 1:
-        sys.exit(__doc__)
-    try:
-        sys.exit(main())
-    except Difference as difference:
-        print(f"python: {difference}", file=sys.stderr)
-        sys.exit(1)
+    run_script("python", main)

@@ -2,14 +2,14 @@
 
 usage: python3 tests/python/wrong.py
 
-Each wrong version is the package with one thing changed while it runs. Prints how each was told and exits 0; exits 1 if one was not.
+Each wrong version is the package with one thing changed while it runs. Prints how each was told and exits 0; exits 1 if one was not. Bad
+arguments exit with 2.
 """
 
-import sys
 from unittest import mock
 
 import all_vectors
-from all_vectors import Difference
+from all_vectors import Difference, Parser, run_script
 from zahupnik import calls, lent, prepared
 from zahupnik.declarations import CALLS, SIGNED, UNSIGNED, Parameter, Record
 
@@ -120,6 +120,7 @@ def told(files, made):
 
 def main():
     """Try each."""
+    Parser(__doc__).parse_args()
     missed = 0
     for name, files, made in WRONG:
         way = told(files, made)
@@ -129,6 +130,4 @@ def main():
 
 
 if __name__ == "__main__":
-    if len(sys.argv) > 1:
-        sys.exit(__doc__)
-    sys.exit(main())
+    run_script("python", main)

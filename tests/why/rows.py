@@ -6,7 +6,8 @@ Has PROGRAM explain random jobs of the form, with faults of every kind in every
 place, and compares each line but the words of a refusal: the number is the
 reference's, and the counts, the rows, the remainders and the factors are worked
 out here, by gcd. Prints how many jobs agree, by their numbers, and exits 0; shows
-the first that differs and exits 1; exits 2 if the program cannot be run.
+the first that differs and exits 1; exits 2 if the program cannot be run, and for
+bad arguments.
 """
 
 import collections
@@ -16,8 +17,12 @@ import random
 import subprocess
 import sys
 
-sys.path.insert(0, os.path.join(os.path.dirname(os.path.abspath(__file__)), "..", "reference"))
-import jobs
+HERE = os.path.dirname(os.path.abspath(__file__))
+sys.dont_write_bytecode = True
+sys.path += [os.path.join(HERE, os.pardir, "reference"), os.path.join(HERE, os.pardir, os.pardir, "bin")]
+
+import jobs  # noqa: E402
+from script import Parser, run_script  # noqa: E402
 
 SEED = 23
 JOBS = 800
@@ -164,7 +169,7 @@ def without_words(line):
     return opening if opening.removeprefix("refused=").isdigit() and ": " in line else line
 
 
-def main(program):
+def compare(program):
     """Have every job explained."""
     source = random.Random(SEED)
     tally = collections.Counter()
@@ -195,12 +200,16 @@ def main(program):
     return 0 if set(tally) == {0, 3, 4, 5, 6, 9, 10, 11, 12, 17, 18} else 1
 
 
-if __name__ == "__main__":
-    if len(sys.argv) != 2:
-        print("usage: python3 tests/why/rows.py PROGRAM", file=sys.stderr)
-        sys.exit(2)
+def main():
+    """Compare, or say what cannot be run."""
+    parser = Parser(__doc__)
+    parser.add_argument("program", metavar="PROGRAM")
     try:
-        sys.exit(main(sys.argv[1]))
+        return compare(parser.parse_args().program)
     except (OSError, subprocess.TimeoutExpired) as problem:
         print(f"rows: {problem}", file=sys.stderr)
-        sys.exit(2)
+        return 2
+
+
+if __name__ == "__main__":
+    run_script("rows", main)
