@@ -12,6 +12,8 @@ while [[ $top = */bin/.. ]]; do top=${top%/bin/..}; done # it is shown to users
 declare -A comes_from=(
     [rt]='the command of the Rattle kit that .ci/kit names, to prove and build with'
     [cc]="a C compiler, of Debian's gcc"
+    [gcc]="of Debian's gcc"
+    [make]="of Debian's make"
     [nm]="of Debian's binutils"
     [objcopy]="of Debian's binutils"
     [objdump]="of Debian's binutils"
