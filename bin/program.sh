@@ -19,7 +19,6 @@ log=$top/target/$name.log
 end_by() { # NUMBER: of the signal
     trap '' HUP INT QUIT TERM
     end_started
-    wait 2>/dev/null || :
     exit $((128 + $1))
 }
 contents_of() { # FILES AND FOLDERS of the repository..

@@ -99,7 +99,8 @@ has_built() { # the next may build
     exec 9>&-
 }
 
-end_started() { # kills all that this script has started, and what that has started; each is stopped first, so that it starts no more
+end_started() { # kills all that this script has started, and what that has started; each is stopped first, so that it starts no more. It is the last
+    # that a script does, and says nothing
     local file line parent more=yes
     local -A found=([$$]=yes)
     while [ -n "$more" ]; do
@@ -114,11 +115,13 @@ end_started() { # kills all that this script has started, and what that has star
         done
     done
     unset "found[$$]"
-    kill -KILL "${!found[@]}" 2>/dev/null || :
+    exec 2>/dev/null # bash would say of each that it was killed
+    kill -KILL "${!found[@]}" || :
+    wait || :
 }
 guard() { # WORDS..: has a second process go on with the script, its words these, and waits for it. All that it starts, and what it leaves in
     # the folder for temporary files, ends with this one: bash acts on a signal at once only while it waits, and on INT not even then.
-    local status=0 room=''
+    local status=0 room='' apart=()
     if [ "${guarded_by-}" = "$PPID" ]; then
         unset guarded_by
         return
@@ -126,7 +129,6 @@ guard() { # WORDS..: has a second process go on with the script, its words these
     guard_ends() { # STATUS
         trap '' HUP INT QUIT TERM
         end_started
-        wait 2>/dev/null || :
         rm -rf "$room"
         exit "$1"
     }
@@ -136,9 +138,10 @@ guard() { # WORDS..: has a second process go on with the script, its words these
     trap 'guard_ends 143' TERM
     room=$(mktemp -d -t zahupnik.XXXXXX) || fail "no temporary folder can be made"
     chmod 711 "$room" # rt runs programs as nobody, who has to come through
-    set -m # a group of its own, which is not deaf to INT
-    (cd "$start" && guarded_by=$$ TMPDIR=$room exec "$BASH" "$script" "$@") &
-    set +m
+    # What bash starts in the background reads nothing and is deaf to INT and QUIT, unless it is told otherwise. In a session of its own it
+    # gets no signal of the terminal, so that none of it ends before what it has started.
+    ! command -v setsid >/dev/null || apart=(setsid)
+    (trap - INT QUIT && cd "$start" && guarded_by=$$ TMPDIR=$room exec "${apart[@]}" "$BASH" "$script" "$@") <&0 &
     wait "$!" || status=$?
     guard_ends "$status"
 }
