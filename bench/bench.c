@@ -104,7 +104,7 @@ LIBRARY(prepared_moments, RECORD, result, 2 * x->r + 1, work, ZAHUPNIK_LEAST_WOR
 
 /* Test 14, and nothing after it: Norms refuses an output of another length. */
 static void test_record(const struct job *x, uint32_t *result) {
-    if (zahupnik_prepared_norms(RECORD, result, 0) != ZAHUPNIK_OUTPUT_LENGTH) fail("prepared_norms", "takes an empty output", x);
+    if (zahupnik_prepared_norms(RECORD, result, 0) != ZAHUPNIK_REFUSED_OUTPUT_LENGTH) fail("prepared_norms", "takes an empty output", x);
 }
 
 /* The last row replaced by itself. */

@@ -9,9 +9,9 @@ int main(void) {
     for (unsigned i = 0; i < 4; i++) {
         uint32_t inverse = 0, factor = 0;
         uint32_t number = zahupnik_invert(m, a[i], &inverse, &factor);
-        if (number == ZAHUPNIK_NO_INVERSE && factor == m)
+        if (number == ZAHUPNIK_REFUSED_NO_INVERSE && factor == m)
             printf("row %u: zero\n", i + 1);
-        else if (number == ZAHUPNIK_NO_INVERSE)
+        else if (number == ZAHUPNIK_REFUSED_NO_INVERSE)
             printf("row %u: %u shares %u with %u\n", i + 1, (unsigned)a[i], (unsigned)factor, (unsigned)m);
         else if (number != ZAHUPNIK_FINISHED)
             printf("row %u: refused=%u\n", i + 1, (unsigned)number);

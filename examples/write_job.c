@@ -10,6 +10,7 @@
 #include <stdlib.h>
 #include <string.h>
 #include "zahupnik.h"
+#include "zahupnik_refusal.h"
 
 /* The lines of a job, each as numbers, the operation's too. No text has room for more of them than a line has here. */
 enum { MOD, A, B, C, OP, V, LINES };
@@ -23,20 +24,6 @@ static const char *const keys[LINES] = {"mod=", "a=", "b=", "c=", "op=", "v="};
 static const char *const operations[] = {
     [ZAHUPNIK_EXPAND] = "expand",   [ZAHUPNIK_ADJOINT] = "adjoint", [ZAHUPNIK_DECOMPOSE] = "decompose",
     [ZAHUPNIK_MOMENTS] = "moments", [ZAHUPNIK_NORMS] = "norms",
-};
-
-/* What is wrong and what to do, for every refusal that the words can cause. */
-static const char *const refusals[] = {
-    [ZAHUPNIK_MODULUS] = "mod is below 2 or above 2147483647: choose another channel number",
-    [ZAHUPNIK_LENGTHS] = "a, b and c are not equally long: give each a number for every row",
-    [ZAHUPNIK_ROWS] = "there are more than 127 rows: use a shorter family",
-    [ZAHUPNIK_CURVE_LENGTH] = "v is too short or too long: give one number more than there are rows, or none for moments and norms",
-    [ZAHUPNIK_ENTRY] = "a number of a, b or c is not below mod: correct it, or reduce the family modulo mod",
-    [ZAHUPNIK_A_INVERSE] = "a number of a shares a factor with mod: choose another channel number, or correct the family",
-    [ZAHUPNIK_C_INVERSE] = "a number of c, from the second on, shares a factor with mod: choose another channel number, or correct the family",
-    [ZAHUPNIK_CURVE_ENTRY] = "a number of v is not below mod: correct it, or reduce the curve modulo mod",
-    [ZAHUPNIK_A_ZERO] = "a number of a is zero, and the first of them without an inverse: correct the family",
-    [ZAHUPNIK_C_ZERO] = "a number of c, from the second on, is zero, and the first of them without an inverse: correct the family",
 };
 
 static _Noreturn void misuse(const char *word, const char *why) {
@@ -108,7 +95,7 @@ int main(int argc, char **argv) {
     uint32_t number = zahupnik_write_job(*lines[MOD].numbers, LIST(A), LIST(B), LIST(C), *lines[OP].numbers, LIST(V), text,
                                          sizeof text, &length);
     if (number != ZAHUPNIK_FINISHED) {
-        fprintf(stderr, "write_job: refused with %u: %s\n", (unsigned)number, refusals[number]);
+        fprintf(stderr, "write_job: refused with %u: %s\n", (unsigned)number, zahupnik_refusal(number));
         return 1;
     }
     if (fwrite(text, 1, length, stdout) != length || fclose(stdout) != 0) {

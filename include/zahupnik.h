@@ -13,11 +13,11 @@
  * refusal, and then nothing is written, so that the output is what it was: look at the number before you use the output. Only
  * zahupnik_invert writes with a refusal, and only the factor, with 13. The changes of a prepared family return such a number and a
  * record. A function tests all that it is lent, so no number and no length is asked of the caller. Its comment lists the refusals
- * that it tests, in this order, each over all rows or entries before the next; the first that is the case is returned. 17 and 10 look
- * at one row: where some a have no inverse modulo m, the lowest row of these decides, 17 if its a is zero, a fault of the family, and 10
- * if it is not and so shares a factor with m, which another m may mend. Likewise 18 and 11 for the c from row 2 on. zahupnik_expand_join
- * looks at remainders: there 17 and 18 say that the a or the c of that row leaves zero, and where it is not zero itself, another m may mend
- * that too.
+ * that it tests, by name and number, in this order, each over all rows or entries before the next; the first that is the case is
+ * returned. A_ZERO 17 and A_INVERSE 10 look at one row: where some a have no inverse modulo m, the lowest row of these decides, 17 if its
+ * a is zero, a fault of the family, and 10 if it is not and so shares a factor with m, which another m may mend. Likewise C_ZERO 18 and
+ * C_INVERSE 11 for the c from row 2 on. zahupnik_expand_join looks at remainders: there 17 and 18 say that the a or the c of that row
+ * leaves zero, and where it is not zero itself, another m may mend that too.
  *
  * Which way to take: the plain way is the quicker one at every size that bench/run measures, and the tree way gives the same list;
  * zahupnik_expand_join goes by the plain way. A prepared family saves Norms much of its time, Decompose and Moments of many rows a little,
@@ -37,6 +37,7 @@
  * The stack that a call takes at most, in bytes: measured by tests/stack/run on a painted stack and rounded up, not proved. It counts
  * arguments and what is returned, records of 3,060 bytes among them, and memcpy and memset of the C library; a dynamic linker that binds
  * one of these at its first call takes some kilobytes of its own.
+ *     zahupnik_version                      64
  *     zahupnik_invert                       64
  *     zahupnik_plain_expand               1536
  *     zahupnik_plain_adjoint              1536
@@ -65,12 +66,12 @@
  *     zahupnik_even_first                   64
  *     zahupnik_even_back                    64
  *
- * Build the library with `rt staticlib zahupnik` and link target/staticlib/libzahupnik.a; it is for x86-64 Linux. The functions
- * are proved to do this on every input (crates/zahupnik; that a job that is written is carried out, crates/text_laws; that a record
- * comes back when a row is put back, and that a record answers as the lists do, crates/prepared_laws; that a joined value is the
- * only one with its remainders in the range, and that Expand and join is exact in it, crates/join_laws; that either order comes back by
- * the other, and where the zeros of an expanded curve then lie, crates/order_laws); that these declarations fit them is tested
- * (tests/library).
+ * Where it is installed, `cc program.c $(pkg-config --cflags --libs zahupnik)` compiles and links; in the repository `rt staticlib
+ * zahupnik` builds target/staticlib/libzahupnik.a. It is for x86-64 Linux. The functions are proved to do this on every input
+ * (crates/zahupnik; that a job that is written is carried out, crates/text_laws; that a record comes back when a row is put back, and that
+ * a record answers as the lists do, crates/prepared_laws; that a joined value is the only one with its remainders in the range, and that
+ * Expand and join is exact in it, crates/join_laws; that either order comes back by the other, and where the zeros of an expanded curve
+ * then lie, crates/order_laws); that these declarations fit them is tested (tests/library).
  */
 #ifndef ZAHUPNIK_H
 #define ZAHUPNIK_H
@@ -82,6 +83,36 @@
 extern "C" {
 #endif
 
+/* The version of this header; zahupnik_version says that of the library that is linked, in the way of ZAHUPNIK_VERSION. The major number
+ * grows where a program would have to be changed or compiled anew, the minor where something is added. */
+#define ZAHUPNIK_VERSION_MAJOR 1
+#define ZAHUPNIK_VERSION_MINOR 0
+#define ZAHUPNIK_VERSION_PATCH 0
+#define ZAHUPNIK_VERSION (ZAHUPNIK_VERSION_MAJOR * 10000 + ZAHUPNIK_VERSION_MINOR * 100 + ZAHUPNIK_VERSION_PATCH)
+
+/* For a compiler that knows these attributes: it warns where an answer is not looked at, and where a list is shorter than the length that
+ * is handed in with it. READS and WRITES name the pointer and its length by their places among the parameters, WRITES_ONE a pointer to one
+ * number. */
+#ifdef __has_attribute
+#if __has_attribute(warn_unused_result)
+#define ZAHUPNIK_ANSWERS __attribute__((warn_unused_result))
+#endif
+#if __has_attribute(access)
+#define ZAHUPNIK_READS(list, length) __attribute__((access(read_only, list, length)))
+#define ZAHUPNIK_WRITES(list, length) __attribute__((access(write_only, list, length)))
+#define ZAHUPNIK_WRITES_ONE(number) __attribute__((access(write_only, number)))
+#endif
+#endif
+#ifndef ZAHUPNIK_ANSWERS
+#define ZAHUPNIK_ANSWERS
+#endif
+#ifndef ZAHUPNIK_READS
+#define ZAHUPNIK_READS(list, length)
+#define ZAHUPNIK_WRITES(list, length)
+#define ZAHUPNIK_WRITES_ONE(number)
+#endif
+
+/* The limits. */
 #define ZAHUPNIK_GREATEST_MODULUS UINT32_C(2147483647)
 #define ZAHUPNIK_MOST_ROWS 127
 #define ZAHUPNIK_MOST_ENTRIES 128
@@ -97,75 +128,108 @@ extern "C" {
 #define ZAHUPNIK_MOMENTS 3
 #define ZAHUPNIK_NORMS 4
 
+/* What a call answers: that it has finished, or why it refuses. The name of a refusal opens with ZAHUPNIK_REFUSED_, which the comments of
+ * the functions leave out; zahupnik_refusal.h has words for each, for people. */
 #define ZAHUPNIK_FINISHED 0
-#define ZAHUPNIK_TEXT_TOO_LONG 1  /* the job text has more than ZAHUPNIK_MOST_TEXT bytes */
-#define ZAHUPNIK_TEXT_FORM 2      /* the job text is not of the form; or no job text has this operation */
-#define ZAHUPNIK_MODULUS 3        /* m, or m1 or m2, is below 2 or above ZAHUPNIK_GREATEST_MODULUS */
-#define ZAHUPNIK_LENGTHS 4        /* the lists a, b and c are not equally long */
-#define ZAHUPNIK_ROWS 5           /* there are more than ZAHUPNIK_MOST_ROWS rows, or an append would make them; or a list that
-                                   * is to change its order has more than ZAHUPNIK_MOST_ENTRIES numbers */
-#define ZAHUPNIK_CURVE_LENGTH 6   /* the curve, or the list of coefficients, is not n long; or not empty in a job for moments or norms */
-#define ZAHUPNIK_OUTPUT_LENGTH 7  /* the output is not as long as the result; or shorter than ZAHUPNIK_LEAST_TEXT_OUTPUT bytes for an
-                                   * answer text, than ZAHUPNIK_LEAST_JOB_OUTPUT for a job text */
-#define ZAHUPNIK_WORK_TOO_SHORT 8 /* the working list is shorter than ZAHUPNIK_LEAST_WORK */
-#define ZAHUPNIK_ENTRY 9          /* an entry of a, b or c is not below m */
-#define ZAHUPNIK_A_INVERSE 10     /* some a has no inverse modulo m: that of the lowest such row is not zero, and shares a factor with m */
-#define ZAHUPNIK_C_INVERSE 11     /* some c from row 2 on has no inverse modulo m: that of the lowest such row is not zero, and shares a
-                                   * factor with m */
-#define ZAHUPNIK_CURVE_ENTRY 12   /* a curve entry, a coefficient, a remainder to join or the number to invert is not below its m */
-#define ZAHUPNIK_NO_INVERSE 13    /* the number to invert has no inverse modulo m */
-#define ZAHUPNIK_RECORD 14        /* the prepared family is not the record of its own rows, or these are not accepted */
-#define ZAHUPNIK_NO_ROWS 15       /* there is no row to drop */
-#define ZAHUPNIK_ABSENT_ROW 16    /* there is no such row to replace */
-#define ZAHUPNIK_A_ZERO 17        /* some a has no inverse modulo m: that of the lowest such row is zero; of zahupnik_expand_join, it leaves
-                                   * zero */
-#define ZAHUPNIK_C_ZERO 18        /* some c from row 2 on has no inverse modulo m: that of the lowest such row is zero; of
-                                   * zahupnik_expand_join, it leaves zero */
-#define ZAHUPNIK_SHARED_FACTOR 19 /* m1 and m2 share a factor greater than 1 */
-#define ZAHUPNIK_REMAINDERS 20    /* the two lists of remainders are not equally long */
+#define ZAHUPNIK_REFUSED_TEXT_TOO_LONG 1  /* the job text has more than ZAHUPNIK_MOST_TEXT bytes */
+#define ZAHUPNIK_REFUSED_TEXT_FORM 2      /* the job text is not of the form; or no job text has this operation */
+#define ZAHUPNIK_REFUSED_MODULUS 3        /* m, or m1 or m2, is below 2 or above ZAHUPNIK_GREATEST_MODULUS */
+#define ZAHUPNIK_REFUSED_LENGTHS 4        /* the lists a, b and c are not equally long */
+#define ZAHUPNIK_REFUSED_ROWS 5           /* there are more than ZAHUPNIK_MOST_ROWS rows, or an append would make them; or a list that
+                                           * is to change its order has more than ZAHUPNIK_MOST_ENTRIES numbers */
+#define ZAHUPNIK_REFUSED_CURVE_LENGTH 6   /* the curve, or the list of coefficients, is not n long; or not empty in a job for moments
+                                           * or norms */
+#define ZAHUPNIK_REFUSED_OUTPUT_LENGTH 7  /* the output is not as long as the result; or shorter than ZAHUPNIK_LEAST_TEXT_OUTPUT bytes
+                                           * for an answer text, than ZAHUPNIK_LEAST_JOB_OUTPUT for a job text */
+#define ZAHUPNIK_REFUSED_WORK_TOO_SHORT 8 /* the working list is shorter than ZAHUPNIK_LEAST_WORK */
+#define ZAHUPNIK_REFUSED_ENTRY 9          /* an entry of a, b or c is not below m */
+#define ZAHUPNIK_REFUSED_A_INVERSE 10     /* some a has no inverse modulo m: that of the lowest such row is not zero, and shares a
+                                           * factor with m */
+#define ZAHUPNIK_REFUSED_C_INVERSE 11     /* some c from row 2 on has no inverse modulo m: that of the lowest such row is not zero, and
+                                           * shares a factor with m */
+#define ZAHUPNIK_REFUSED_CURVE_ENTRY 12   /* a curve entry, a coefficient, a remainder to join or the number to invert is not below its
+                                           * m */
+#define ZAHUPNIK_REFUSED_NO_INVERSE 13    /* the number to invert has no inverse modulo m */
+#define ZAHUPNIK_REFUSED_RECORD 14        /* the prepared family is not the record of its own rows, or these are not accepted */
+#define ZAHUPNIK_REFUSED_NO_ROWS 15       /* there is no row to drop */
+#define ZAHUPNIK_REFUSED_ABSENT_ROW 16    /* there is no such row to replace */
+#define ZAHUPNIK_REFUSED_A_ZERO 17        /* some a has no inverse modulo m: that of the lowest such row is zero; of
+                                           * zahupnik_expand_join, it leaves zero */
+#define ZAHUPNIK_REFUSED_C_ZERO 18        /* some c from row 2 on has no inverse modulo m: that of the lowest such row is zero; of
+                                           * zahupnik_expand_join, it leaves zero */
+#define ZAHUPNIK_REFUSED_SHARED_FACTOR 19 /* m1 and m2 share a factor greater than 1 */
+#define ZAHUPNIK_REFUSED_REMAINDERS 20    /* the two lists of remainders are not equally long */
+
+/* The version of the library: its major number times 10000, its minor times 100 and its patch, added up. */
+uint32_t zahupnik_version(void);
 
 /* Inverse: *inverse becomes the one number below m that times x leaves 1 modulo m, and *factor the greatest common factor of x and m,
- * which is then 1. Refuses with 3 12 13. With 13 *inverse is what it was, and *factor becomes the greatest common factor: m where x is
- * zero, above 1 and below m where it is not. With 3 and 12 both are what they were. Both have to be lent, wanted or not. */
+ * which is then 1.
+ * Refuses with MODULUS 3, CURVE_ENTRY 12, NO_INVERSE 13. With 13 *inverse is what it was, and *factor becomes the greatest common factor:
+ * m where x is zero, above 1 and below m where it is not. With 3 and 12 both are what they were. Both have to be lent, wanted or not. */
+ZAHUPNIK_ANSWERS ZAHUPNIK_WRITES_ONE(3) ZAHUPNIK_WRITES_ONE(4)
 uint32_t zahupnik_invert(uint32_t m, uint32_t x, uint32_t *inverse, uint32_t *factor);
 
 /* Expand: output[k] becomes the coefficient of x^k in the sum over i of curve[i] F_i, for k and i from 0 to n - 1.
- * Row by row. Lengths: a, b, c r; curve n; output n. Refuses with 3 4 5 6 7 9 17 10 18 11 12. */
+ * Row by row. Lengths: a, b, c r; curve n; output n.
+ * Refuses with MODULUS 3, LENGTHS 4, ROWS 5, CURVE_LENGTH 6, OUTPUT_LENGTH 7, ENTRY 9, A_ZERO 17, A_INVERSE 10, C_ZERO 18, C_INVERSE 11,
+ * CURVE_ENTRY 12. */
+ZAHUPNIK_ANSWERS ZAHUPNIK_READS(2, 3) ZAHUPNIK_READS(4, 5) ZAHUPNIK_READS(6, 7) ZAHUPNIK_READS(8, 9) ZAHUPNIK_WRITES(10, 11)
 uint32_t zahupnik_plain_expand(uint32_t m, const uint32_t *a, size_t a_length, const uint32_t *b, size_t b_length,
                                const uint32_t *c, size_t c_length, const uint32_t *curve, size_t curve_length,
                                uint32_t *output, size_t output_length);
 
 /* Adjoint (transposed expand): output[j] becomes the sum over i of curve[i] times the coefficient of x^i in F_j, for i and j
- * from 0 to n - 1. Row by row. Lengths: a, b, c r; curve n; output n. Refuses with 3 4 5 6 7 9 17 10 18 11 12. */
+ * from 0 to n - 1. Row by row. Lengths: a, b, c r; curve n; output n.
+ * Refuses with MODULUS 3, LENGTHS 4, ROWS 5, CURVE_LENGTH 6, OUTPUT_LENGTH 7, ENTRY 9, A_ZERO 17, A_INVERSE 10, C_ZERO 18, C_INVERSE 11,
+ * CURVE_ENTRY 12. */
+ZAHUPNIK_ANSWERS ZAHUPNIK_READS(2, 3) ZAHUPNIK_READS(4, 5) ZAHUPNIK_READS(6, 7) ZAHUPNIK_READS(8, 9) ZAHUPNIK_WRITES(10, 11)
 uint32_t zahupnik_plain_adjoint(uint32_t m, const uint32_t *a, size_t a_length, const uint32_t *b, size_t b_length,
                                 const uint32_t *c, size_t c_length, const uint32_t *curve, size_t curve_length,
                                 uint32_t *output, size_t output_length);
 
 /* Decompose: output becomes the one curve that Expand turns into the coefficients. From the top power.
- * Lengths: a, b, c r; coefficients n; output n. Refuses with 3 4 5 6 7 9 17 10 18 11 12. */
+ * Lengths: a, b, c r; coefficients n; output n.
+ * Refuses with MODULUS 3, LENGTHS 4, ROWS 5, CURVE_LENGTH 6, OUTPUT_LENGTH 7, ENTRY 9, A_ZERO 17, A_INVERSE 10, C_ZERO 18, C_INVERSE 11,
+ * CURVE_ENTRY 12. */
+ZAHUPNIK_ANSWERS ZAHUPNIK_READS(2, 3) ZAHUPNIK_READS(4, 5) ZAHUPNIK_READS(6, 7) ZAHUPNIK_READS(8, 9) ZAHUPNIK_WRITES(10, 11)
 uint32_t zahupnik_plain_decompose(uint32_t m, const uint32_t *a, size_t a_length, const uint32_t *b, size_t b_length,
                                   const uint32_t *c, size_t c_length, const uint32_t *coefficients,
                                   size_t coefficients_length, uint32_t *output, size_t output_length);
 
 /* Norms: output[i] becomes (-1)^i c_2 .. c_{i+1} / a_{i+1}, for i from 0 to n - 1, where row n, the closing row, is 1 1 1.
- * Lengths: a, b, c r; output n. Refuses with 3 4 5 7 9 17 10 18 11. */
+ * Lengths: a, b, c r; output n.
+ * Refuses with MODULUS 3, LENGTHS 4, ROWS 5, OUTPUT_LENGTH 7, ENTRY 9, A_ZERO 17, A_INVERSE 10, C_ZERO 18, C_INVERSE 11. */
+ZAHUPNIK_ANSWERS ZAHUPNIK_READS(2, 3) ZAHUPNIK_READS(4, 5) ZAHUPNIK_READS(6, 7) ZAHUPNIK_WRITES(8, 9)
 uint32_t zahupnik_norms(uint32_t m, const uint32_t *a, size_t a_length, const uint32_t *b, size_t b_length,
                         const uint32_t *c, size_t c_length, uint32_t *output, size_t output_length);
 
 /* Expand by the subproduct tree: output becomes what zahupnik_plain_expand makes it.
- * Lengths: a, b, c r; curve n; output n; work ZAHUPNIK_LEAST_WORK or more. Refuses with 3 4 5 6 7 8 9 17 10 18 11 12. */
+ * Lengths: a, b, c r; curve n; output n; work ZAHUPNIK_LEAST_WORK or more.
+ * Refuses with MODULUS 3, LENGTHS 4, ROWS 5, CURVE_LENGTH 6, OUTPUT_LENGTH 7, WORK_TOO_SHORT 8, ENTRY 9, A_ZERO 17, A_INVERSE 10, C_ZERO
+ * 18, C_INVERSE 11, CURVE_ENTRY 12. */
+ZAHUPNIK_ANSWERS ZAHUPNIK_READS(2, 3) ZAHUPNIK_READS(4, 5) ZAHUPNIK_READS(6, 7) ZAHUPNIK_READS(8, 9) ZAHUPNIK_WRITES(10, 11)
+ZAHUPNIK_WRITES(12, 13)
 uint32_t zahupnik_tree_expand(uint32_t m, const uint32_t *a, size_t a_length, const uint32_t *b, size_t b_length,
                               const uint32_t *c, size_t c_length, const uint32_t *curve, size_t curve_length,
                               uint32_t *output, size_t output_length, uint32_t *work, size_t work_length);
 
 /* Adjoint by the subproduct tree: output becomes what zahupnik_plain_adjoint makes it.
- * Lengths: a, b, c r; curve n; output n; work ZAHUPNIK_LEAST_WORK or more. Refuses with 3 4 5 6 7 8 9 17 10 18 11 12. */
+ * Lengths: a, b, c r; curve n; output n; work ZAHUPNIK_LEAST_WORK or more.
+ * Refuses with MODULUS 3, LENGTHS 4, ROWS 5, CURVE_LENGTH 6, OUTPUT_LENGTH 7, WORK_TOO_SHORT 8, ENTRY 9, A_ZERO 17, A_INVERSE 10, C_ZERO
+ * 18, C_INVERSE 11, CURVE_ENTRY 12. */
+ZAHUPNIK_ANSWERS ZAHUPNIK_READS(2, 3) ZAHUPNIK_READS(4, 5) ZAHUPNIK_READS(6, 7) ZAHUPNIK_READS(8, 9) ZAHUPNIK_WRITES(10, 11)
+ZAHUPNIK_WRITES(12, 13)
 uint32_t zahupnik_tree_adjoint(uint32_t m, const uint32_t *a, size_t a_length, const uint32_t *b, size_t b_length,
                                const uint32_t *c, size_t c_length, const uint32_t *curve, size_t curve_length,
                                uint32_t *output, size_t output_length, uint32_t *work, size_t work_length);
 
 /* Decompose by the subproduct tree: output becomes what zahupnik_plain_decompose makes it.
- * Lengths: a, b, c r; coefficients n; output n; work ZAHUPNIK_LEAST_WORK or more. Refuses with 3 4 5 6 7 8 9 17 10 18 11 12. */
+ * Lengths: a, b, c r; coefficients n; output n; work ZAHUPNIK_LEAST_WORK or more.
+ * Refuses with MODULUS 3, LENGTHS 4, ROWS 5, CURVE_LENGTH 6, OUTPUT_LENGTH 7, WORK_TOO_SHORT 8, ENTRY 9, A_ZERO 17, A_INVERSE 10, C_ZERO
+ * 18, C_INVERSE 11, CURVE_ENTRY 12. */
+ZAHUPNIK_ANSWERS ZAHUPNIK_READS(2, 3) ZAHUPNIK_READS(4, 5) ZAHUPNIK_READS(6, 7) ZAHUPNIK_READS(8, 9) ZAHUPNIK_WRITES(10, 11)
+ZAHUPNIK_WRITES(12, 13)
 uint32_t zahupnik_tree_decompose(uint32_t m, const uint32_t *a, size_t a_length, const uint32_t *b, size_t b_length,
                                  const uint32_t *c, size_t c_length, const uint32_t *coefficients,
                                  size_t coefficients_length, uint32_t *output, size_t output_length, uint32_t *work,
@@ -176,7 +240,10 @@ uint32_t zahupnik_tree_decompose(uint32_t m, const uint32_t *a, size_t a_length,
  * G_i = (a_{i+1} x + b_{i+1}) G_{i-1} + c_{i+1} G_{i-2}.
  * The product law: if Expand turns the curves u and v into s and t, then modulo m the sum over k of output[k] times the
  * coefficient of x^k in the product of s and t is the sum over i of u[i] v[i] d[i], where d is what zahupnik_norms gives.
- * Lengths: a, b, c r; output 2n - 1; work ZAHUPNIK_LEAST_WORK or more. Refuses with 3 4 5 7 8 9 17 10 18 11. */
+ * Lengths: a, b, c r; output 2n - 1; work ZAHUPNIK_LEAST_WORK or more.
+ * Refuses with MODULUS 3, LENGTHS 4, ROWS 5, OUTPUT_LENGTH 7, WORK_TOO_SHORT 8, ENTRY 9, A_ZERO 17, A_INVERSE 10, C_ZERO 18,
+ * C_INVERSE 11. */
+ZAHUPNIK_ANSWERS ZAHUPNIK_READS(2, 3) ZAHUPNIK_READS(4, 5) ZAHUPNIK_READS(6, 7) ZAHUPNIK_WRITES(8, 9) ZAHUPNIK_WRITES(10, 11)
 uint32_t zahupnik_moments(uint32_t m, const uint32_t *a, size_t a_length, const uint32_t *b, size_t b_length,
                           const uint32_t *c, size_t c_length, uint32_t *output, size_t output_length, uint32_t *work,
                           size_t work_length);
@@ -188,7 +255,9 @@ uint32_t zahupnik_moments(uint32_t m, const uint32_t *a, size_t a_length, const 
  * decimal, without a leading zero (0 itself excepted), at most 4294967295. Nothing else may follow.
  * An answer text is two lines: op= and the operation; out= and the result. It has no zero byte at its end.
  * Lengths: text ZAHUPNIK_MOST_TEXT or less; output ZAHUPNIK_LEAST_TEXT_OUTPUT or more; work ZAHUPNIK_LEAST_WORK or more.
- * Refuses with 1 2 3 4 5 6 7 8 9 17 10 18 11 12. */
+ * Refuses with TEXT_TOO_LONG 1, TEXT_FORM 2, MODULUS 3, LENGTHS 4, ROWS 5, CURVE_LENGTH 6, OUTPUT_LENGTH 7, WORK_TOO_SHORT 8, ENTRY 9,
+ * A_ZERO 17, A_INVERSE 10, C_ZERO 18, C_INVERSE 11, CURVE_ENTRY 12. */
+ZAHUPNIK_ANSWERS ZAHUPNIK_READS(1, 2) ZAHUPNIK_WRITES(3, 4) ZAHUPNIK_WRITES(5, 6) ZAHUPNIK_WRITES_ONE(7)
 uint32_t zahupnik_convert_text(const uint8_t *text, size_t text_length, uint8_t *output, size_t output_length, uint32_t *work,
                                size_t work_length, uint32_t *length);
 
@@ -198,7 +267,10 @@ uint32_t zahupnik_convert_text(const uint8_t *text, size_t text_length, uint8_t 
  * is carried out: on these *length bytes zahupnik_convert_text, lent what it asks for, finishes, and its answer is that operation's
  * result on these very lists.
  * Lengths: a, b, c r; curve n, and 0 for ZAHUPNIK_MOMENTS and ZAHUPNIK_NORMS; output ZAHUPNIK_LEAST_JOB_OUTPUT or more.
- * Refuses with 2 3 4 5 6 7 9 17 10 18 11 12. It is 2 if the operation is none of the five. */
+ * Refuses with TEXT_FORM 2, MODULUS 3, LENGTHS 4, ROWS 5, CURVE_LENGTH 6, OUTPUT_LENGTH 7, ENTRY 9, A_ZERO 17, A_INVERSE 10, C_ZERO 18,
+ * C_INVERSE 11, CURVE_ENTRY 12. It is 2 if the operation is none of the five. */
+ZAHUPNIK_ANSWERS ZAHUPNIK_READS(2, 3) ZAHUPNIK_READS(4, 5) ZAHUPNIK_READS(6, 7) ZAHUPNIK_READS(9, 10) ZAHUPNIK_WRITES(11, 12)
+ZAHUPNIK_WRITES_ONE(13)
 uint32_t zahupnik_write_job(uint32_t m, const uint32_t *a, size_t a_length, const uint32_t *b, size_t b_length,
                             const uint32_t *c, size_t c_length, uint32_t operation, const uint32_t *curve, size_t curve_length,
                             uint8_t *output, size_t output_length, uint32_t *length);
@@ -232,43 +304,63 @@ struct zahupnik_change {
     struct zahupnik_prepared family;
 };
 
-/* The record of the family without rows. Refuses with 3, and then the record is all zeros. */
+/* The record of the family without rows.
+ * Refuses with MODULUS 3, and then the record is all zeros. */
+ZAHUPNIK_ANSWERS
 struct zahupnik_change zahupnik_prepared_empty(uint32_t m);
 
-/* The record with the row a, b, c behind its last. Refuses with 14 5 9 17 10 18 11; 5 and those after it are of the new row, and 18 and
- * 11 pass over it where it is row 1. */
+/* The record with the row a, b, c behind its last.
+ * Refuses with RECORD 14, ROWS 5, ENTRY 9, A_ZERO 17, A_INVERSE 10, C_ZERO 18, C_INVERSE 11; 5 and those after it are of the new row, and
+ * 18 and 11 pass over it where it is row 1. */
+ZAHUPNIK_ANSWERS
 struct zahupnik_change zahupnik_prepared_append(struct zahupnik_prepared family, uint32_t a, uint32_t b, uint32_t c);
 
-/* The record without its last row. After an append it is the record before it. Refuses with 14 15. */
+/* The record without its last row. After an append it is the record before it.
+ * Refuses with RECORD 14, NO_ROWS 15. */
+ZAHUPNIK_ANSWERS
 struct zahupnik_change zahupnik_prepared_drop_last(struct zahupnik_prepared family);
 
-/* The record with a, b, c in the place of a row, counted from 1. With the old row put back it is the old record. Refuses with
- * 14 16 9 17 10 18 11; 9 and those after it are of the new row, and 18 and 11 pass over it where it is row 1. */
+/* The record with a, b, c in the place of a row, counted from 1. With the old row put back it is the old record.
+ * Refuses with RECORD 14, ABSENT_ROW 16, ENTRY 9, A_ZERO 17, A_INVERSE 10, C_ZERO 18, C_INVERSE 11; 9 and those after it are of the new
+ * row, and 18 and 11 pass over it where it is row 1. */
+ZAHUPNIK_ANSWERS
 struct zahupnik_change zahupnik_prepared_replace(struct zahupnik_prepared family, uint32_t row, uint32_t a, uint32_t b, uint32_t c);
 
 /* The conversions, Norms and Moments on a record: output and work become what the function of the same name without prepared_ makes them
  * with the record's m and its r numbers of a, of b and of c. r is family.rows, and n is r + 1. */
 
-/* Lengths: curve or coefficients n; output n. Refuse with 14 6 7 12. */
+/* Lengths: curve or coefficients n; output n.
+ * Refuse with RECORD 14, CURVE_LENGTH 6, OUTPUT_LENGTH 7, CURVE_ENTRY 12. */
+ZAHUPNIK_ANSWERS ZAHUPNIK_READS(2, 3) ZAHUPNIK_WRITES(4, 5)
 uint32_t zahupnik_prepared_plain_expand(struct zahupnik_prepared family, const uint32_t *curve, size_t curve_length,
                                         uint32_t *output, size_t output_length);
+ZAHUPNIK_ANSWERS ZAHUPNIK_READS(2, 3) ZAHUPNIK_WRITES(4, 5)
 uint32_t zahupnik_prepared_plain_adjoint(struct zahupnik_prepared family, const uint32_t *curve, size_t curve_length,
                                          uint32_t *output, size_t output_length);
+ZAHUPNIK_ANSWERS ZAHUPNIK_READS(2, 3) ZAHUPNIK_WRITES(4, 5)
 uint32_t zahupnik_prepared_plain_decompose(struct zahupnik_prepared family, const uint32_t *coefficients, size_t coefficients_length,
                                            uint32_t *output, size_t output_length);
 
-/* Length: output n. Refuses with 14 7. */
+/* Length: output n.
+ * Refuses with RECORD 14, OUTPUT_LENGTH 7. */
+ZAHUPNIK_ANSWERS ZAHUPNIK_WRITES(2, 3)
 uint32_t zahupnik_prepared_norms(struct zahupnik_prepared family, uint32_t *output, size_t output_length);
 
-/* Lengths: curve or coefficients n; output n; work ZAHUPNIK_LEAST_WORK or more. Refuse with 14 6 7 8 12. */
+/* Lengths: curve or coefficients n; output n; work ZAHUPNIK_LEAST_WORK or more.
+ * Refuse with RECORD 14, CURVE_LENGTH 6, OUTPUT_LENGTH 7, WORK_TOO_SHORT 8, CURVE_ENTRY 12. */
+ZAHUPNIK_ANSWERS ZAHUPNIK_READS(2, 3) ZAHUPNIK_WRITES(4, 5) ZAHUPNIK_WRITES(6, 7)
 uint32_t zahupnik_prepared_tree_expand(struct zahupnik_prepared family, const uint32_t *curve, size_t curve_length,
                                        uint32_t *output, size_t output_length, uint32_t *work, size_t work_length);
+ZAHUPNIK_ANSWERS ZAHUPNIK_READS(2, 3) ZAHUPNIK_WRITES(4, 5) ZAHUPNIK_WRITES(6, 7)
 uint32_t zahupnik_prepared_tree_adjoint(struct zahupnik_prepared family, const uint32_t *curve, size_t curve_length,
                                         uint32_t *output, size_t output_length, uint32_t *work, size_t work_length);
+ZAHUPNIK_ANSWERS ZAHUPNIK_READS(2, 3) ZAHUPNIK_WRITES(4, 5) ZAHUPNIK_WRITES(6, 7)
 uint32_t zahupnik_prepared_tree_decompose(struct zahupnik_prepared family, const uint32_t *coefficients, size_t coefficients_length,
                                           uint32_t *output, size_t output_length, uint32_t *work, size_t work_length);
 
-/* Lengths: output 2n - 1; work ZAHUPNIK_LEAST_WORK or more. Refuses with 14 7 8. */
+/* Lengths: output 2n - 1; work ZAHUPNIK_LEAST_WORK or more.
+ * Refuses with RECORD 14, OUTPUT_LENGTH 7, WORK_TOO_SHORT 8. */
+ZAHUPNIK_ANSWERS ZAHUPNIK_WRITES(2, 3) ZAHUPNIK_WRITES(4, 5)
 uint32_t zahupnik_prepared_moments(struct zahupnik_prepared family, uint32_t *output, size_t output_length, uint32_t *work,
                                    size_t work_length);
 
@@ -280,7 +372,10 @@ uint32_t zahupnik_prepared_moments(struct zahupnik_prepared family, uint32_t *ou
  * if it was, and another if it was of m2. */
 
 /* Join: output[i] becomes the joined value of first[i] modulo m1 and second[i] modulo m2. Lengths: first and second the same, any;
- * output the same. Refuses with 3 3 19 20 7 12 12: 3 of m1 and then of m2, 12 of first, all of it, and then of second. */
+ * output the same.
+ * Refuses with MODULUS 3, MODULUS 3, SHARED_FACTOR 19, REMAINDERS 20, OUTPUT_LENGTH 7, CURVE_ENTRY 12, CURVE_ENTRY 12: 3 of m1 and then of
+ * m2, 12 of first, all of it, and then of second. */
+ZAHUPNIK_ANSWERS ZAHUPNIK_READS(3, 4) ZAHUPNIK_READS(5, 6) ZAHUPNIK_WRITES(7, 8)
 uint32_t zahupnik_join(uint32_t m1, uint32_t m2, const uint32_t *first, size_t first_length, const uint32_t *second,
                        size_t second_length, int64_t *output, size_t output_length);
 
@@ -288,9 +383,11 @@ uint32_t zahupnik_join(uint32_t m1, uint32_t m2, const uint32_t *first, size_t f
  * be any of them. output[k] becomes the joined value of two remainders: what zahupnik_plain_expand writes at k for m1 and the remainders of
  * rows and curve modulo m1, and what it writes there for m2 and those modulo m2. So where the coefficient of x^k in the sum over i of
  * curve[i] F_i, over the whole numbers, is in the range, output[k] is that coefficient; where it is not, output[k] differs from it by a
- * multiple of m1 m2, and nothing says so. Row by row. Lengths: a, b, c r; curve n; output n. Refuses with
- * 3 3 19 4 5 6 7 17 10 17 10 18 11 18 11: 3 of m1 and then of m2; 17 and 10 of the remainders modulo m1 and then modulo m2, and likewise 18
- * and 11. */
+ * multiple of m1 m2, and nothing says so. Row by row. Lengths: a, b, c r; curve n; output n.
+ * Refuses with MODULUS 3, MODULUS 3, SHARED_FACTOR 19, LENGTHS 4, ROWS 5, CURVE_LENGTH 6, OUTPUT_LENGTH 7, A_ZERO 17, A_INVERSE 10, A_ZERO
+ * 17, A_INVERSE 10, C_ZERO 18, C_INVERSE 11, C_ZERO 18, C_INVERSE 11: 3 of m1 and then of m2; 17 and 10 of the remainders modulo m1 and
+ * then modulo m2, and likewise 18 and 11. */
+ZAHUPNIK_ANSWERS ZAHUPNIK_READS(3, 4) ZAHUPNIK_READS(5, 6) ZAHUPNIK_READS(7, 8) ZAHUPNIK_READS(9, 10) ZAHUPNIK_WRITES(11, 12)
 uint32_t zahupnik_expand_join(uint32_t m1, uint32_t m2, const int32_t *a, size_t a_length, const int32_t *b, size_t b_length,
                               const int32_t *c, size_t c_length, const int32_t *curve, size_t curve_length,
                               int64_t *output, size_t output_length);
@@ -301,13 +398,21 @@ uint32_t zahupnik_expand_join(uint32_t m1, uint32_t m2, const int32_t *a, size_t
  * only even powers for an even index and only odd ones for an odd one. So where a curve is expanded on such a family and put even powers
  * first, the entries from `half` on are zero if the curve's entries at odd indices are, and those before `half` are zero if the curve's
  * entries at even indices are.
- * Lengths: list at most ZAHUPNIK_MOST_ENTRIES, 0 too; output the same. The output overlaps the list nowhere. Refuse with 5 7. */
+ * Lengths: list at most ZAHUPNIK_MOST_ENTRIES, 0 too; output the same. The output overlaps the list nowhere.
+ * Refuse with ROWS 5, OUTPUT_LENGTH 7. */
 
 /* Even first: list[i] goes to output[i / 2] for an even i, and to output[half + i / 2] for an odd i. */
+ZAHUPNIK_ANSWERS ZAHUPNIK_READS(1, 2) ZAHUPNIK_WRITES(3, 4)
 uint32_t zahupnik_even_first(const uint32_t *list, size_t list_length, uint32_t *output, size_t output_length);
 
 /* Even back: output[i] becomes list[i / 2] for an even i, and list[half + i / 2] for an odd i. */
+ZAHUPNIK_ANSWERS ZAHUPNIK_READS(1, 2) ZAHUPNIK_WRITES(3, 4)
 uint32_t zahupnik_even_back(const uint32_t *list, size_t list_length, uint32_t *output, size_t output_length);
+
+#undef ZAHUPNIK_ANSWERS
+#undef ZAHUPNIK_READS
+#undef ZAHUPNIK_WRITES
+#undef ZAHUPNIK_WRITES_ONE
 
 #ifdef __cplusplus
 }

@@ -72,7 +72,7 @@ static int holds(const struct call *call) {
     static const uint32_t others[] = {MODULUS - 1, 0, 6, 2};
     static const struct {
         uint32_t last_c, last_a, number;
-    } refused[] = {{0, 1, ZAHUPNIK_C_ZERO}, {6, 1, ZAHUPNIK_C_INVERSE}, {1, 0, ZAHUPNIK_A_ZERO}, {1, 6, ZAHUPNIK_A_INVERSE}};
+    } refused[] = {{0, 1, ZAHUPNIK_REFUSED_C_ZERO}, {6, 1, ZAHUPNIK_REFUSED_C_INVERSE}, {1, 0, ZAHUPNIK_REFUSED_A_ZERO}, {1, 6, ZAHUPNIK_REFUSED_A_INVERSE}};
     int right = 1;
     printf("%-16s", call->name);
     unsigned long wanted = counted(call, 1, 1, 1, ZAHUPNIK_FINISHED);

@@ -150,66 +150,66 @@ static void writes(const struct function *f, const char *with, const struct inpu
     } while (0)
 
 static void on_family(const struct function *f) {
-    GIVES(MODULUS, 2, x.m = 0);
-    GIVES(MODULUS, 2, x.m = 1);
+    GIVES(REFUSED_MODULUS, 2, x.m = 0);
+    GIVES(REFUSED_MODULUS, 2, x.m = 1);
     GIVES(FINISHED, 2, x.m = 2);
     GIVES(FINISHED, 2, x.m = ZAHUPNIK_GREATEST_MODULUS);
-    GIVES(MODULUS, 2, x.m = ZAHUPNIK_GREATEST_MODULUS + 1);
-    GIVES(MODULUS, 2, x.m = UINT32_MAX);
-    GIVES(LENGTHS, 2, x.a_length = 1);
-    GIVES(LENGTHS, 2, x.b_length = 3);
-    GIVES(LENGTHS, 2, x.c_length = 0);
+    GIVES(REFUSED_MODULUS, 2, x.m = ZAHUPNIK_GREATEST_MODULUS + 1);
+    GIVES(REFUSED_MODULUS, 2, x.m = UINT32_MAX);
+    GIVES(REFUSED_LENGTHS, 2, x.a_length = 1);
+    GIVES(REFUSED_LENGTHS, 2, x.b_length = 3);
+    GIVES(REFUSED_LENGTHS, 2, x.c_length = 0);
     GIVES(FINISHED, 0, x.a[0] = x.b[0] = x.c[0] = 0);
     GIVES(FINISHED, ZAHUPNIK_MOST_ROWS, x.m = 2);
-    GIVES(ROWS, ZAHUPNIK_MOST_ROWS + 1, x.m = 2);
-    GIVES(OUTPUT_LENGTH, 2, x.output_length = 0);
-    GIVES(OUTPUT_LENGTH, 2, x.output_length--);
+    GIVES(REFUSED_ROWS, ZAHUPNIK_MOST_ROWS + 1, x.m = 2);
+    GIVES(REFUSED_OUTPUT_LENGTH, 2, x.output_length = 0);
+    GIVES(REFUSED_OUTPUT_LENGTH, 2, x.output_length--);
     GIVES(FINISHED, 2, x.a[1] = x.b[1] = x.c[1] = 6);
-    GIVES(ENTRY, 2, x.a[1] = 7);
-    GIVES(ENTRY, 2, x.b[1] = 7);
-    GIVES(ENTRY, 2, x.c[1] = 7);
-    GIVES(ENTRY, 1, x.c[0] = 7);
-    GIVES(ENTRY, 2, x.c[0] = 7);
+    GIVES(REFUSED_ENTRY, 2, x.a[1] = 7);
+    GIVES(REFUSED_ENTRY, 2, x.b[1] = 7);
+    GIVES(REFUSED_ENTRY, 2, x.c[1] = 7);
+    GIVES(REFUSED_ENTRY, 1, x.c[0] = 7);
+    GIVES(REFUSED_ENTRY, 2, x.c[0] = 7);
     GIVES(FINISHED, 2, x.b[1] = 0);
-    GIVES(A_ZERO, 1, x.a[0] = 0);
-    GIVES(A_ZERO, 2, x.a[1] = 0);
-    GIVES(C_ZERO, 2, x.c[1] = 0);
-    GIVES(A_INVERSE, 2, (x.m = 15, x.a[1] = 6));
-    GIVES(C_INVERSE, 2, (x.m = 15, x.c[1] = 6));
+    GIVES(REFUSED_A_ZERO, 1, x.a[0] = 0);
+    GIVES(REFUSED_A_ZERO, 2, x.a[1] = 0);
+    GIVES(REFUSED_C_ZERO, 2, x.c[1] = 0);
+    GIVES(REFUSED_A_INVERSE, 2, (x.m = 15, x.a[1] = 6));
+    GIVES(REFUSED_C_INVERSE, 2, (x.m = 15, x.c[1] = 6));
     GIVES(FINISHED, 1, x.c[0] = 0);
     GIVES(FINISHED, 2, x.c[0] = 0);
     GIVES(FINISHED, 2, (x.m = 15, x.c[0] = 6));
     GIVES(FINISHED, ZAHUPNIK_MOST_ROWS, x.c[0] = 0);
-    GIVES(A_ZERO, ZAHUPNIK_MOST_ROWS, x.a[ZAHUPNIK_MOST_ROWS - 1] = 0);
-    GIVES(C_ZERO, ZAHUPNIK_MOST_ROWS, x.c[ZAHUPNIK_MOST_ROWS - 1] = 0);
-    GIVES(A_INVERSE, ZAHUPNIK_MOST_ROWS, (x.m = 15, x.a[ZAHUPNIK_MOST_ROWS - 1] = 5));
-    GIVES(C_INVERSE, ZAHUPNIK_MOST_ROWS, (x.m = 15, x.c[ZAHUPNIK_MOST_ROWS - 1] = 5));
+    GIVES(REFUSED_A_ZERO, ZAHUPNIK_MOST_ROWS, x.a[ZAHUPNIK_MOST_ROWS - 1] = 0);
+    GIVES(REFUSED_C_ZERO, ZAHUPNIK_MOST_ROWS, x.c[ZAHUPNIK_MOST_ROWS - 1] = 0);
+    GIVES(REFUSED_A_INVERSE, ZAHUPNIK_MOST_ROWS, (x.m = 15, x.a[ZAHUPNIK_MOST_ROWS - 1] = 5));
+    GIVES(REFUSED_C_INVERSE, ZAHUPNIK_MOST_ROWS, (x.m = 15, x.c[ZAHUPNIK_MOST_ROWS - 1] = 5));
 }
 
 /* Of the rows without an inverse the lowest says why, for the a and then for the c from row 2 on. */
 static void on_lowest_row(const struct function *f) {
-    GIVES(A_INVERSE, 1, (x.m = 15, x.a[0] = 3, x.b[0] = 0, x.c[0] = 5));
-    GIVES(A_ZERO, 1, (x.m = 15, x.a[0] = 0, x.b[0] = 0, x.c[0] = 5));
-    GIVES(A_INVERSE, 3, (x.m = 15, x.a[1] = 6, x.a[2] = 0));
-    GIVES(A_ZERO, 3, (x.m = 15, x.a[1] = 0, x.a[2] = 6));
-    GIVES(A_INVERSE, 3, (x.m = 15, x.a[0] = 6, x.a[1] = x.a[2] = 0));
-    GIVES(A_ZERO, 3, (x.m = 15, x.a[0] = 0, x.a[1] = x.a[2] = 6));
-    GIVES(C_INVERSE, 3, (x.m = 15, x.c[1] = 6, x.c[2] = 0));
-    GIVES(C_ZERO, 3, (x.m = 15, x.c[1] = 0, x.c[2] = 6));
-    GIVES(C_INVERSE, 3, (x.m = 15, x.c[0] = 0, x.c[1] = 6));
-    GIVES(C_ZERO, 3, (x.m = 15, x.c[0] = 6, x.c[1] = 0));
-    GIVES(A_INVERSE, 2, (x.m = 15, x.a[1] = 6, x.c[1] = 0));
-    GIVES(A_ZERO, 2, (x.m = 15, x.a[1] = 0, x.c[1] = 6));
-    GIVES(A_INVERSE, 3, (x.m = 15, x.a[2] = 6, x.c[1] = 0));
-    GIVES(A_ZERO, 3, (x.m = 15, x.a[2] = 0, x.c[1] = 6));
-    GIVES(A_INVERSE, ZAHUPNIK_MOST_ROWS, (x.m = 15, x.a[0] = 6, x.a[ZAHUPNIK_MOST_ROWS - 1] = 0));
-    GIVES(A_ZERO, ZAHUPNIK_MOST_ROWS, (x.m = 15, x.a[0] = 0, x.a[ZAHUPNIK_MOST_ROWS - 1] = 6));
-    GIVES(C_INVERSE, ZAHUPNIK_MOST_ROWS, (x.m = 15, x.c[1] = 6, x.c[ZAHUPNIK_MOST_ROWS - 1] = 0));
-    GIVES(C_ZERO, ZAHUPNIK_MOST_ROWS, (x.m = 15, x.c[1] = 0, x.c[ZAHUPNIK_MOST_ROWS - 1] = 6));
-    GIVES(ENTRY, 2, (x.a[0] = 0, x.b[1] = 7));
-    GIVES(ENTRY, 2, (x.c[1] = 0, x.a[0] = 7));
-    GIVES(A_ZERO, 2, (x.a[1] = 0, x.curve[0] = 7));
-    GIVES(C_ZERO, 2, (x.c[1] = 0, x.curve[0] = 7));
+    GIVES(REFUSED_A_INVERSE, 1, (x.m = 15, x.a[0] = 3, x.b[0] = 0, x.c[0] = 5));
+    GIVES(REFUSED_A_ZERO, 1, (x.m = 15, x.a[0] = 0, x.b[0] = 0, x.c[0] = 5));
+    GIVES(REFUSED_A_INVERSE, 3, (x.m = 15, x.a[1] = 6, x.a[2] = 0));
+    GIVES(REFUSED_A_ZERO, 3, (x.m = 15, x.a[1] = 0, x.a[2] = 6));
+    GIVES(REFUSED_A_INVERSE, 3, (x.m = 15, x.a[0] = 6, x.a[1] = x.a[2] = 0));
+    GIVES(REFUSED_A_ZERO, 3, (x.m = 15, x.a[0] = 0, x.a[1] = x.a[2] = 6));
+    GIVES(REFUSED_C_INVERSE, 3, (x.m = 15, x.c[1] = 6, x.c[2] = 0));
+    GIVES(REFUSED_C_ZERO, 3, (x.m = 15, x.c[1] = 0, x.c[2] = 6));
+    GIVES(REFUSED_C_INVERSE, 3, (x.m = 15, x.c[0] = 0, x.c[1] = 6));
+    GIVES(REFUSED_C_ZERO, 3, (x.m = 15, x.c[0] = 6, x.c[1] = 0));
+    GIVES(REFUSED_A_INVERSE, 2, (x.m = 15, x.a[1] = 6, x.c[1] = 0));
+    GIVES(REFUSED_A_ZERO, 2, (x.m = 15, x.a[1] = 0, x.c[1] = 6));
+    GIVES(REFUSED_A_INVERSE, 3, (x.m = 15, x.a[2] = 6, x.c[1] = 0));
+    GIVES(REFUSED_A_ZERO, 3, (x.m = 15, x.a[2] = 0, x.c[1] = 6));
+    GIVES(REFUSED_A_INVERSE, ZAHUPNIK_MOST_ROWS, (x.m = 15, x.a[0] = 6, x.a[ZAHUPNIK_MOST_ROWS - 1] = 0));
+    GIVES(REFUSED_A_ZERO, ZAHUPNIK_MOST_ROWS, (x.m = 15, x.a[0] = 0, x.a[ZAHUPNIK_MOST_ROWS - 1] = 6));
+    GIVES(REFUSED_C_INVERSE, ZAHUPNIK_MOST_ROWS, (x.m = 15, x.c[1] = 6, x.c[ZAHUPNIK_MOST_ROWS - 1] = 0));
+    GIVES(REFUSED_C_ZERO, ZAHUPNIK_MOST_ROWS, (x.m = 15, x.c[1] = 0, x.c[ZAHUPNIK_MOST_ROWS - 1] = 6));
+    GIVES(REFUSED_ENTRY, 2, (x.a[0] = 0, x.b[1] = 7));
+    GIVES(REFUSED_ENTRY, 2, (x.c[1] = 0, x.a[0] = 7));
+    GIVES(REFUSED_A_ZERO, 2, (x.a[1] = 0, x.curve[0] = 7));
+    GIVES(REFUSED_C_ZERO, 2, (x.c[1] = 0, x.curve[0] = 7));
 }
 
 /* The record of the rows 1 1 1 in which something else stands: that of another family, or not right, which goes before all else. */
@@ -218,44 +218,44 @@ static void on_record(const struct function *f) {
     GIVES(FINISHED, ZAHUPNIK_MOST_ROWS, x.family.rows = ZAHUPNIK_MOST_ROWS);
     GIVES(FINISHED, 0, x.family.modulus = 8);
     GIVES(FINISHED, 0, x.family.modulus = ZAHUPNIK_GREATEST_MODULUS);
-    GIVES(RECORD, 0, x.family.modulus = 0);
-    GIVES(RECORD, 0, x.family.modulus = 1);
-    GIVES(RECORD, 0, x.family.modulus = ZAHUPNIK_GREATEST_MODULUS + 1);
-    GIVES(RECORD, 2, x.family.modulus = 0);
-    GIVES(RECORD, 2, x.family.modulus = 8);
-    GIVES(RECORD, 2, x.family.rows = 0);
-    GIVES(RECORD, 2, x.family.rows = 1);
-    GIVES(RECORD, 2, x.family.rows = 3);
-    GIVES(RECORD, ZAHUPNIK_MOST_ROWS, x.family.rows = ZAHUPNIK_MOST_ROWS + 1);
-    GIVES(RECORD, ZAHUPNIK_MOST_ROWS, x.family.rows = UINT32_MAX);
+    GIVES(REFUSED_RECORD, 0, x.family.modulus = 0);
+    GIVES(REFUSED_RECORD, 0, x.family.modulus = 1);
+    GIVES(REFUSED_RECORD, 0, x.family.modulus = ZAHUPNIK_GREATEST_MODULUS + 1);
+    GIVES(REFUSED_RECORD, 2, x.family.modulus = 0);
+    GIVES(REFUSED_RECORD, 2, x.family.modulus = 8);
+    GIVES(REFUSED_RECORD, 2, x.family.rows = 0);
+    GIVES(REFUSED_RECORD, 2, x.family.rows = 1);
+    GIVES(REFUSED_RECORD, 2, x.family.rows = 3);
+    GIVES(REFUSED_RECORD, ZAHUPNIK_MOST_ROWS, x.family.rows = ZAHUPNIK_MOST_ROWS + 1);
+    GIVES(REFUSED_RECORD, ZAHUPNIK_MOST_ROWS, x.family.rows = UINT32_MAX);
     GIVES(FINISHED, 2, x.family.b[1] = 6);
     GIVES(FINISHED, 2, x.family.c[0] = 0);
-    GIVES(RECORD, 2, x.family.a[1] = 0);
-    GIVES(RECORD, 2, x.family.a[1] = 2);
-    GIVES(RECORD, 2, x.family.a[1] = 8);
-    GIVES(RECORD, 2, x.family.b[1] = 7);
-    GIVES(RECORD, 2, x.family.c[0] = 7);
-    GIVES(RECORD, 2, x.family.c[1] = 0);
-    GIVES(RECORD, 2, x.family.c[1] = 8);
-    GIVES(RECORD, 2, x.family.a_inverses[0] = 8);
-    GIVES(RECORD, 2, x.family.a_inverses[1] = 0);
-    GIVES(RECORD, 2, x.family.c_inverses[0] = 1);
-    GIVES(RECORD, 2, x.family.c_inverses[1] = 8);
-    GIVES(RECORD, 2, x.family.norms[0] = 0);
-    GIVES(RECORD, 2, x.family.norms[2] = 8);
-    GIVES(RECORD, 2, x.family.a[2] = 1);
-    GIVES(RECORD, 2, x.family.b[2] = 1);
-    GIVES(RECORD, 2, x.family.c[2] = 1);
-    GIVES(RECORD, 2, x.family.a_inverses[2] = 1);
-    GIVES(RECORD, 2, x.family.c_inverses[2] = 1);
-    GIVES(RECORD, 2, x.family.norms[3] = 1);
-    GIVES(RECORD, 2, x.family.b[ZAHUPNIK_MOST_ROWS - 1] = 1);
-    GIVES(RECORD, 2, x.family.norms[ZAHUPNIK_MOST_ROWS] = 1);
-    GIVES(RECORD, ZAHUPNIK_MOST_ROWS, x.family.norms[ZAHUPNIK_MOST_ROWS] = 0);
-    GIVES(RECORD, 2, (x.family.norms[2] = 0, x.curve_length = x.output_length = x.work_length = 0));
-    GIVES(RECORD, 2, (x.family.norms[2] = 0, x.curve[2] = 7));
-    GIVES(OUTPUT_LENGTH, 2, x.output_length = 0);
-    GIVES(OUTPUT_LENGTH, 2, x.output_length--);
+    GIVES(REFUSED_RECORD, 2, x.family.a[1] = 0);
+    GIVES(REFUSED_RECORD, 2, x.family.a[1] = 2);
+    GIVES(REFUSED_RECORD, 2, x.family.a[1] = 8);
+    GIVES(REFUSED_RECORD, 2, x.family.b[1] = 7);
+    GIVES(REFUSED_RECORD, 2, x.family.c[0] = 7);
+    GIVES(REFUSED_RECORD, 2, x.family.c[1] = 0);
+    GIVES(REFUSED_RECORD, 2, x.family.c[1] = 8);
+    GIVES(REFUSED_RECORD, 2, x.family.a_inverses[0] = 8);
+    GIVES(REFUSED_RECORD, 2, x.family.a_inverses[1] = 0);
+    GIVES(REFUSED_RECORD, 2, x.family.c_inverses[0] = 1);
+    GIVES(REFUSED_RECORD, 2, x.family.c_inverses[1] = 8);
+    GIVES(REFUSED_RECORD, 2, x.family.norms[0] = 0);
+    GIVES(REFUSED_RECORD, 2, x.family.norms[2] = 8);
+    GIVES(REFUSED_RECORD, 2, x.family.a[2] = 1);
+    GIVES(REFUSED_RECORD, 2, x.family.b[2] = 1);
+    GIVES(REFUSED_RECORD, 2, x.family.c[2] = 1);
+    GIVES(REFUSED_RECORD, 2, x.family.a_inverses[2] = 1);
+    GIVES(REFUSED_RECORD, 2, x.family.c_inverses[2] = 1);
+    GIVES(REFUSED_RECORD, 2, x.family.norms[3] = 1);
+    GIVES(REFUSED_RECORD, 2, x.family.b[ZAHUPNIK_MOST_ROWS - 1] = 1);
+    GIVES(REFUSED_RECORD, 2, x.family.norms[ZAHUPNIK_MOST_ROWS] = 1);
+    GIVES(REFUSED_RECORD, ZAHUPNIK_MOST_ROWS, x.family.norms[ZAHUPNIK_MOST_ROWS] = 0);
+    GIVES(REFUSED_RECORD, 2, (x.family.norms[2] = 0, x.curve_length = x.output_length = x.work_length = 0));
+    GIVES(REFUSED_RECORD, 2, (x.family.norms[2] = 0, x.curve[2] = 7));
+    GIVES(REFUSED_OUTPUT_LENGTH, 2, x.output_length = 0);
+    GIVES(REFUSED_OUTPUT_LENGTH, 2, x.output_length--);
 }
 
 /* Changed in one thing, the record of some rows 1 1 1 is handed back with the number. */
@@ -271,46 +271,46 @@ static void on_record(const struct function *f) {
 #define MODULO_15 (x.modulus = 15, x.norms[1] = 14)
 
 static void on_changes(void) {
-    HANDED_BACK(RECORD, 2, x.modulus = 0, prepared_append, x, 1, 1, 1);
-    HANDED_BACK(RECORD, 2, x.norms[2] = 0, prepared_append, x, 7, 7, 7);
-    HANDED_BACK(RECORD, ZAHUPNIK_MOST_ROWS, x.rows++, prepared_append, x, 1, 1, 1);
-    HANDED_BACK(ROWS, ZAHUPNIK_MOST_ROWS, x.b[0] = 0, prepared_append, x, 1, 1, 1);
-    HANDED_BACK(ROWS, ZAHUPNIK_MOST_ROWS, x.b[0] = 0, prepared_append, x, 7, 0, 0);
-    HANDED_BACK(ENTRY, 2, x.b[0] = 0, prepared_append, x, 7, 1, 1);
-    HANDED_BACK(ENTRY, 2, x.b[0] = 0, prepared_append, x, 0, 7, 0);
-    HANDED_BACK(ENTRY, 0, x.modulus = 7, prepared_append, x, 1, 1, 7);
-    HANDED_BACK(A_ZERO, 0, x.modulus = 7, prepared_append, x, 0, 1, 1);
-    HANDED_BACK(A_ZERO, 0, x.modulus = 15, prepared_append, x, 0, 1, 6);
-    HANDED_BACK(A_INVERSE, 0, x.modulus = 15, prepared_append, x, 6, 1, 0);
-    HANDED_BACK(A_ZERO, 2, x.b[0] = 0, prepared_append, x, 0, 1, 0);
-    HANDED_BACK(A_ZERO, 1, MODULO_15, prepared_append, x, 0, 1, 6);
-    HANDED_BACK(A_INVERSE, 1, MODULO_15, prepared_append, x, 6, 1, 0);
-    HANDED_BACK(C_ZERO, 1, x.b[0] = 0, prepared_append, x, 1, 1, 0);
-    HANDED_BACK(C_ZERO, 2, x.b[0] = 0, prepared_append, x, 1, 1, 0);
-    HANDED_BACK(C_ZERO, 1, MODULO_15, prepared_append, x, 1, 1, 0);
-    HANDED_BACK(C_INVERSE, 1, MODULO_15, prepared_append, x, 1, 1, 6);
+    HANDED_BACK(REFUSED_RECORD, 2, x.modulus = 0, prepared_append, x, 1, 1, 1);
+    HANDED_BACK(REFUSED_RECORD, 2, x.norms[2] = 0, prepared_append, x, 7, 7, 7);
+    HANDED_BACK(REFUSED_RECORD, ZAHUPNIK_MOST_ROWS, x.rows++, prepared_append, x, 1, 1, 1);
+    HANDED_BACK(REFUSED_ROWS, ZAHUPNIK_MOST_ROWS, x.b[0] = 0, prepared_append, x, 1, 1, 1);
+    HANDED_BACK(REFUSED_ROWS, ZAHUPNIK_MOST_ROWS, x.b[0] = 0, prepared_append, x, 7, 0, 0);
+    HANDED_BACK(REFUSED_ENTRY, 2, x.b[0] = 0, prepared_append, x, 7, 1, 1);
+    HANDED_BACK(REFUSED_ENTRY, 2, x.b[0] = 0, prepared_append, x, 0, 7, 0);
+    HANDED_BACK(REFUSED_ENTRY, 0, x.modulus = 7, prepared_append, x, 1, 1, 7);
+    HANDED_BACK(REFUSED_A_ZERO, 0, x.modulus = 7, prepared_append, x, 0, 1, 1);
+    HANDED_BACK(REFUSED_A_ZERO, 0, x.modulus = 15, prepared_append, x, 0, 1, 6);
+    HANDED_BACK(REFUSED_A_INVERSE, 0, x.modulus = 15, prepared_append, x, 6, 1, 0);
+    HANDED_BACK(REFUSED_A_ZERO, 2, x.b[0] = 0, prepared_append, x, 0, 1, 0);
+    HANDED_BACK(REFUSED_A_ZERO, 1, MODULO_15, prepared_append, x, 0, 1, 6);
+    HANDED_BACK(REFUSED_A_INVERSE, 1, MODULO_15, prepared_append, x, 6, 1, 0);
+    HANDED_BACK(REFUSED_C_ZERO, 1, x.b[0] = 0, prepared_append, x, 1, 1, 0);
+    HANDED_BACK(REFUSED_C_ZERO, 2, x.b[0] = 0, prepared_append, x, 1, 1, 0);
+    HANDED_BACK(REFUSED_C_ZERO, 1, MODULO_15, prepared_append, x, 1, 1, 0);
+    HANDED_BACK(REFUSED_C_INVERSE, 1, MODULO_15, prepared_append, x, 1, 1, 6);
 
-    HANDED_BACK(RECORD, 0, x.norms[0] = 0, prepared_drop_last, x);
-    HANDED_BACK(RECORD, 2, x.a[2] = 1, prepared_drop_last, x);
-    HANDED_BACK(NO_ROWS, 0, x.modulus = 7, prepared_drop_last, x);
+    HANDED_BACK(REFUSED_RECORD, 0, x.norms[0] = 0, prepared_drop_last, x);
+    HANDED_BACK(REFUSED_RECORD, 2, x.a[2] = 1, prepared_drop_last, x);
+    HANDED_BACK(REFUSED_NO_ROWS, 0, x.modulus = 7, prepared_drop_last, x);
 
-    HANDED_BACK(RECORD, 2, x.c_inverses[1] = 8, prepared_replace, x, 2, 1, 1, 1);
-    HANDED_BACK(RECORD, 2, x.c_inverses[1] = 8, prepared_replace, x, 0, 7, 7, 7);
-    HANDED_BACK(ABSENT_ROW, 0, x.modulus = 7, prepared_replace, x, 1, 1, 1, 1);
-    HANDED_BACK(ABSENT_ROW, 2, x.b[0] = 0, prepared_replace, x, 0, 1, 1, 1);
-    HANDED_BACK(ABSENT_ROW, 2, x.b[0] = 0, prepared_replace, x, 3, 7, 0, 0);
-    HANDED_BACK(ABSENT_ROW, ZAHUPNIK_MOST_ROWS, x.b[0] = 0, prepared_replace, x, ZAHUPNIK_MOST_ROWS + 1, 1, 1, 1);
-    HANDED_BACK(ABSENT_ROW, ZAHUPNIK_MOST_ROWS, x.b[0] = 0, prepared_replace, x, UINT32_MAX, 1, 1, 1);
-    HANDED_BACK(ENTRY, 2, x.b[0] = 0, prepared_replace, x, 1, 1, 1, 7);
-    HANDED_BACK(ENTRY, 2, x.b[0] = 0, prepared_replace, x, 2, 0, 7, 0);
-    HANDED_BACK(A_ZERO, 2, x.b[0] = 0, prepared_replace, x, 1, 0, 1, 0);
-    HANDED_BACK(A_ZERO, 2, x.b[0] = 0, prepared_replace, x, 2, 0, 1, 0);
-    HANDED_BACK(A_INVERSE, 1, MODULO_15, prepared_replace, x, 1, 6, 1, 0);
-    HANDED_BACK(A_ZERO, 2, MODULO_15, prepared_replace, x, 2, 0, 1, 6);
-    HANDED_BACK(A_INVERSE, 2, MODULO_15, prepared_replace, x, 2, 6, 1, 0);
-    HANDED_BACK(C_ZERO, 2, x.b[0] = 0, prepared_replace, x, 2, 1, 1, 0);
-    HANDED_BACK(C_INVERSE, 2, MODULO_15, prepared_replace, x, 2, 1, 1, 6);
-    HANDED_BACK(C_ZERO, ZAHUPNIK_MOST_ROWS, x.b[0] = 0, prepared_replace, x, ZAHUPNIK_MOST_ROWS, 1, 1, 0);
+    HANDED_BACK(REFUSED_RECORD, 2, x.c_inverses[1] = 8, prepared_replace, x, 2, 1, 1, 1);
+    HANDED_BACK(REFUSED_RECORD, 2, x.c_inverses[1] = 8, prepared_replace, x, 0, 7, 7, 7);
+    HANDED_BACK(REFUSED_ABSENT_ROW, 0, x.modulus = 7, prepared_replace, x, 1, 1, 1, 1);
+    HANDED_BACK(REFUSED_ABSENT_ROW, 2, x.b[0] = 0, prepared_replace, x, 0, 1, 1, 1);
+    HANDED_BACK(REFUSED_ABSENT_ROW, 2, x.b[0] = 0, prepared_replace, x, 3, 7, 0, 0);
+    HANDED_BACK(REFUSED_ABSENT_ROW, ZAHUPNIK_MOST_ROWS, x.b[0] = 0, prepared_replace, x, ZAHUPNIK_MOST_ROWS + 1, 1, 1, 1);
+    HANDED_BACK(REFUSED_ABSENT_ROW, ZAHUPNIK_MOST_ROWS, x.b[0] = 0, prepared_replace, x, UINT32_MAX, 1, 1, 1);
+    HANDED_BACK(REFUSED_ENTRY, 2, x.b[0] = 0, prepared_replace, x, 1, 1, 1, 7);
+    HANDED_BACK(REFUSED_ENTRY, 2, x.b[0] = 0, prepared_replace, x, 2, 0, 7, 0);
+    HANDED_BACK(REFUSED_A_ZERO, 2, x.b[0] = 0, prepared_replace, x, 1, 0, 1, 0);
+    HANDED_BACK(REFUSED_A_ZERO, 2, x.b[0] = 0, prepared_replace, x, 2, 0, 1, 0);
+    HANDED_BACK(REFUSED_A_INVERSE, 1, MODULO_15, prepared_replace, x, 1, 6, 1, 0);
+    HANDED_BACK(REFUSED_A_ZERO, 2, MODULO_15, prepared_replace, x, 2, 0, 1, 6);
+    HANDED_BACK(REFUSED_A_INVERSE, 2, MODULO_15, prepared_replace, x, 2, 6, 1, 0);
+    HANDED_BACK(REFUSED_C_ZERO, 2, x.b[0] = 0, prepared_replace, x, 2, 1, 1, 0);
+    HANDED_BACK(REFUSED_C_INVERSE, 2, MODULO_15, prepared_replace, x, 2, 1, 1, 6);
+    HANDED_BACK(REFUSED_C_ZERO, ZAHUPNIK_MOST_ROWS, x.b[0] = 0, prepared_replace, x, ZAHUPNIK_MOST_ROWS, 1, 1, 0);
 
     /* A row that is already there. */
     HANDED_BACK(FINISHED, 2, x.b[0] = 0, prepared_replace, x, 1, 1, 0, 1);
@@ -328,11 +328,11 @@ static void on_records(void) {
     other.b[0] = 4;
     other.c[0] = 0;
     other.a_inverses[0] = other.norms[0] = 5;
-    hands_out("prepared_empty", "m = 0", zahupnik_prepared_empty(0), ZAHUPNIK_MODULUS, &zeros);
-    hands_out("prepared_empty", "m = 1", zahupnik_prepared_empty(1), ZAHUPNIK_MODULUS, &zeros);
+    hands_out("prepared_empty", "m = 0", zahupnik_prepared_empty(0), ZAHUPNIK_REFUSED_MODULUS, &zeros);
+    hands_out("prepared_empty", "m = 1", zahupnik_prepared_empty(1), ZAHUPNIK_REFUSED_MODULUS, &zeros);
     hands_out("prepared_empty", "m = 7", zahupnik_prepared_empty(7), ZAHUPNIK_FINISHED, &none);
-    hands_out("prepared_empty", "m = 2147483648", zahupnik_prepared_empty(2147483648), ZAHUPNIK_MODULUS, &zeros);
-    hands_out("prepared_empty", "m = 4294967295", zahupnik_prepared_empty(UINT32_MAX), ZAHUPNIK_MODULUS, &zeros);
+    hands_out("prepared_empty", "m = 2147483648", zahupnik_prepared_empty(2147483648), ZAHUPNIK_REFUSED_MODULUS, &zeros);
+    hands_out("prepared_empty", "m = 4294967295", zahupnik_prepared_empty(UINT32_MAX), ZAHUPNIK_REFUSED_MODULUS, &zeros);
     hands_out("prepared_append", "no rows", zahupnik_prepared_append(none, 1, 0, 1), ZAHUPNIK_FINISHED, &one);
     hands_out("prepared_append", "one row", zahupnik_prepared_append(one, 2, 3, 5), ZAHUPNIK_FINISHED, &two);
     hands_out("prepared_drop_last", "two rows", zahupnik_prepared_drop_last(two), ZAHUPNIK_FINISHED, &one);
@@ -342,40 +342,40 @@ static void on_records(void) {
 }
 
 static void on_curve(const struct function *f) {
-    GIVES(CURVE_LENGTH, 2, x.curve_length = 2);
-    GIVES(CURVE_LENGTH, 2, x.curve_length = 4);
+    GIVES(REFUSED_CURVE_LENGTH, 2, x.curve_length = 2);
+    GIVES(REFUSED_CURVE_LENGTH, 2, x.curve_length = 4);
     GIVES(FINISHED, 2, x.curve[2] = 6);
-    GIVES(CURVE_ENTRY, 2, x.curve[2] = 7);
+    GIVES(REFUSED_CURVE_ENTRY, 2, x.curve[2] = 7);
 }
 
 static void on_work(const struct function *f) {
-    GIVES(WORK_TOO_SHORT, 2, x.work_length = 0);
-    GIVES(WORK_TOO_SHORT, 2, x.work_length = ZAHUPNIK_LEAST_WORK - 1);
-    GIVES(WORK_TOO_SHORT, ZAHUPNIK_MOST_ROWS, x.work_length = ZAHUPNIK_LEAST_WORK - 1);
+    GIVES(REFUSED_WORK_TOO_SHORT, 2, x.work_length = 0);
+    GIVES(REFUSED_WORK_TOO_SHORT, 2, x.work_length = ZAHUPNIK_LEAST_WORK - 1);
+    GIVES(REFUSED_WORK_TOO_SHORT, ZAHUPNIK_MOST_ROWS, x.work_length = ZAHUPNIK_LEAST_WORK - 1);
     GIVES(FINISHED, 2, x.work_length = ZAHUPNIK_LEAST_WORK);
     GIVES(FINISHED, 2, x.work_length = ZAHUPNIK_LEAST_WORK + 1);
     GIVES(FINISHED, ZAHUPNIK_MOST_ROWS, x.work_length = ZAHUPNIK_LEAST_WORK + 3);
 }
 
-static void on_result(const struct function *f) { GIVES(OUTPUT_LENGTH, 2, x.output_length++); }
+static void on_result(const struct function *f) { GIVES(REFUSED_OUTPUT_LENGTH, 2, x.output_length++); }
 
 static void on_job(const struct function *f) {
-    GIVES(OUTPUT_LENGTH, 2, x.output_length = ZAHUPNIK_LEAST_TEXT_OUTPUT);
-    GIVES(OUTPUT_LENGTH, ZAHUPNIK_MOST_ROWS, x.output_length = LONGEST_JOB);
+    GIVES(REFUSED_OUTPUT_LENGTH, 2, x.output_length = ZAHUPNIK_LEAST_TEXT_OUTPUT);
+    GIVES(REFUSED_OUTPUT_LENGTH, ZAHUPNIK_MOST_ROWS, x.output_length = LONGEST_JOB);
     GIVES(FINISHED, 2, x.output_length++);
     GIVES(FINISHED, ZAHUPNIK_MOST_ROWS, x.output_length = JOB_ROOM);
     if (!f->takes_curve) {
-        GIVES(CURVE_LENGTH, 2, x.curve_length = 1);
-        GIVES(CURVE_LENGTH, 2, x.curve_length = 3);
+        GIVES(REFUSED_CURVE_LENGTH, 2, x.curve_length = 1);
+        GIVES(REFUSED_CURVE_LENGTH, 2, x.curve_length = 3);
     }
 }
 
 /* A number that names no operation goes before all else that may be wrong. */
 static void on_no_operation(const struct function *f) {
-    GIVES(TEXT_FORM, 2, x.m = 7);
-    GIVES(TEXT_FORM, 2, x.m = 0);
-    GIVES(TEXT_FORM, ZAHUPNIK_MOST_ROWS + 1, x.c_length = 0);
-    GIVES(TEXT_FORM, 2, x.output_length = 0);
+    GIVES(REFUSED_TEXT_FORM, 2, x.m = 7);
+    GIVES(REFUSED_TEXT_FORM, 2, x.m = 0);
+    GIVES(REFUSED_TEXT_FORM, ZAHUPNIK_MOST_ROWS + 1, x.c_length = 0);
+    GIVES(REFUSED_TEXT_FORM, 2, x.output_length = 0);
 }
 
 static const struct function jobs[] = {
@@ -429,7 +429,7 @@ static void inverts(const char *with, uint32_t m, uint32_t x, uint32_t inverse) 
 }
 
 static void has_none(const char *with, uint32_t m, uint32_t x, uint32_t factor) {
-    inverse_leaves(with, m, x, ZAHUPNIK_NO_INVERSE, UNWRITTEN, factor);
+    inverse_leaves(with, m, x, ZAHUPNIK_REFUSED_NO_INVERSE, UNWRITTEN, factor);
 }
 
 static void is_untouched(const char *with, uint32_t m, uint32_t x, uint32_t number) {
@@ -438,17 +438,17 @@ static void is_untouched(const char *with, uint32_t m, uint32_t x, uint32_t numb
 
 static void on_number(void) {
     const uint32_t greatest = ZAHUPNIK_GREATEST_MODULUS, moduli[] = {2, 3, 4, 15, 30, 65536, 223092870, 2147483646, greatest};
-    is_untouched("m = 0", 0, 0, ZAHUPNIK_MODULUS);
-    is_untouched("m = 0 and 1", 0, 1, ZAHUPNIK_MODULUS);
-    is_untouched("m = 1", 1, 0, ZAHUPNIK_MODULUS);
-    is_untouched("m = 1 and 1", 1, 1, ZAHUPNIK_MODULUS);
-    is_untouched("m one too great", greatest + 1, 1, ZAHUPNIK_MODULUS);
-    is_untouched("m one too great and 0", greatest + 1, 0, ZAHUPNIK_MODULUS);
-    is_untouched("m one too great and 2", greatest + 1, 2, ZAHUPNIK_MODULUS);
-    is_untouched("m = 4294967295 and 3", UINT32_MAX, 3, ZAHUPNIK_MODULUS);
-    is_untouched("16 modulo 15", 15, 16, ZAHUPNIK_CURVE_ENTRY);
-    is_untouched("18 modulo 15", 15, 18, ZAHUPNIK_CURVE_ENTRY);
-    is_untouched("4294967295 modulo 15", 15, UINT32_MAX, ZAHUPNIK_CURVE_ENTRY);
+    is_untouched("m = 0", 0, 0, ZAHUPNIK_REFUSED_MODULUS);
+    is_untouched("m = 0 and 1", 0, 1, ZAHUPNIK_REFUSED_MODULUS);
+    is_untouched("m = 1", 1, 0, ZAHUPNIK_REFUSED_MODULUS);
+    is_untouched("m = 1 and 1", 1, 1, ZAHUPNIK_REFUSED_MODULUS);
+    is_untouched("m one too great", greatest + 1, 1, ZAHUPNIK_REFUSED_MODULUS);
+    is_untouched("m one too great and 0", greatest + 1, 0, ZAHUPNIK_REFUSED_MODULUS);
+    is_untouched("m one too great and 2", greatest + 1, 2, ZAHUPNIK_REFUSED_MODULUS);
+    is_untouched("m = 4294967295 and 3", UINT32_MAX, 3, ZAHUPNIK_REFUSED_MODULUS);
+    is_untouched("16 modulo 15", 15, 16, ZAHUPNIK_REFUSED_CURVE_ENTRY);
+    is_untouched("18 modulo 15", 15, 18, ZAHUPNIK_REFUSED_CURVE_ENTRY);
+    is_untouched("4294967295 modulo 15", 15, UINT32_MAX, ZAHUPNIK_REFUSED_CURVE_ENTRY);
     inverts("1 modulo 2", 2, 1, 1);
     inverts("2 modulo the greatest m", greatest, 2, 1073741824);
     inverts("4 modulo 15", 15, 4, 4);
@@ -463,7 +463,7 @@ static void on_number(void) {
     for (size_t i = 0; i < sizeof moduli / sizeof *moduli; i++) {
         has_none("zero", moduli[i], 0, moduli[i]);
         inverts("m - 1", moduli[i], moduli[i] - 1, moduli[i] - 1);
-        is_untouched("m", moduli[i], moduli[i], ZAHUPNIK_CURVE_ENTRY);
+        is_untouched("m", moduli[i], moduli[i], ZAHUPNIK_REFUSED_CURVE_ENTRY);
     }
 }
 
@@ -499,27 +499,27 @@ static void on_text(void) {
     const size_t length = strlen(paper_job);
     answers("the paper's job", paper_job, length, bytes, work, ZAHUPNIK_FINISHED, answer);
     answers("more room", paper_job, length, bytes + 3, work + 3, ZAHUPNIK_FINISHED, answer);
-    answers("too little room", paper_job, length, bytes - 1, work - 1, ZAHUPNIK_OUTPUT_LENGTH, "");
-    answers("too short a working list", paper_job, length, bytes, work - 1, ZAHUPNIK_WORK_TOO_SHORT, "");
-    answers("no byte 10 at the end", paper_job, length - 1, bytes, work, ZAHUPNIK_TEXT_FORM, "");
-    answers("no text", NULL, 0, bytes, work, ZAHUPNIK_TEXT_FORM, "");
-    refuses("1", "1 2", "1 5", "3 0 1", ZAHUPNIK_MODULUS);
-    refuses("7", "1", "1 5", "3 0 1", ZAHUPNIK_LENGTHS);
-    refuses("7", "1 2", "1 5", "3 0", ZAHUPNIK_CURVE_LENGTH);
+    answers("too little room", paper_job, length, bytes - 1, work - 1, ZAHUPNIK_REFUSED_OUTPUT_LENGTH, "");
+    answers("too short a working list", paper_job, length, bytes, work - 1, ZAHUPNIK_REFUSED_WORK_TOO_SHORT, "");
+    answers("no byte 10 at the end", paper_job, length - 1, bytes, work, ZAHUPNIK_REFUSED_TEXT_FORM, "");
+    answers("no text", NULL, 0, bytes, work, ZAHUPNIK_REFUSED_TEXT_FORM, "");
+    refuses("1", "1 2", "1 5", "3 0 1", ZAHUPNIK_REFUSED_MODULUS);
+    refuses("7", "1", "1 5", "3 0 1", ZAHUPNIK_REFUSED_LENGTHS);
+    refuses("7", "1 2", "1 5", "3 0", ZAHUPNIK_REFUSED_CURVE_LENGTH);
     char rows[3 * 2 * (ZAHUPNIK_MOST_ROWS + 1) + 100], *at = rows + sprintf(rows, "mod=7");
     for (const char *key = "abc"; *key; key++) {
         at += sprintf(at, "\n%c=1", *key);
         for (size_t i = 0; i < ZAHUPNIK_MOST_ROWS; i++) at += sprintf(at, " 1");
     }
     at += sprintf(at, "\nop=norms\nv=\n");
-    answers("a row too many", rows, (size_t)(at - rows), bytes, work, ZAHUPNIK_ROWS, "");
-    refuses("7", "0 2", "1 7", "3 0 1", ZAHUPNIK_ENTRY);
-    refuses("7", "1 0", "1 5", "3 0 7", ZAHUPNIK_A_ZERO);
-    refuses("15", "6 0", "1 0", "3 0 1", ZAHUPNIK_A_INVERSE);
-    refuses("15", "0 6", "1 6", "3 0 1", ZAHUPNIK_A_ZERO);
-    refuses("15", "1 2", "0 6", "3 0 1", ZAHUPNIK_C_INVERSE);
-    refuses("15", "1 2", "6 0", "3 0 15", ZAHUPNIK_C_ZERO);
-    refuses("15", "1 2", "0 4", "3 0 15", ZAHUPNIK_CURVE_ENTRY);
+    answers("a row too many", rows, (size_t)(at - rows), bytes, work, ZAHUPNIK_REFUSED_ROWS, "");
+    refuses("7", "0 2", "1 7", "3 0 1", ZAHUPNIK_REFUSED_ENTRY);
+    refuses("7", "1 0", "1 5", "3 0 7", ZAHUPNIK_REFUSED_A_ZERO);
+    refuses("15", "6 0", "1 0", "3 0 1", ZAHUPNIK_REFUSED_A_INVERSE);
+    refuses("15", "0 6", "1 6", "3 0 1", ZAHUPNIK_REFUSED_A_ZERO);
+    refuses("15", "1 2", "0 6", "3 0 1", ZAHUPNIK_REFUSED_C_INVERSE);
+    refuses("15", "1 2", "6 0", "3 0 15", ZAHUPNIK_REFUSED_C_ZERO);
+    refuses("15", "1 2", "0 4", "3 0 15", ZAHUPNIK_REFUSED_CURVE_ENTRY);
 
     /* Of the form, and with far too many numbers in v: as long as a text may be, and one byte longer. */
     char text[ZAHUPNIK_MOST_TEXT + 1];
@@ -528,9 +528,9 @@ static void on_text(void) {
     text[head] = '1';
     for (size_t i = head + 2; i < most - 2; i += 2) text[i] = ' ';
     text[most - 1] = '\n';
-    answers("as long a text as may be", text, most, bytes, work, ZAHUPNIK_CURVE_LENGTH, "");
+    answers("as long a text as may be", text, most, bytes, work, ZAHUPNIK_REFUSED_CURVE_LENGTH, "");
     memmove(text + head + 1, text + head, most - head);
-    answers("a byte more", text, most + 1, bytes, work, ZAHUPNIK_TEXT_TOO_LONG, "");
+    answers("a byte more", text, most + 1, bytes, work, ZAHUPNIK_REFUSED_TEXT_TOO_LONG, "");
 }
 
 /* ---- two channels */
@@ -622,11 +622,11 @@ static void joins(const char *function, const char *with, const struct channels 
 static void on_channel_numbers(const char *function) {
     const uint32_t wrong[] = {0, 1, ZAHUPNIK_GREATEST_MODULUS + 1, UINT32_MAX};
     for (size_t i = 0; i < sizeof wrong / sizeof *wrong; i++) {
-        JOINS(function, MODULUS, 2, x.m1 = wrong[i]);
-        JOINS(function, MODULUS, 2, x.m2 = wrong[i]);
-        JOINS(function, MODULUS, 2, x.m1 = x.m2 = wrong[i]);
-        JOINS(function, MODULUS, 2, (x.m1 = wrong[i], x.a_length = x.second_length = x.output_length = x.curve_length = 0));
-        JOINS(function, MODULUS, 2, (x.m2 = wrong[i], x.a_length = x.second_length = x.output_length = x.curve_length = 0));
+        JOINS(function, REFUSED_MODULUS, 2, x.m1 = wrong[i]);
+        JOINS(function, REFUSED_MODULUS, 2, x.m2 = wrong[i]);
+        JOINS(function, REFUSED_MODULUS, 2, x.m1 = x.m2 = wrong[i]);
+        JOINS(function, REFUSED_MODULUS, 2, (x.m1 = wrong[i], x.a_length = x.second_length = x.output_length = x.curve_length = 0));
+        JOINS(function, REFUSED_MODULUS, 2, (x.m2 = wrong[i], x.a_length = x.second_length = x.output_length = x.curve_length = 0));
     }
     JOINS(function, FINISHED, 2, x.m1 = 2);
     JOINS(function, FINISHED, 2, x.m2 = 2);
@@ -636,15 +636,15 @@ static void on_channel_numbers(const char *function) {
     JOINS(function, FINISHED, 2, (x.m1 = ZAHUPNIK_GREATEST_MODULUS, x.m2 = ZAHUPNIK_GREATEST_MODULUS - 1));
     JOINS(function, FINISHED, 2, (x.m1 = 1073741824, x.m2 = ZAHUPNIK_GREATEST_MODULUS));
     JOINS(function, FINISHED, 2, (x.m1 = 4, x.m2 = 9));
-    JOINS(function, SHARED_FACTOR, 2, x.m1 = 15);
-    JOINS(function, SHARED_FACTOR, 2, x.m1 = 5);
-    JOINS(function, SHARED_FACTOR, 2, x.m1 = 45);
-    JOINS(function, SHARED_FACTOR, 2, x.m1 = 6);
-    JOINS(function, SHARED_FACTOR, 2, x.m2 = 14);
-    JOINS(function, SHARED_FACTOR, 2, (x.m1 = x.m2 = ZAHUPNIK_GREATEST_MODULUS));
-    JOINS(function, SHARED_FACTOR, 2, (x.m1 = 1073741824, x.m2 = ZAHUPNIK_GREATEST_MODULUS - 1));
-    JOINS(function, SHARED_FACTOR, 2, (x.m1 = x.m2 = 2));
-    JOINS(function, SHARED_FACTOR, 2, (x.m1 = 6, x.a_length = x.second_length = x.output_length = x.curve_length = 0));
+    JOINS(function, REFUSED_SHARED_FACTOR, 2, x.m1 = 15);
+    JOINS(function, REFUSED_SHARED_FACTOR, 2, x.m1 = 5);
+    JOINS(function, REFUSED_SHARED_FACTOR, 2, x.m1 = 45);
+    JOINS(function, REFUSED_SHARED_FACTOR, 2, x.m1 = 6);
+    JOINS(function, REFUSED_SHARED_FACTOR, 2, x.m2 = 14);
+    JOINS(function, REFUSED_SHARED_FACTOR, 2, (x.m1 = x.m2 = ZAHUPNIK_GREATEST_MODULUS));
+    JOINS(function, REFUSED_SHARED_FACTOR, 2, (x.m1 = 1073741824, x.m2 = ZAHUPNIK_GREATEST_MODULUS - 1));
+    JOINS(function, REFUSED_SHARED_FACTOR, 2, (x.m1 = x.m2 = 2));
+    JOINS(function, REFUSED_SHARED_FACTOR, 2, (x.m1 = 6, x.a_length = x.second_length = x.output_length = x.curve_length = 0));
 }
 
 static void on_join(void) {
@@ -652,32 +652,32 @@ static void on_join(void) {
     on_channel_numbers(f);
     JOINS(f, FINISHED, 0, x.first_length = x.second_length = x.output_length = 0);
     JOINS(f, FINISHED, ZAHUPNIK_MOST_ROWS + 1, x.m1 = 2);
-    JOINS(f, REMAINDERS, 2, x.first_length--);
-    JOINS(f, REMAINDERS, 2, x.first_length++);
-    JOINS(f, REMAINDERS, 2, x.second_length--);
-    JOINS(f, REMAINDERS, 2, x.second_length++);
-    JOINS(f, REMAINDERS, 2, x.first_length = 0);
-    JOINS(f, REMAINDERS, 2, x.second_length = 0);
-    JOINS(f, REMAINDERS, 2, (x.second_length++, x.output_length++));
-    JOINS(f, REMAINDERS, 2, (x.second_length++, x.output_length = 0));
-    JOINS(f, REMAINDERS, 2, (x.second_length++, x.first[0] = 7));
-    JOINS(f, REMAINDERS, 2, (x.second_length++, x.second[0] = 15));
-    JOINS(f, OUTPUT_LENGTH, 2, x.output_length = 0);
-    JOINS(f, OUTPUT_LENGTH, 2, x.output_length--);
-    JOINS(f, OUTPUT_LENGTH, 2, x.output_length++);
-    JOINS(f, OUTPUT_LENGTH, 0, x.first_length = x.second_length = 0);
-    JOINS(f, OUTPUT_LENGTH, 2, (x.output_length++, x.first[0] = 7));
-    JOINS(f, OUTPUT_LENGTH, 2, (x.output_length++, x.second[0] = 15));
+    JOINS(f, REFUSED_REMAINDERS, 2, x.first_length--);
+    JOINS(f, REFUSED_REMAINDERS, 2, x.first_length++);
+    JOINS(f, REFUSED_REMAINDERS, 2, x.second_length--);
+    JOINS(f, REFUSED_REMAINDERS, 2, x.second_length++);
+    JOINS(f, REFUSED_REMAINDERS, 2, x.first_length = 0);
+    JOINS(f, REFUSED_REMAINDERS, 2, x.second_length = 0);
+    JOINS(f, REFUSED_REMAINDERS, 2, (x.second_length++, x.output_length++));
+    JOINS(f, REFUSED_REMAINDERS, 2, (x.second_length++, x.output_length = 0));
+    JOINS(f, REFUSED_REMAINDERS, 2, (x.second_length++, x.first[0] = 7));
+    JOINS(f, REFUSED_REMAINDERS, 2, (x.second_length++, x.second[0] = 15));
+    JOINS(f, REFUSED_OUTPUT_LENGTH, 2, x.output_length = 0);
+    JOINS(f, REFUSED_OUTPUT_LENGTH, 2, x.output_length--);
+    JOINS(f, REFUSED_OUTPUT_LENGTH, 2, x.output_length++);
+    JOINS(f, REFUSED_OUTPUT_LENGTH, 0, x.first_length = x.second_length = 0);
+    JOINS(f, REFUSED_OUTPUT_LENGTH, 2, (x.output_length++, x.first[0] = 7));
+    JOINS(f, REFUSED_OUTPUT_LENGTH, 2, (x.output_length++, x.second[0] = 15));
     JOINS(f, FINISHED, 2, (x.first[0] = x.first[2] = 6, x.second[0] = x.second[2] = 14));
-    JOINS(f, CURVE_ENTRY, 2, x.first[0] = 7);
-    JOINS(f, CURVE_ENTRY, 2, x.first[2] = 7);
-    JOINS(f, CURVE_ENTRY, 2, x.first[2] = 14);
-    JOINS(f, CURVE_ENTRY, 2, x.first[1] = UINT32_MAX);
-    JOINS(f, CURVE_ENTRY, 2, x.second[0] = 15);
-    JOINS(f, CURVE_ENTRY, 2, x.second[2] = 15);
-    JOINS(f, CURVE_ENTRY, 2, x.second[1] = UINT32_MAX);
-    JOINS(f, CURVE_ENTRY, 2, (x.m1 = 15, x.m2 = 7, x.second[2] = 14));
-    JOINS(f, CURVE_ENTRY, 2, (x.first[2] = 7, x.second[0] = 15));
+    JOINS(f, REFUSED_CURVE_ENTRY, 2, x.first[0] = 7);
+    JOINS(f, REFUSED_CURVE_ENTRY, 2, x.first[2] = 7);
+    JOINS(f, REFUSED_CURVE_ENTRY, 2, x.first[2] = 14);
+    JOINS(f, REFUSED_CURVE_ENTRY, 2, x.first[1] = UINT32_MAX);
+    JOINS(f, REFUSED_CURVE_ENTRY, 2, x.second[0] = 15);
+    JOINS(f, REFUSED_CURVE_ENTRY, 2, x.second[2] = 15);
+    JOINS(f, REFUSED_CURVE_ENTRY, 2, x.second[1] = UINT32_MAX);
+    JOINS(f, REFUSED_CURVE_ENTRY, 2, (x.m1 = 15, x.m2 = 7, x.second[2] = 14));
+    JOINS(f, REFUSED_CURVE_ENTRY, 2, (x.first[2] = 7, x.second[0] = 15));
 }
 
 /* The numbers of a row without an inverse modulo 7 are the multiples of 7: zeros. Modulo 15 there are zeros and others. */
@@ -685,23 +685,23 @@ static void on_expand_join(void) {
     static const char f[] = "expand_join";
     const size_t most = ZAHUPNIK_MOST_ROWS;
     on_channel_numbers(f);
-    JOINS(f, LENGTHS, 2, x.a_length = 1);
-    JOINS(f, LENGTHS, 2, x.b_length = 3);
-    JOINS(f, LENGTHS, 2, x.c_length = 0);
-    JOINS(f, LENGTHS, ZAHUPNIK_MOST_ROWS + 1, (x.b_length--, x.curve_length = x.output_length = 0));
-    JOINS(f, LENGTHS, 2, (x.c_length--, x.a[0] = 0));
+    JOINS(f, REFUSED_LENGTHS, 2, x.a_length = 1);
+    JOINS(f, REFUSED_LENGTHS, 2, x.b_length = 3);
+    JOINS(f, REFUSED_LENGTHS, 2, x.c_length = 0);
+    JOINS(f, REFUSED_LENGTHS, ZAHUPNIK_MOST_ROWS + 1, (x.b_length--, x.curve_length = x.output_length = 0));
+    JOINS(f, REFUSED_LENGTHS, 2, (x.c_length--, x.a[0] = 0));
     JOINS(f, FINISHED, 0, x.a[0] = 0);
     JOINS(f, FINISHED, ZAHUPNIK_MOST_ROWS, x.b[most - 1] = -1);
-    JOINS(f, ROWS, ZAHUPNIK_MOST_ROWS + 1, x.m1 = 2);
-    JOINS(f, ROWS, ZAHUPNIK_MOST_ROWS + 1, (x.curve_length = x.output_length = 0, x.a[0] = 0));
-    JOINS(f, CURVE_LENGTH, 2, x.curve_length--);
-    JOINS(f, CURVE_LENGTH, 2, x.curve_length++);
-    JOINS(f, CURVE_LENGTH, 0, x.curve_length = 0);
-    JOINS(f, CURVE_LENGTH, 2, (x.curve_length--, x.output_length--, x.a[0] = 0));
-    JOINS(f, OUTPUT_LENGTH, 2, x.output_length = 0);
-    JOINS(f, OUTPUT_LENGTH, 2, x.output_length--);
-    JOINS(f, OUTPUT_LENGTH, 2, x.output_length++);
-    JOINS(f, OUTPUT_LENGTH, 2, (x.output_length++, x.a[0] = 0));
+    JOINS(f, REFUSED_ROWS, ZAHUPNIK_MOST_ROWS + 1, x.m1 = 2);
+    JOINS(f, REFUSED_ROWS, ZAHUPNIK_MOST_ROWS + 1, (x.curve_length = x.output_length = 0, x.a[0] = 0));
+    JOINS(f, REFUSED_CURVE_LENGTH, 2, x.curve_length--);
+    JOINS(f, REFUSED_CURVE_LENGTH, 2, x.curve_length++);
+    JOINS(f, REFUSED_CURVE_LENGTH, 0, x.curve_length = 0);
+    JOINS(f, REFUSED_CURVE_LENGTH, 2, (x.curve_length--, x.output_length--, x.a[0] = 0));
+    JOINS(f, REFUSED_OUTPUT_LENGTH, 2, x.output_length = 0);
+    JOINS(f, REFUSED_OUTPUT_LENGTH, 2, x.output_length--);
+    JOINS(f, REFUSED_OUTPUT_LENGTH, 2, x.output_length++);
+    JOINS(f, REFUSED_OUTPUT_LENGTH, 2, (x.output_length++, x.a[0] = 0));
 
     /* any number is taken: there is no 9 and no 12 */
     JOINS(f, FINISHED, 2, x.a[1] = x.b[1] = x.c[1] = x.curve[1] = INT32_MIN);
@@ -712,53 +712,53 @@ static void on_expand_join(void) {
     JOINS(f, FINISHED, 2, (x.m1 = ZAHUPNIK_GREATEST_MODULUS, x.a[1] = x.curve[0] = INT32_MIN));
     JOINS(f, FINISHED, 2, (x.m2 = ZAHUPNIK_GREATEST_MODULUS, x.c[1] = x.curve[2] = INT32_MIN));
 
-    JOINS(f, A_ZERO, 2, x.a[0] = 0);
-    JOINS(f, A_ZERO, 2, x.a[1] = 7);
-    JOINS(f, A_ZERO, 2, x.a[1] = -7);
-    JOINS(f, A_ZERO, 2, x.a[1] = INT32_MIN + 2);
-    JOINS(f, A_ZERO, 2, x.a[1] = 15);
-    JOINS(f, A_ZERO, 2, x.a[1] = -15);
-    JOINS(f, A_ZERO, 2, (x.m1 = ZAHUPNIK_GREATEST_MODULUS, x.a[1] = INT32_MAX));
-    JOINS(f, A_ZERO, 2, (x.m2 = ZAHUPNIK_GREATEST_MODULUS, x.a[1] = -INT32_MAX));
-    JOINS(f, A_ZERO, 2, (x.m1 = 1073741824, x.a[1] = INT32_MIN));
-    JOINS(f, A_INVERSE, 2, x.a[0] = 6);
-    JOINS(f, A_INVERSE, 2, x.a[1] = -6);
-    JOINS(f, A_INVERSE, 2, (x.m1 = 15, x.m2 = 7, x.a[1] = -10));
-    JOINS(f, C_ZERO, 2, x.c[1] = 0);
-    JOINS(f, C_ZERO, 2, x.c[1] = -7);
-    JOINS(f, C_ZERO, 2, x.c[1] = 30);
-    JOINS(f, C_INVERSE, 2, x.c[1] = 6);
-    JOINS(f, C_INVERSE, 2, (x.m1 = 15, x.m2 = 7, x.c[1] = -10));
-    JOINS(f, A_ZERO, ZAHUPNIK_MOST_ROWS, x.a[most - 1] = -15);
-    JOINS(f, A_INVERSE, ZAHUPNIK_MOST_ROWS, x.a[most - 1] = -5);
-    JOINS(f, C_ZERO, ZAHUPNIK_MOST_ROWS, x.c[most - 1] = -15);
-    JOINS(f, C_INVERSE, ZAHUPNIK_MOST_ROWS, x.c[most - 1] = -5);
+    JOINS(f, REFUSED_A_ZERO, 2, x.a[0] = 0);
+    JOINS(f, REFUSED_A_ZERO, 2, x.a[1] = 7);
+    JOINS(f, REFUSED_A_ZERO, 2, x.a[1] = -7);
+    JOINS(f, REFUSED_A_ZERO, 2, x.a[1] = INT32_MIN + 2);
+    JOINS(f, REFUSED_A_ZERO, 2, x.a[1] = 15);
+    JOINS(f, REFUSED_A_ZERO, 2, x.a[1] = -15);
+    JOINS(f, REFUSED_A_ZERO, 2, (x.m1 = ZAHUPNIK_GREATEST_MODULUS, x.a[1] = INT32_MAX));
+    JOINS(f, REFUSED_A_ZERO, 2, (x.m2 = ZAHUPNIK_GREATEST_MODULUS, x.a[1] = -INT32_MAX));
+    JOINS(f, REFUSED_A_ZERO, 2, (x.m1 = 1073741824, x.a[1] = INT32_MIN));
+    JOINS(f, REFUSED_A_INVERSE, 2, x.a[0] = 6);
+    JOINS(f, REFUSED_A_INVERSE, 2, x.a[1] = -6);
+    JOINS(f, REFUSED_A_INVERSE, 2, (x.m1 = 15, x.m2 = 7, x.a[1] = -10));
+    JOINS(f, REFUSED_C_ZERO, 2, x.c[1] = 0);
+    JOINS(f, REFUSED_C_ZERO, 2, x.c[1] = -7);
+    JOINS(f, REFUSED_C_ZERO, 2, x.c[1] = 30);
+    JOINS(f, REFUSED_C_INVERSE, 2, x.c[1] = 6);
+    JOINS(f, REFUSED_C_INVERSE, 2, (x.m1 = 15, x.m2 = 7, x.c[1] = -10));
+    JOINS(f, REFUSED_A_ZERO, ZAHUPNIK_MOST_ROWS, x.a[most - 1] = -15);
+    JOINS(f, REFUSED_A_INVERSE, ZAHUPNIK_MOST_ROWS, x.a[most - 1] = -5);
+    JOINS(f, REFUSED_C_ZERO, ZAHUPNIK_MOST_ROWS, x.c[most - 1] = -15);
+    JOINS(f, REFUSED_C_INVERSE, ZAHUPNIK_MOST_ROWS, x.c[most - 1] = -5);
 
     /* c of row 1 is not looked at */
     JOINS(f, FINISHED, 1, x.c[0] = 0);
     JOINS(f, FINISHED, 2, x.c[0] = -7);
     JOINS(f, FINISHED, 2, x.c[0] = 6);
     JOINS(f, FINISHED, ZAHUPNIK_MOST_ROWS, x.c[0] = 15);
-    JOINS(f, C_INVERSE, 2, (x.c[0] = 0, x.c[1] = 6));
-    JOINS(f, C_ZERO, 2, (x.c[0] = 6, x.c[1] = 15));
+    JOINS(f, REFUSED_C_INVERSE, 2, (x.c[0] = 0, x.c[1] = 6));
+    JOINS(f, REFUSED_C_ZERO, 2, (x.c[0] = 6, x.c[1] = 15));
 
     /* of a channel's rows without an inverse the lowest says why */
-    JOINS(f, A_INVERSE, 3, (x.a[1] = 6, x.a[2] = 15));
-    JOINS(f, A_ZERO, 3, (x.a[1] = 15, x.a[2] = 6));
-    JOINS(f, C_INVERSE, 3, (x.c[1] = 6, x.c[2] = 15));
-    JOINS(f, C_ZERO, 3, (x.c[1] = 15, x.c[2] = 6));
-    JOINS(f, A_INVERSE, 3, (x.m1 = 15, x.m2 = 7, x.a[1] = 6, x.a[2] = 15));
-    JOINS(f, A_ZERO, 3, (x.m1 = 15, x.m2 = 7, x.a[1] = 15, x.a[2] = 6));
+    JOINS(f, REFUSED_A_INVERSE, 3, (x.a[1] = 6, x.a[2] = 15));
+    JOINS(f, REFUSED_A_ZERO, 3, (x.a[1] = 15, x.a[2] = 6));
+    JOINS(f, REFUSED_C_INVERSE, 3, (x.c[1] = 6, x.c[2] = 15));
+    JOINS(f, REFUSED_C_ZERO, 3, (x.c[1] = 15, x.c[2] = 6));
+    JOINS(f, REFUSED_A_INVERSE, 3, (x.m1 = 15, x.m2 = 7, x.a[1] = 6, x.a[2] = 15));
+    JOINS(f, REFUSED_A_ZERO, 3, (x.m1 = 15, x.m2 = 7, x.a[1] = 15, x.a[2] = 6));
 
     /* the first channel before the second, whichever row is lower, and the a of both before the c of either */
-    JOINS(f, A_ZERO, 2, (x.a[0] = 6, x.a[1] = 7));
-    JOINS(f, A_INVERSE, 2, (x.m1 = 15, x.m2 = 7, x.a[0] = 7, x.a[1] = 6));
-    JOINS(f, C_ZERO, 3, (x.c[1] = 6, x.c[2] = 7));
-    JOINS(f, C_INVERSE, 3, (x.m1 = 15, x.m2 = 7, x.c[1] = 7, x.c[2] = 6));
-    JOINS(f, A_INVERSE, 2, (x.a[1] = 6, x.c[1] = 7));
-    JOINS(f, A_ZERO, 2, (x.m1 = 15, x.m2 = 7, x.a[1] = 7, x.c[1] = 6));
-    JOINS(f, A_ZERO, 2, (x.a[1] = 7, x.c[1] = 6));
-    JOINS(f, A_INVERSE, 2, (x.m1 = 15, x.m2 = 7, x.a[1] = 6, x.c[1] = 7));
+    JOINS(f, REFUSED_A_ZERO, 2, (x.a[0] = 6, x.a[1] = 7));
+    JOINS(f, REFUSED_A_INVERSE, 2, (x.m1 = 15, x.m2 = 7, x.a[0] = 7, x.a[1] = 6));
+    JOINS(f, REFUSED_C_ZERO, 3, (x.c[1] = 6, x.c[2] = 7));
+    JOINS(f, REFUSED_C_INVERSE, 3, (x.m1 = 15, x.m2 = 7, x.c[1] = 7, x.c[2] = 6));
+    JOINS(f, REFUSED_A_INVERSE, 2, (x.a[1] = 6, x.c[1] = 7));
+    JOINS(f, REFUSED_A_ZERO, 2, (x.m1 = 15, x.m2 = 7, x.a[1] = 7, x.c[1] = 6));
+    JOINS(f, REFUSED_A_ZERO, 2, (x.a[1] = 7, x.c[1] = 6));
+    JOINS(f, REFUSED_A_INVERSE, 2, (x.m1 = 15, x.m2 = 7, x.a[1] = 6, x.c[1] = 7));
 }
 
 /* The joined value of these two remainders. */
@@ -804,7 +804,7 @@ static void on_long_list(void) {
     }
     second[LONG_LIST - 1] = m2;
     expect("join", "a long list", "the number returned",
-           zahupnik_join(m1, m2, first, LONG_LIST, second, LONG_LIST, output, LONG_LIST), ZAHUPNIK_CURVE_ENTRY);
+           zahupnik_join(m1, m2, first, LONG_LIST, second, LONG_LIST, output, LONG_LIST), ZAHUPNIK_REFUSED_CURVE_ENTRY);
     for (size_t i = 0; i < LONG_LIST; i++) expect("join", "a long list that is refused", "the output", output[i], INT64_MAX);
     second[LONG_LIST - 1] = m2 - 1;
     expect("join", "a long list", "the number returned",
@@ -854,35 +854,35 @@ static void on_null(void) {
     LEAVES(zahupnik_plain_adjoint(NO_ROWS, curve, 1, output, 1), ZAHUPNIK_FINISHED, 3);
     LEAVES(zahupnik_plain_decompose(NO_ROWS, curve, 1, output, 1), ZAHUPNIK_FINISHED, 3);
     LEAVES(zahupnik_norms(NO_ROWS, output, 1), ZAHUPNIK_FINISHED, 1);
-    LEAVES(zahupnik_plain_expand(NO_ROWS, NO_LIST, output, 1), ZAHUPNIK_CURVE_LENGTH, UINT32_MAX);
-    LEAVES(zahupnik_plain_expand(NO_ROWS, curve, 1, NO_LIST), ZAHUPNIK_OUTPUT_LENGTH, UINT32_MAX);
-    LEAVES(zahupnik_norms(NO_ROWS, NO_LIST), ZAHUPNIK_OUTPUT_LENGTH, UINT32_MAX);
+    LEAVES(zahupnik_plain_expand(NO_ROWS, NO_LIST, output, 1), ZAHUPNIK_REFUSED_CURVE_LENGTH, UINT32_MAX);
+    LEAVES(zahupnik_plain_expand(NO_ROWS, curve, 1, NO_LIST), ZAHUPNIK_REFUSED_OUTPUT_LENGTH, UINT32_MAX);
+    LEAVES(zahupnik_norms(NO_ROWS, NO_LIST), ZAHUPNIK_REFUSED_OUTPUT_LENGTH, UINT32_MAX);
     LEAVES(zahupnik_tree_expand(NO_ROWS, curve, 1, output, 1, work, ZAHUPNIK_LEAST_WORK), ZAHUPNIK_FINISHED, 3);
     LEAVES(zahupnik_tree_adjoint(NO_ROWS, curve, 1, output, 1, work, ZAHUPNIK_LEAST_WORK), ZAHUPNIK_FINISHED, 3);
     LEAVES(zahupnik_tree_decompose(NO_ROWS, curve, 1, output, 1, work, ZAHUPNIK_LEAST_WORK), ZAHUPNIK_FINISHED, 3);
     LEAVES(zahupnik_moments(NO_ROWS, output, 1, work, ZAHUPNIK_LEAST_WORK), ZAHUPNIK_FINISHED, 1);
-    LEAVES(zahupnik_tree_expand(NO_ROWS, curve, 1, output, 1, NO_LIST), ZAHUPNIK_WORK_TOO_SHORT, UINT32_MAX);
-    LEAVES(zahupnik_tree_adjoint(NO_ROWS, curve, 1, output, 1, NO_LIST), ZAHUPNIK_WORK_TOO_SHORT, UINT32_MAX);
-    LEAVES(zahupnik_tree_decompose(NO_ROWS, curve, 1, output, 1, NO_LIST), ZAHUPNIK_WORK_TOO_SHORT, UINT32_MAX);
-    LEAVES(zahupnik_moments(NO_ROWS, output, 1, NO_LIST), ZAHUPNIK_WORK_TOO_SHORT, UINT32_MAX);
+    LEAVES(zahupnik_tree_expand(NO_ROWS, curve, 1, output, 1, NO_LIST), ZAHUPNIK_REFUSED_WORK_TOO_SHORT, UINT32_MAX);
+    LEAVES(zahupnik_tree_adjoint(NO_ROWS, curve, 1, output, 1, NO_LIST), ZAHUPNIK_REFUSED_WORK_TOO_SHORT, UINT32_MAX);
+    LEAVES(zahupnik_tree_decompose(NO_ROWS, curve, 1, output, 1, NO_LIST), ZAHUPNIK_REFUSED_WORK_TOO_SHORT, UINT32_MAX);
+    LEAVES(zahupnik_moments(NO_ROWS, output, 1, NO_LIST), ZAHUPNIK_REFUSED_WORK_TOO_SHORT, UINT32_MAX);
 
     const struct zahupnik_prepared family = zahupnik_prepared_empty(7).family;
-    LEAVES(zahupnik_prepared_plain_expand(family, NO_LIST, output, 1), ZAHUPNIK_CURVE_LENGTH, UINT32_MAX);
-    LEAVES(zahupnik_prepared_plain_adjoint(family, NO_LIST, output, 1), ZAHUPNIK_CURVE_LENGTH, UINT32_MAX);
-    LEAVES(zahupnik_prepared_plain_decompose(family, curve, 1, NO_LIST), ZAHUPNIK_OUTPUT_LENGTH, UINT32_MAX);
-    LEAVES(zahupnik_prepared_norms(family, NO_LIST), ZAHUPNIK_OUTPUT_LENGTH, UINT32_MAX);
-    LEAVES(zahupnik_prepared_tree_expand(family, curve, 1, output, 1, NO_LIST), ZAHUPNIK_WORK_TOO_SHORT, UINT32_MAX);
-    LEAVES(zahupnik_prepared_tree_adjoint(family, curve, 1, output, 1, NO_LIST), ZAHUPNIK_WORK_TOO_SHORT, UINT32_MAX);
-    LEAVES(zahupnik_prepared_tree_decompose(family, curve, 1, output, 1, NO_LIST), ZAHUPNIK_WORK_TOO_SHORT, UINT32_MAX);
-    LEAVES(zahupnik_prepared_moments(family, output, 1, NO_LIST), ZAHUPNIK_WORK_TOO_SHORT, UINT32_MAX);
+    LEAVES(zahupnik_prepared_plain_expand(family, NO_LIST, output, 1), ZAHUPNIK_REFUSED_CURVE_LENGTH, UINT32_MAX);
+    LEAVES(zahupnik_prepared_plain_adjoint(family, NO_LIST, output, 1), ZAHUPNIK_REFUSED_CURVE_LENGTH, UINT32_MAX);
+    LEAVES(zahupnik_prepared_plain_decompose(family, curve, 1, NO_LIST), ZAHUPNIK_REFUSED_OUTPUT_LENGTH, UINT32_MAX);
+    LEAVES(zahupnik_prepared_norms(family, NO_LIST), ZAHUPNIK_REFUSED_OUTPUT_LENGTH, UINT32_MAX);
+    LEAVES(zahupnik_prepared_tree_expand(family, curve, 1, output, 1, NO_LIST), ZAHUPNIK_REFUSED_WORK_TOO_SHORT, UINT32_MAX);
+    LEAVES(zahupnik_prepared_tree_adjoint(family, curve, 1, output, 1, NO_LIST), ZAHUPNIK_REFUSED_WORK_TOO_SHORT, UINT32_MAX);
+    LEAVES(zahupnik_prepared_tree_decompose(family, curve, 1, output, 1, NO_LIST), ZAHUPNIK_REFUSED_WORK_TOO_SHORT, UINT32_MAX);
+    LEAVES(zahupnik_prepared_moments(family, output, 1, NO_LIST), ZAHUPNIK_REFUSED_WORK_TOO_SHORT, UINT32_MAX);
 
     /* what a job leaves there is the length of its text */
     static uint8_t text[ZAHUPNIK_LEAST_JOB_OUTPUT];
     LEAVES(zahupnik_write_job(NO_ROWS, ZAHUPNIK_NORMS, NO_LIST, text, sizeof text, output), ZAHUPNIK_FINISHED, 27);
     LEAVES(zahupnik_write_job(NO_ROWS, ZAHUPNIK_EXPAND, curve, 1, text, sizeof text, output), ZAHUPNIK_FINISHED, 29);
-    LEAVES(zahupnik_write_job(NO_ROWS, ZAHUPNIK_EXPAND, NO_LIST, text, sizeof text, output), ZAHUPNIK_CURVE_LENGTH, UINT32_MAX);
-    LEAVES(zahupnik_write_job(NO_ROWS, ZAHUPNIK_NORMS, NO_LIST, NO_LIST, output), ZAHUPNIK_OUTPUT_LENGTH, UINT32_MAX);
-    LEAVES(zahupnik_write_job(NO_ROWS, 5, NO_LIST, NO_LIST, output), ZAHUPNIK_TEXT_FORM, UINT32_MAX);
+    LEAVES(zahupnik_write_job(NO_ROWS, ZAHUPNIK_EXPAND, NO_LIST, text, sizeof text, output), ZAHUPNIK_REFUSED_CURVE_LENGTH, UINT32_MAX);
+    LEAVES(zahupnik_write_job(NO_ROWS, ZAHUPNIK_NORMS, NO_LIST, NO_LIST, output), ZAHUPNIK_REFUSED_OUTPUT_LENGTH, UINT32_MAX);
+    LEAVES(zahupnik_write_job(NO_ROWS, 5, NO_LIST, NO_LIST, output), ZAHUPNIK_REFUSED_TEXT_FORM, UINT32_MAX);
 }
 
 #define LEAVES_SIGNED(call, number, entry)                                                \
@@ -899,18 +899,18 @@ static void on_null_of_two(void) {
     const int32_t curve[] = {-3};
     LEAVES_SIGNED(zahupnik_join(7, 15, NO_LIST, NO_LIST, NO_LIST), ZAHUPNIK_FINISHED, INT64_MIN);
     LEAVES_SIGNED(zahupnik_join(7, 15, NO_LIST, NO_LIST, output, 0), ZAHUPNIK_FINISHED, INT64_MIN);
-    LEAVES_SIGNED(zahupnik_join(7, 15, one, 1, NO_LIST, output, 1), ZAHUPNIK_REMAINDERS, INT64_MIN);
-    LEAVES_SIGNED(zahupnik_join(7, 15, NO_LIST, one, 1, output, 1), ZAHUPNIK_REMAINDERS, INT64_MIN);
-    LEAVES_SIGNED(zahupnik_join(7, 15, NO_LIST, one, 1, NO_LIST), ZAHUPNIK_REMAINDERS, INT64_MIN);
-    LEAVES_SIGNED(zahupnik_join(7, 15, NO_LIST, NO_LIST, output, 1), ZAHUPNIK_OUTPUT_LENGTH, INT64_MIN);
-    LEAVES_SIGNED(zahupnik_join(7, 15, one, 1, one, 1, NO_LIST), ZAHUPNIK_OUTPUT_LENGTH, INT64_MIN);
-    LEAVES_SIGNED(zahupnik_join(7, 21, NO_LIST, NO_LIST, NO_LIST), ZAHUPNIK_SHARED_FACTOR, INT64_MIN);
-    LEAVES_SIGNED(zahupnik_join(7, 0, NO_LIST, NO_LIST, NO_LIST), ZAHUPNIK_MODULUS, INT64_MIN);
+    LEAVES_SIGNED(zahupnik_join(7, 15, one, 1, NO_LIST, output, 1), ZAHUPNIK_REFUSED_REMAINDERS, INT64_MIN);
+    LEAVES_SIGNED(zahupnik_join(7, 15, NO_LIST, one, 1, output, 1), ZAHUPNIK_REFUSED_REMAINDERS, INT64_MIN);
+    LEAVES_SIGNED(zahupnik_join(7, 15, NO_LIST, one, 1, NO_LIST), ZAHUPNIK_REFUSED_REMAINDERS, INT64_MIN);
+    LEAVES_SIGNED(zahupnik_join(7, 15, NO_LIST, NO_LIST, output, 1), ZAHUPNIK_REFUSED_OUTPUT_LENGTH, INT64_MIN);
+    LEAVES_SIGNED(zahupnik_join(7, 15, one, 1, one, 1, NO_LIST), ZAHUPNIK_REFUSED_OUTPUT_LENGTH, INT64_MIN);
+    LEAVES_SIGNED(zahupnik_join(7, 21, NO_LIST, NO_LIST, NO_LIST), ZAHUPNIK_REFUSED_SHARED_FACTOR, INT64_MIN);
+    LEAVES_SIGNED(zahupnik_join(7, 0, NO_LIST, NO_LIST, NO_LIST), ZAHUPNIK_REFUSED_MODULUS, INT64_MIN);
     LEAVES_SIGNED(zahupnik_expand_join(NO_ROWS_OF_TWO, curve, 1, output, 1), ZAHUPNIK_FINISHED, -3);
-    LEAVES_SIGNED(zahupnik_expand_join(NO_ROWS_OF_TWO, NO_LIST, output, 1), ZAHUPNIK_CURVE_LENGTH, INT64_MIN);
-    LEAVES_SIGNED(zahupnik_expand_join(NO_ROWS_OF_TWO, curve, 1, NO_LIST), ZAHUPNIK_OUTPUT_LENGTH, INT64_MIN);
-    LEAVES_SIGNED(zahupnik_expand_join(7, 15, NO_LIST, curve, 1, NO_LIST, NO_LIST, output, 1), ZAHUPNIK_LENGTHS, INT64_MIN);
-    LEAVES_SIGNED(zahupnik_expand_join(7, 21, NO_LIST, NO_LIST, NO_LIST, NO_LIST, NO_LIST), ZAHUPNIK_SHARED_FACTOR, INT64_MIN);
+    LEAVES_SIGNED(zahupnik_expand_join(NO_ROWS_OF_TWO, NO_LIST, output, 1), ZAHUPNIK_REFUSED_CURVE_LENGTH, INT64_MIN);
+    LEAVES_SIGNED(zahupnik_expand_join(NO_ROWS_OF_TWO, curve, 1, NO_LIST), ZAHUPNIK_REFUSED_OUTPUT_LENGTH, INT64_MIN);
+    LEAVES_SIGNED(zahupnik_expand_join(7, 15, NO_LIST, curve, 1, NO_LIST, NO_LIST, output, 1), ZAHUPNIK_REFUSED_LENGTHS, INT64_MIN);
+    LEAVES_SIGNED(zahupnik_expand_join(7, 21, NO_LIST, NO_LIST, NO_LIST, NO_LIST, NO_LIST), ZAHUPNIK_REFUSED_SHARED_FACTOR, INT64_MIN);
 }
 
 /* ---- even powers first */
@@ -966,20 +966,20 @@ static void on_order(const struct order *f) {
         puts_in_order(f, "numbers 4294967295", greatest, length, length, ZAHUPNIK_FINISHED);
         puts_in_order(f, "4294967295 and 0 in turn", both, length, length, ZAHUPNIK_FINISHED);
         puts_in_order(f, "what the output holds", held, length, length, ZAHUPNIK_FINISHED);
-        puts_in_order(f, "an output one longer", rising, length, length + 1, ZAHUPNIK_OUTPUT_LENGTH);
-        puts_in_order(f, "an output of 256 numbers more", rising, length, length + 256, ZAHUPNIK_OUTPUT_LENGTH);
+        puts_in_order(f, "an output one longer", rising, length, length + 1, ZAHUPNIK_REFUSED_OUTPUT_LENGTH);
+        puts_in_order(f, "an output of 256 numbers more", rising, length, length + 256, ZAHUPNIK_REFUSED_OUTPUT_LENGTH);
         if (!length) continue;
-        puts_in_order(f, "an output one shorter", rising, length, length - 1, ZAHUPNIK_OUTPUT_LENGTH);
-        puts_in_order(f, "no output", rising, length, 0, ZAHUPNIK_OUTPUT_LENGTH);
+        puts_in_order(f, "an output one shorter", rising, length, length - 1, ZAHUPNIK_REFUSED_OUTPUT_LENGTH);
+        puts_in_order(f, "no output", rising, length, 0, ZAHUPNIK_REFUSED_OUTPUT_LENGTH);
     }
     for (size_t k = 0; k < sizeof too_long / sizeof *too_long; k++) {
         size_t length = too_long[k];
-        puts_in_order(f, "too many numbers", rising, length, length, ZAHUPNIK_ROWS);
-        puts_in_order(f, "too many zeros", zeros, length, length, ZAHUPNIK_ROWS);
-        puts_in_order(f, "too many numbers, and an output of 128", rising, length, MOST_ENTRIES, ZAHUPNIK_ROWS);
-        puts_in_order(f, "too many numbers, and an output one shorter", rising, length, length - 1, ZAHUPNIK_ROWS);
-        puts_in_order(f, "too many numbers, and an output one longer", rising, length, length + 1, ZAHUPNIK_ROWS);
-        puts_in_order(f, "too many numbers, and no output", rising, length, 0, ZAHUPNIK_ROWS);
+        puts_in_order(f, "too many numbers", rising, length, length, ZAHUPNIK_REFUSED_ROWS);
+        puts_in_order(f, "too many zeros", zeros, length, length, ZAHUPNIK_REFUSED_ROWS);
+        puts_in_order(f, "too many numbers, and an output of 128", rising, length, MOST_ENTRIES, ZAHUPNIK_REFUSED_ROWS);
+        puts_in_order(f, "too many numbers, and an output one shorter", rising, length, length - 1, ZAHUPNIK_REFUSED_ROWS);
+        puts_in_order(f, "too many numbers, and an output one longer", rising, length, length + 1, ZAHUPNIK_REFUSED_ROWS);
+        puts_in_order(f, "too many numbers, and no output", rising, length, 0, ZAHUPNIK_REFUSED_ROWS);
     }
 }
 
@@ -995,10 +995,10 @@ static void on_great_lengths(const struct order *f) {
     for (size_t k = 0; k < sizeof great / sizeof *great; k++) {
         for (size_t j = 0; j < sizeof few / sizeof *few; j++) {
             size_t length = few[j], more = great[k] + length;
-            expect(f->name, "a great length of both", "the number returned", f->run(page, more, page, more), ZAHUPNIK_ROWS);
-            expect(f->name, "a great length of the list", "the number returned", f->run(page, more, output, length), ZAHUPNIK_ROWS);
+            expect(f->name, "a great length of both", "the number returned", f->run(page, more, page, more), ZAHUPNIK_REFUSED_ROWS);
+            expect(f->name, "a great length of the list", "the number returned", f->run(page, more, output, length), ZAHUPNIK_REFUSED_ROWS);
             expect(f->name, "a great length of the output", "the number returned", f->run(list, length, page, more),
-                   ZAHUPNIK_OUTPUT_LENGTH);
+                   ZAHUPNIK_REFUSED_OUTPUT_LENGTH);
             cases += 3;
         }
     }
@@ -1050,14 +1050,14 @@ static void on_null_of_orders(void) {
     LEAVES(zahupnik_even_first(NO_LIST, NO_LIST), ZAHUPNIK_FINISHED, UINT32_MAX);
     LEAVES(zahupnik_even_first(NO_LIST, output, 0), ZAHUPNIK_FINISHED, UINT32_MAX);
     LEAVES(zahupnik_even_first(one, 0, NO_LIST), ZAHUPNIK_FINISHED, UINT32_MAX);
-    LEAVES(zahupnik_even_first(NO_LIST, output, 1), ZAHUPNIK_OUTPUT_LENGTH, UINT32_MAX);
-    LEAVES(zahupnik_even_first(one, 1, NO_LIST), ZAHUPNIK_OUTPUT_LENGTH, UINT32_MAX);
+    LEAVES(zahupnik_even_first(NO_LIST, output, 1), ZAHUPNIK_REFUSED_OUTPUT_LENGTH, UINT32_MAX);
+    LEAVES(zahupnik_even_first(one, 1, NO_LIST), ZAHUPNIK_REFUSED_OUTPUT_LENGTH, UINT32_MAX);
     LEAVES(zahupnik_even_first(one, 1, output, 1), ZAHUPNIK_FINISHED, 1);
     LEAVES(zahupnik_even_back(NO_LIST, NO_LIST), ZAHUPNIK_FINISHED, UINT32_MAX);
     LEAVES(zahupnik_even_back(NO_LIST, output, 0), ZAHUPNIK_FINISHED, UINT32_MAX);
     LEAVES(zahupnik_even_back(one, 0, NO_LIST), ZAHUPNIK_FINISHED, UINT32_MAX);
-    LEAVES(zahupnik_even_back(NO_LIST, output, 1), ZAHUPNIK_OUTPUT_LENGTH, UINT32_MAX);
-    LEAVES(zahupnik_even_back(one, 1, NO_LIST), ZAHUPNIK_OUTPUT_LENGTH, UINT32_MAX);
+    LEAVES(zahupnik_even_back(NO_LIST, output, 1), ZAHUPNIK_REFUSED_OUTPUT_LENGTH, UINT32_MAX);
+    LEAVES(zahupnik_even_back(one, 1, NO_LIST), ZAHUPNIK_REFUSED_OUTPUT_LENGTH, UINT32_MAX);
     LEAVES(zahupnik_even_back(one, 1, output, 1), ZAHUPNIK_FINISHED, 1);
 }
 
@@ -1086,6 +1086,7 @@ int main(void) {
         {"write_job, operation 5", NULL, 1, ZAHUPNIK_LEAST_JOB_OUTPUT, 0, 0, 5},
         {"write_job, operation 4294967295", NULL, 0, ZAHUPNIK_LEAST_JOB_OUTPUT, 0, 0, UINT32_MAX},
     };
+    expect("version", "no parameter", "the number returned", zahupnik_version(), ZAHUPNIK_VERSION);
     for (size_t i = 0; i < sizeof functions / sizeof *functions; i++) {
         const struct function *f = &functions[i];
         on_family(f);

@@ -24,7 +24,7 @@ _Static_assert(sizeof(struct zahupnik_change) == 3064, "a change is its answer a
 STANDS(zahupnik_change, answer, 0);
 STANDS(zahupnik_change, family, 4);
 
-enum { WORDS = 765, ANSWERS = ZAHUPNIK_C_ZERO + 1 };
+enum { WORDS = 765, ANSWERS = ZAHUPNIK_REFUSED_C_ZERO + 1 };
 
 union record {
     struct zahupnik_prepared family;

@@ -44,6 +44,7 @@ static unsigned char *frame;
         frame = __builtin_frame_address(0);                           \
         answer = zahupnik_##name(__VA_ARGS__);                        \
     }
+CALL(version, )
 CALL(invert, m, r ? a[r - 1] : 1, &output[0], &output[1])
 CALL(plain_expand, FAMILY, curve, n, output, n)
 CALL(plain_adjoint, FAMILY, curve, n, output, n)
@@ -84,6 +85,7 @@ static const struct {
     const char *name;
     void (*run)(void);
 } calls[] = {
+    {"zahupnik_version", version},
     {"zahupnik_invert", invert},
     {"zahupnik_plain_expand", plain_expand},
     {"zahupnik_plain_adjoint", plain_adjoint},
@@ -192,9 +194,9 @@ static void make_record(void) {
 
 /* What a call on the record at hand answers, which is right. */
 static uint32_t on_record(void (*run)(void)) {
-    if (run == prepared_append && r == MOST) return ZAHUPNIK_ROWS;
-    if (run == prepared_drop_last && r == 0) return ZAHUPNIK_NO_ROWS;
-    if (run == prepared_replace && r == 0) return ZAHUPNIK_ABSENT_ROW;
+    if (run == prepared_append && r == MOST) return ZAHUPNIK_REFUSED_ROWS;
+    if (run == prepared_drop_last && r == 0) return ZAHUPNIK_REFUSED_NO_ROWS;
+    if (run == prepared_replace && r == 0) return ZAHUPNIK_REFUSED_ABSENT_ROW;
     return ZAHUPNIK_FINISHED;
 }
 
@@ -204,7 +206,7 @@ static size_t greater(size_t x, size_t y) { return x < y ? y : x; }
  * lent the last a. */
 static size_t most_with(size_t i, uint32_t *place, uint32_t number, uint32_t refused) {
     const uint32_t before = *place;
-    if (calls[i].run == invert) refused = place == &a[MOST - 1] ? ZAHUPNIK_NO_INVERSE : ZAHUPNIK_FINISHED;
+    if (calls[i].run == invert) refused = place == &a[MOST - 1] ? ZAHUPNIK_REFUSED_NO_INVERSE : ZAHUPNIK_FINISHED;
     *place = number;
     size_t most = most_of(i, refused);
     *place = before;
@@ -214,11 +216,11 @@ static size_t most_with(size_t i, uint32_t *place, uint32_t number, uint32_t ref
 static size_t most_on_lists(size_t i, uint32_t modulus) {
     make_case(modulus, MOST);
     size_t most = most_of(i, ZAHUPNIK_FINISHED);
-    most = greater(most, most_with(i, &c[MOST - 1], 0, ZAHUPNIK_C_ZERO));
-    most = greater(most, most_with(i, &a[MOST - 1], 0, ZAHUPNIK_A_ZERO));
+    most = greater(most, most_with(i, &c[MOST - 1], 0, ZAHUPNIK_REFUSED_C_ZERO));
+    most = greater(most, most_with(i, &a[MOST - 1], 0, ZAHUPNIK_REFUSED_A_ZERO));
     if (modulus % 2 == 0) {
-        most = greater(most, most_with(i, &c[MOST - 1], 2, ZAHUPNIK_C_INVERSE));
-        most = greater(most, most_with(i, &a[MOST - 1], 2, ZAHUPNIK_A_INVERSE));
+        most = greater(most, most_with(i, &c[MOST - 1], 2, ZAHUPNIK_REFUSED_C_INVERSE));
+        most = greater(most, most_with(i, &a[MOST - 1], 2, ZAHUPNIK_REFUSED_A_INVERSE));
     }
     make_case(modulus, 0);
     return greater(most, most_of(i, ZAHUPNIK_FINISHED));
@@ -232,7 +234,7 @@ static size_t most_on_records(size_t i, uint32_t modulus) {
         make_record();
         most = greater(most, most_of(i, on_record(calls[i].run)));
         family.norms[0] ^= 1;
-        most = greater(most, most_of(i, calls[i].run == prepared_empty ? ZAHUPNIK_FINISHED : ZAHUPNIK_RECORD));
+        most = greater(most, most_of(i, calls[i].run == prepared_empty ? ZAHUPNIK_FINISHED : ZAHUPNIK_REFUSED_RECORD));
     }
     return most;
 }
@@ -265,14 +267,14 @@ static size_t most_with_signed(size_t i, int32_t *place, int32_t number, uint32_
 static size_t most_on_channels(size_t i, uint32_t modulus, uint32_t second_modulus) {
     make_channels(modulus, second_modulus, MOST);
     size_t most = most_of(i, ZAHUPNIK_FINISHED);
-    most = greater(most, most_with_signed(i, &signed_c[MOST - 1], 0, ZAHUPNIK_C_ZERO));
-    most = greater(most, most_with_signed(i, &signed_a[MOST - 1], 0, ZAHUPNIK_A_ZERO));
-    most = greater(most, most_with_signed(i, &signed_c[MOST - 1], -2, ZAHUPNIK_C_INVERSE));
-    most = greater(most, most_with_signed(i, &signed_a[MOST - 1], -2, ZAHUPNIK_A_INVERSE));
+    most = greater(most, most_with_signed(i, &signed_c[MOST - 1], 0, ZAHUPNIK_REFUSED_C_ZERO));
+    most = greater(most, most_with_signed(i, &signed_a[MOST - 1], 0, ZAHUPNIK_REFUSED_A_ZERO));
+    most = greater(most, most_with_signed(i, &signed_c[MOST - 1], -2, ZAHUPNIK_REFUSED_C_INVERSE));
+    most = greater(most, most_with_signed(i, &signed_a[MOST - 1], -2, ZAHUPNIK_REFUSED_A_INVERSE));
     second[MOST] = second_m;
-    most = greater(most, most_of(i, calls[i].run == join ? ZAHUPNIK_CURVE_ENTRY : ZAHUPNIK_FINISHED));
+    most = greater(most, most_of(i, calls[i].run == join ? ZAHUPNIK_REFUSED_CURVE_ENTRY : ZAHUPNIK_FINISHED));
     second_m = m;
-    most = greater(most, most_of(i, ZAHUPNIK_SHARED_FACTOR));
+    most = greater(most, most_of(i, ZAHUPNIK_REFUSED_SHARED_FACTOR));
     make_channels(modulus, second_modulus, 0);
     return greater(most, most_of(i, ZAHUPNIK_FINISHED));
 }
@@ -289,13 +291,14 @@ static size_t most_on_orders(size_t i) {
     for (size_t k = 0; k <= ZAHUPNIK_MOST_ENTRIES; k++) {
         list[k] = next();
         most = greater(most, most_of_lengths(i, k, k, ZAHUPNIK_FINISHED));
-        most = greater(most, most_of_lengths(i, k, k + 1, ZAHUPNIK_OUTPUT_LENGTH));
+        most = greater(most, most_of_lengths(i, k, k + 1, ZAHUPNIK_REFUSED_OUTPUT_LENGTH));
     }
-    most = greater(most, most_of_lengths(i, ZAHUPNIK_MOST_ENTRIES, 0, ZAHUPNIK_OUTPUT_LENGTH));
-    return greater(most, most_of_lengths(i, ZAHUPNIK_MOST_ENTRIES + 1, ZAHUPNIK_MOST_ENTRIES + 1, ZAHUPNIK_ROWS));
+    most = greater(most, most_of_lengths(i, ZAHUPNIK_MOST_ENTRIES, 0, ZAHUPNIK_REFUSED_OUTPUT_LENGTH));
+    return greater(most, most_of_lengths(i, ZAHUPNIK_MOST_ENTRIES + 1, ZAHUPNIK_MOST_ENTRIES + 1, ZAHUPNIK_REFUSED_ROWS));
 }
 
 static size_t most_on(size_t i, uint32_t modulus, uint32_t other) {
+    if (calls[i].run == version) return most_of(i, ZAHUPNIK_VERSION);
     if (i < FIRST_ON_RECORDS) return most_on_lists(i, modulus);
     if (i < FIRST_ON_CHANNELS) return most_on_records(i, modulus);
     return i < FIRST_ORDER ? most_on_channels(i, modulus, other) : most_on_orders(i);

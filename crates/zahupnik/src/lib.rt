@@ -43,6 +43,14 @@ fn number(answer: Answer) -> u32
     }
 }
 
+// The version that include/zahupnik.h states: its major number times 10000, its minor times 100 and its patch, added up.
+#[no_mangle]
+pub extern "C" fn zahupnik_version() -> u32
+    ensures { λ r. ⌜ r ≡ 10000 ⌝ }
+{
+    10000
+}
+
 // Inverse and the greatest common factor, written to the lent numbers. Refused as plain_calls::invert is, with 13 after the factor is written.
 #[no_mangle]
 pub extern "C" fn zahupnik_invert(m: u32, x: u32, inverse: &mut u32, factor: &mut u32) -> u32
