@@ -19,6 +19,7 @@ INCLUDEDIR ?= $(includedir)
 mandir ?= $(PREFIX)/share/man
 MANDIR ?= $(mandir)
 INSTALL ?= install
+DIST ?= target/dist
 CFLAGS ?= -O2
 
 # The version is the header's, and the soname its first number.
@@ -115,7 +116,8 @@ install: folders $(if $(shell command -v rt),all,built)
 	$(INSTALL) -d $(call to,$(BINDIR)) $(call to,$(PC)) $(call to,$(CMAKE)) $(call to,$(INCLUDEDIR)) \
 	    $(call to,$(MANDIR)/man1) $(call to,$(MANDIR)/man3)
 	$(INSTALL) -m 755 $(PROGRAMS) $(call to,$(BINDIR))
-	$(INSTALL) -m 644 $(ARCHIVE) $(SHARED) $(call to,$(LIBDIR))
+	$(INSTALL) -m 644 $(ARCHIVE) $(call to,$(LIBDIR))
+	$(INSTALL) -m 755 $(SHARED) $(call to,$(LIBDIR))
 	ln -sfn $(notdir $(SHARED)) $(call to,$(LIBDIR)/$(SONAME))
 	ln -sfn $(SONAME) $(call to,$(LIBDIR)/libzahupnik.so)
 	$(INSTALL) -m 644 $(HEADERS) $(call to,$(INCLUDEDIR))
@@ -137,13 +139,13 @@ uninstall: folders
 	@[ ! -d $(call to,$(CMAKE)) ] || rmdir --ignore-fail-on-non-empty $(call to,$(CMAKE))
 	@[ -z $(call to,) ] || [ ! -d $(call to,) ] || { \
 	    cd $(call to,) && \
-	    for folder in $(CMAKE) $(PC) $(LIBDIR) $(BINDIR) $(INCLUDEDIR) $(MANDIR)/man1 $(MANDIR)/man3; do \
+	    for folder in $(LIBDIR)/cmake $(PC) $(LIBDIR) $(BINDIR) $(INCLUDEDIR) $(MANDIR)/man1 $(MANDIR)/man3; do \
 	        [ ! -d ".$$folder" ] || rmdir -p --ignore-fail-on-non-empty "$${folder#/}"; \
 	    done; \
 	}
 
 dist: all
-	@packaging/dist $(VERSION)
+	@packaging/dist $(VERSION) $(call quoted,$(DIST))
 
 clean:
 	rm -rf target/lib target/dist target/bin/why
