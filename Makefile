@@ -36,7 +36,7 @@ HEADERS = $(wildcard include/*.h)
 PAGES = $(wildcard man/*.1 man/*.3)
 
 # The tests that prove nothing anew, each tests/NAME/run.
-CHECKS = documents library texts store desk install
+CHECKS = documents header library texts store desk install
 
 all: $(ARCHIVE) $(SHARED) $(PROGRAMS)
 
