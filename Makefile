@@ -36,7 +36,7 @@ HEADERS = $(wildcard include/*.h)
 PAGES = $(wildcard man/*.1 man/*.3)
 
 # The tests that prove nothing anew, each tests/NAME/run.
-CHECKS = documents header library texts store desk install
+CHECKS = documents header library texts store desk man install
 
 all: $(ARCHIVE) $(SHARED) $(PROGRAMS)
 
@@ -69,12 +69,15 @@ target/bin/why: $(wildcard why/*.c why/*.h) $(HEADERS) $(ARCHIVE)
 	@mkdir -p $(@D)
 	$(CC) -std=c11 $(CPPFLAGS) $(CFLAGS) -Iinclude $(LDFLAGS) -o $@ $(filter %.c,$^) $(ARCHIVE)
 
+# All of them run, whatever one of them says, and those that failed are named last.
 check: all
-	@for test in $(CHECKS); do \
+	@failed=; \
+	for test in $(CHECKS); do \
 	    printf 'check: tests/%s/run\n' "$$test"; \
-	    "tests/$$test/run" || { printf 'check: FAILED: tests/%s/run\n' "$$test" >&2; exit 1; }; \
-	done
-	@printf 'check: passed: %s\n' '$(CHECKS)'
+	    "tests/$$test/run" || failed="$$failed tests/$$test/run"; \
+	done; \
+	[ -z "$$failed" ] || { printf 'check: FAILED:%s\n' "$$failed" >&2; exit 1; }; \
+	printf 'check: passed: %s\n' '$(CHECKS)'
 
 quoted = '$(subst ','\'',$(1))'
 to = $(call quoted,$(DESTDIR)$(1))
