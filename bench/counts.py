@@ -1,51 +1,68 @@
 """Prints the instructions of each call from the files that callgrind wrote: one file for each call (bench.c, count).
 
-usage: counts.py FILES..
+usage: python3 bench/counts.py FILES..
+
+bench/run calls it. Exits 1 if a file is missing or is not what callgrind writes; 2 for bad arguments.
 """
+
 import collections
+import os
 import re
 import sys
+
+sys.dont_write_bytecode = True
+sys.path.append(os.path.join(os.path.dirname(os.path.abspath(__file__)), os.pardir, "bin"))
+
+from script import Failure, Parser, run, text_of  # noqa: E402
 
 LEAST_SHARE = 0.01
 
 
 def number(path):
     """The number that ends a file's name: callgrind counts them up."""
-    return int(path.rsplit(".", 1)[1])
+    last = path.rpartition(".")[2]
+    if not last.isdecimal():
+        raise Failure(f"{path}: its name does not end in a number, as callgrind has it")
+    return int(last)
 
 
 def read(path):
     """The label of a file, and its instructions by function, where a call of itself ('2) counts for the function."""
     label, total, function, names, is_call = "", 0, None, {}, False
     costs = collections.Counter()
-    with open(path) as lines:
-        for line in lines:
-            if line.startswith("desc: Trigger: Client Request: "):
-                label = line.split(": ", 3)[3].strip()
-            elif line.startswith("summary: "):
-                total = int(line.split()[1])
-            elif line.startswith("fn="):
-                found = re.match(r"fn=(\(\d+\))(?: (.*))?", line)
-                function = names.setdefault(found[1], found[2])
-            elif line.startswith("cfn="):
-                found = re.match(r"cfn=(\(\d+\))(?: (.*))?", line)
-                names.setdefault(found[1], found[2])
-            elif line.startswith("calls="):
-                is_call = True
-            elif re.match(r"[+*\d-]", line):
-                if not is_call:
-                    costs[function.split("'")[0]] += int(line.split()[1])
-                is_call = False
+    for line in text_of(path).splitlines():
+        if line.startswith("desc: Trigger: Client Request: "):
+            label = line.split(": ", 3)[3].strip()
+        elif line.startswith("summary: "):
+            total = int(line.split()[1])
+        elif line.startswith("fn="):
+            found = re.match(r"fn=(\(\d+\))(?: (.*))?", line)
+            function = names.setdefault(found[1], found[2])
+        elif line.startswith("cfn="):
+            found = re.match(r"cfn=(\(\d+\))(?: (.*))?", line)
+            names.setdefault(found[1], found[2])
+        elif line.startswith("calls="):
+            is_call = True
+        elif re.match(r"[+*\d-]", line):
+            if not is_call:
+                costs[function.split("'")[0]] += int(line.split()[1])
+            is_call = False
     found = sum(costs.values())
     if found != total:
-        sys.exit(f"counts: {path}: its functions have {found} instructions, and it says {total}")
+        raise Failure(f"{path}: its functions have {found} instructions, and it says {total}")
     return label, costs
 
 
-def main(paths):
+def main():
+    """Read the files, and print the tables."""
+    parser = Parser(__doc__)
+    parser.add_argument("files", metavar="FILES", nargs="+")
     counts = {}
-    for path in sorted(paths, key=number):
-        label, costs = read(path)
+    for path in sorted(parser.parse_args().files, key=number):
+        try:
+            label, costs = read(path)
+        except (AttributeError, LookupError, TypeError, ValueError) as problem:
+            raise Failure(f"{path}: it is not what callgrind writes: {problem}") from problem
         if "/" in label:
             modulus, name, call = label.split("/")
             counts.setdefault(modulus, {}).setdefault(name, {})[call] = costs
@@ -78,6 +95,4 @@ def main(paths):
 
 
 if __name__ == "__main__":
-    if len(sys.argv) < 2:
-        sys.exit("usage: counts.py FILES..")
-    main(sys.argv[1:])
+    run("counts", main)

@@ -1,64 +1,64 @@
-# Runs a proved program of crates/, and proves and builds it first where it has to: what bin/channel and bin/store do alike. Sourced by them,
-# with `top` set to the top of the repository, `name` to the program's and `usage` to a line that says how it is started.
+# Runs a program of this repository, and proves and builds it first where it has to: what bin/channel, bin/store and bin/why do alike. Sourced
+# by them, with `top` set to the repository's root, `name` to the program's name and `waits_for` to what a user at a terminal has to type.
+# A program that rt does not link by itself has `sources`, `tools` and make_program of its own.
 set -euo pipefail
+. "$top/bin/script.sh"
 
-say() { printf '%s: %s\n' "$name" "$*" >&2; }
-fail() {
-    say "$*"
-    exit 1
+sources=(crates crates.txt)
+tools=(rt)
+make_program() { # in the repository's root
+    rt check "$name"
 }
 
 program=$top/target/bin/$name
-built=$top/target/$name.built # as old as the start of the last build that succeeded
+built=$top/target/$name.built # two checksums: of the sources when the last build that succeeded began, and of the program
 log=$top/target/$name.log
 
 # What may take long runs in the background and is waited for: bash acts on a signal only when the foreground is done, and on INT not
 # even then.
-waited='' # the last process of the background that was waited for; one that was started after it ends with this script, and its group too
 end_by() { # NUMBER: of the signal
     trap '' HUP INT QUIT TERM
-    if [ "${!-}" != "$waited" ]; then
-        kill -KILL -- "-$!" "$!" 2>/dev/null || :
-        wait "$!" 2>/dev/null || :
-    fi
+    end_started
+    wait 2>/dev/null || :
     exit $((128 + $1))
 }
-await() { # the process of the background that was started last
-    local status=0
-    wait "$!" || status=$?
-    waited=$!
-    return "$status"
+contents_of() { # FILES AND FOLDERS of the repository..
+    (cd "$top" && contents "$@" 2>/dev/null)
 }
-is_built() { # whether no source has changed since the program was built
-    local newer=''
+is_built() { # whether the program is the one that was built last, from sources that are as they were
+    local kept=() found=()
     [ -x "$program" ] && [ -f "$built" ] || return
-    IFS= read -r newer < <(exec find "$top/crates" "$top/crates.txt" -newer "$built" -print -quit) || :
-    await && [ -z "$newer" ]
+    mapfile -t kept <"$built"
+    mapfile -t found < <(contents_of "${sources[@]}" && contents_of "target/bin/$name")
+    wait "$!" && [ "${kept[*]}" = "${found[*]}" ]
+}
+is_as_rt_left_it() { # as far as is known
+    local kept=()
+    [ ! -f "$built" ] || mapfile -t kept <"$built"
+    [ -x "$program" ] && { [ "${#kept[@]}" -eq 0 ] || [ "${kept[1]-}" = "$(contents_of "target/bin/$name")" ]; }
 }
 build() {
-    local own=()
-    command -v rt >/dev/null || fail "rt, the command of the Rattle kit, is not on the PATH; it has to prove and build the program"
+    local began
+    need "${tools[@]}"
     [ "$(uname -m)" = x86_64 ] || fail "the program is for x86-64, and this machine is $(uname -m)"
-    { mkdir -p "$top/target" && : >>"$top/target/program.lock"; } || fail "cannot write to $top/target"
-    exec 9>>"$top/target/program.lock" # one for all programs: rt builds one at a time
-    if ! command -v flock >/dev/null; then
-        say "flock is not on the PATH; start no second one before this one has built the program"
-    elif ! flock -n 9; then
-        say "waiting for another start, which is building a program"
-        flock 9 &
-        await
-    fi
+    one_builds
     if ! is_built; then
         say "proving and building the program, which takes minutes the first time ($log has all of it)"
-        [ -x "$program" ] || rm -f "$top/target/stamp/$name" # or rt would say of a lost program that nothing has changed
-        : >"$built.begun"
-        ! command -v setsid >/dev/null || own=(setsid) # all that rt starts is of one group then
-        (cd "$top" && exec "${own[@]}" bash -c 'set -o pipefail; rt check "$0" 2>&1 | tee "target/$0.log" | sed -un "/^rt: /p"' "$name") </dev/null >&2 &
-        await || fail "the program is not proved, so there is none to run: see $log"
-        [ -x "$program" ] || fail "rt has built no $program: see $log"
+        began=$(contents_of "${sources[@]}") || fail "not all sources can be read: ${sources[*]/#/$top/}"
+        is_as_rt_left_it || rm -f "$top/target/stamp/$name" # or rt would say of a lost program that nothing has changed
+        (cd "$top" && make_program 2>&1 | tee "target/$name.log" | sed -un '/^rt: /p') </dev/null >&2 &
+        wait "$!" || fail "the program is not proved and built, so there is none to run: see $log"
+        [ -x "$program" ] || fail "$program was not built: see $log"
+        printf '%s\n' "$began" "$(contents_of "target/bin/$name")" >"$built.begun"
         mv "$built.begun" "$built"
     fi
-    exec 9>&-
+    has_built
+}
+print_version() {
+    local version
+    version=$(sed -nE 's/^#define ZAHUPNIK_VERSION_(MAJOR|MINOR|PATCH) +([0-9]+).*/\2/p' "$top/include/zahupnik.h" | paste -s -d .)
+    [[ $version =~ ^[0-9]+\.[0-9]+\.[0-9]+$ ]] || fail "include/zahupnik.h does not say which version it is"
+    printf '%s %s\n' "$name" "$version"
 }
 
 main() {
@@ -67,20 +67,22 @@ main() {
     trap 'end_by 2' INT
     trap 'end_by 3' QUIT
     trap 'end_by 15' TERM
-    [ $# -eq 0 ] || {
-        say "it takes no arguments: $usage"
-        exit 2
-    }
+    take_arguments 0 --version "$@"
+    if [ "${#options[@]}" -gt 0 ]; then
+        print_version
+        exit
+    fi
     # Where one is closed, a pipe of this script would take its number.
     { : 3<&0; } 2>/dev/null || fail "standard input is closed"
     { : 3>&1; } 2>/dev/null || fail "standard output is closed"
     is_built || build
+    [ ! -t 0 ] || say "waiting for $waits_for"
 
-    # The program has no exit status of its own, but it writes to standard error only if it failed.
+    # A program of rt has no exit status of its own, but each writes to standard error only if it failed.
     exec 3<&0 4>&1
     exec 5< <(exec "$program" <&3 2>&1 >&4 3<&- 4>&-)
     IFS= read -r -d '' message <&5 || :
-    await || status=$?
+    wait "$!" || status=$?
     [ -z "$message" ] || {
         printf '%s' "$message" >&2
         exit 1

@@ -1,6 +1,6 @@
 """Counts the divisions in the compiled functions of an archive, outside loops and in them, and holds the counts to a table.
 
-usage: tests/compiled/divisions.py ARCHIVE
+usage: python3 tests/compiled/divisions.py ARCHIVE
 
 A division takes many times as long as a product, so the remainders of rows and of products are taken by a reciprocal: a high
 product each, if the compiler makes one of it. A loop is a cycle of a function's own jumps, and a division is counted by how many
@@ -8,13 +8,18 @@ of them stand around it: none, one, or more.
 
 Prints the counts in the form of the table. Fails if a count differs from the table, if a function is in one of them alone, if a
 function of ROWS has a division in more than one loop or one of PRODUCTS in any, and if a function's jumps cannot be followed. That join
-has none in its loop over the remainders, beside that of Euclid's algorithm, euclid.c counts.
+has none in its loop over the remainders, beside that of Euclid's algorithm, euclid.c counts. Needs objdump. Exits 2 for bad arguments.
 """
 
+import os
 import re
-import shutil
 import subprocess
 import sys
+
+sys.dont_write_bytecode = True
+sys.path.append(os.path.join(os.path.dirname(os.path.abspath(__file__)), os.pardir, os.pardir, "bin"))
+
+from script import Failure, Parser, need, run  # noqa: E402
 
 # Every function that has a division: how many stand in no loop, in one, and in more. Where the compiler tries a short division before a
 # long one, one remainder has two. In more than one loop: Euclid's algorithm for each entry, to find whom to blame. In one loop of the calls
@@ -62,12 +67,11 @@ DIVISION = re.compile(r"i?div[bwlq]?\s")
 
 def disassembled(archive, *words):
     """What objdump writes of the archive's instructions."""
-    if shutil.which("objdump") is None:
-        sys.exit("objdump, of binutils, is not on the PATH")
-    run = subprocess.run(["objdump", "--disassemble", "--no-show-raw-insn", *words, archive], capture_output=True, text=True)
-    if run.returncode:
-        sys.exit(run.stderr.strip() or f"objdump does not take {archive}")
-    return run.stdout
+    need("objdump")
+    ran = subprocess.run(["objdump", "--disassemble", "--no-show-raw-insn", *words, archive], capture_output=True, text=True)
+    if ran.returncode:
+        raise Failure(ran.stderr.strip() or f"objdump does not take {archive}")
+    return ran.stdout
 
 
 def functions(archive):
@@ -77,12 +81,12 @@ def functions(archive):
     for line in text.splitlines():
         if match := re.fullmatch(r"[0-9a-f]+ <(.*)>:", line):
             if match[1] in found:
-                sys.exit(f"divisions: {archive} has two functions {match[1]}")
+                raise Failure(f"{archive} has two functions {match[1]}")
             body = found[match[1]] = {}
         elif match := re.fullmatch(r"\s*([0-9a-f]+):\t(.*?)\s*", line):
             body[int(match[1], 16)] = match[2]
     if not found:
-        sys.exit(f"divisions: {archive} has no function")
+        raise Failure(f"{archive} has no function")
     return found
 
 
@@ -96,11 +100,11 @@ def graph(name, body):
         if END.match(words):
             successors[address] = []
         elif INDIRECT.match(words):
-            sys.exit(f"divisions: {name} jumps at {address:x} to a place that is not written there")
+            raise Failure(f"{name} jumps at {address:x} to a place that is not written there")
         elif match := JUMP.match(words):
             target = int(match[2], 16)
             if target not in body:
-                sys.exit(f"divisions: {name} jumps at {address:x} out of itself")
+                raise Failure(f"{name} jumps at {address:x} out of itself")
             successors[address] = [target] if match[1] == "jmp" else [*goes_on, target]
         else:
             successors[address] = goes_on
@@ -190,15 +194,15 @@ def counted(name, body):
     successors = graph(name, body)
     deep = depths(reached(min(body), successors), successors)
     if not all(address in deep for address in divisions):
-        sys.exit(f"divisions: {name} has a division that no jump reaches")
+        raise Failure(f"{name} has a division that no jump reaches")
     return tuple(sum(min(deep[address], 2) == depth for address in divisions) for depth in range(3))
 
 
 def main():
     """Print the counts, and compare them with the table."""
-    if len(sys.argv) != 2:
-        sys.exit(__doc__)
-    found = functions(sys.argv[1])
+    parser = Parser(__doc__)
+    parser.add_argument("archive", metavar="ARCHIVE")
+    found = functions(parser.parse_args().archive)
     wanted = {name: tuple(map(int, counts)) for name, *counts in map(str.split, TABLE.strip().splitlines())}
     faults = [f"{name} is not in the archive" for name in (*wanted, *ROWS, *PRODUCTS) if name not in found]
     for name, body in found.items():
@@ -212,8 +216,8 @@ def main():
     for fault in faults:
         print(f"divisions: {fault}", file=sys.stderr)
     if faults:
-        sys.exit("divisions: the compiler made divisions where the table has none, or the table is of another source")
+        raise Failure("the compiler made divisions where the table has none, or the table is of another source")
 
 
 if __name__ == "__main__":
-    main()
+    run("divisions", main)

@@ -1,7 +1,7 @@
 """Reads from the compiled products::transposed that it forms the wanted terms in one pass and keeps no array.
 
-usage: tests/compiled/one_pass.py ARCHIVE
-       tests/compiled/one_pass.py --places PROGRAM FUNCTION..
+usage: python3 tests/compiled/one_pass.py ARCHIVE
+       python3 tests/compiled/one_pass.py --places PROGRAM FUNCTION..
 
 Prints a line for each thing that is read from its instructions:
 - it calls nothing and goes on in no other function, and names nothing outside itself, so that no array is had from elsewhere;
@@ -12,7 +12,7 @@ Prints a line for each thing that is read from its instructions:
 - every innermost loop that multiplies stands in such a loop and in no other, and goes on or ends by one jump: nothing else is tested in it;
 - it divides in no loop: remainders are taken by the reciprocal.
 
-Fails if one of these is not so, and if there is no such function.
+Fails if one of these is not so, and if there is no such function. Needs objdump. Exits 2 for bad arguments.
 
 With --places it prints where each FUNCTION of a program writes elsewhere than to the stack, and where it multiplies, for
 tests/compiled/steps.c: what the instructions do not show, such as coefficients that are formed and thrown away, or terms that are written in
@@ -23,6 +23,7 @@ import re
 import sys
 
 from divisions import DIVISION, END, INDIRECT, JUMP, disassembled, entries, functions, graph, loops, one_round, reached
+from divisions import Failure, Parser, run
 
 NAME = "products::transposed"
 MOST_STACK = 256
@@ -215,12 +216,12 @@ def print_places(program, names):
     found = functions(program)
     for name in names:
         if name not in found:
-            sys.exit(f"one_pass: {program} has no function {name}")
+            raise Failure(f"{program} has no function {name}")
         body = found[name]
         for address in sorted(reached(min(body), graph(name, body))):
             words = PREFIX.sub("", body[address])
             if OTHER_MULTIPLY.match(words) and not words.startswith(("mul", "imul")):
-                sys.exit(f"one_pass: {name} multiplies at {address:x} in a way that is not counted")
+                raise Failure(f"{name} multiplies at {address:x} in a way that is not counted")
             if MULTIPLY.match(words) and "$" not in words:
                 print(f"{name} multiply {address:x}")
             if (place := written(words)) and "(%rsp" not in place:
@@ -229,15 +230,20 @@ def print_places(program, names):
 
 def main():
     """Say what the function does, or what it does wrong."""
-    if len(sys.argv) > 3 and sys.argv[1] == "--places":
-        return print_places(sys.argv[2], sys.argv[3:])
-    if len(sys.argv) != 2:
-        sys.exit(__doc__)
-    body = {address: PREFIX.sub("", words) for address, words in functions(sys.argv[1]).get(NAME, {}).items()}
+    parser = Parser(__doc__)
+    parser.add_argument("--places", metavar="PROGRAM")
+    parser.add_argument("words", metavar="ARCHIVE or FUNCTION..", nargs="+")
+    arguments = parser.parse_args()
+    if arguments.places is not None:
+        return print_places(arguments.places, arguments.words)
+    archive, *more = arguments.words
+    if more:
+        parser.error(f"'{more[0]}' is one argument too many")
+    body = {address: PREFIX.sub("", words) for address, words in functions(archive).get(NAME, {}).items()}
     if not body:
-        sys.exit(f"one_pass: {sys.argv[1]} has no function {NAME}: the compiler has put it in line, or it has another name")
+        raise Failure(f"{archive} has no function {NAME}: the compiler has put it in line, or it has another name")
     try:
-        print(f"{NAME} {alone(sys.argv[1], body)}")
+        print(f"{NAME} {alone(archive, body)}")
         successors = graph(NAME, body)
         found = reached(min(body), successors)
         body = {address: body[address] for address in sorted(found)}
@@ -251,8 +257,8 @@ def main():
         print(f"{NAME} {no_division(body, ways)}")
     except Fault as fault:
         sys.stdout.flush()
-        sys.exit(f"one_pass: {NAME} {fault}")
+        raise Failure(f"{NAME} {fault}") from fault
 
 
 if __name__ == "__main__":
-    main()
+    run("one_pass", main)

@@ -14,7 +14,7 @@ import sys
 
 import jobs
 import store
-from vectors import Unusable, compare, read_file, write_all
+from vectors import Parser, Unusable, compare, read_file, run, write_all
 
 # The ending of an input's file, that of its answer's, and what is printed.
 PROGRAMS = {
@@ -39,8 +39,8 @@ def answer_to(path):
 
 def main():
     """Write or compare the answers."""
-    parser = argparse.ArgumentParser(description="Write or compare answers to inputs in files.")
-    parser.add_argument("--check", action="store_true", help="compare in place of writing")
+    parser = Parser(__doc__)
+    parser.add_argument("--check", action="store_true")
     parser.add_argument("inputs", metavar="NAME.job|NAME.lines", nargs="+", type=input_path)
     arguments = parser.parse_args()
     try:
@@ -56,4 +56,4 @@ def main():
 
 
 if __name__ == "__main__":
-    sys.exit(main())
+    run("answers", main)

@@ -4,7 +4,7 @@ usage: python3 tests/reference/check.py [--seed N]
 
 Prints one line with the seed and how many cases of each kind were run, and
 exits 0. At the first case that differs it prints the seed, the case, what was
-expected and what was got, and exits 1.
+expected and what was got, and exits 1. Bad arguments exit with 2.
 """
 
 import argparse
@@ -30,6 +30,7 @@ import check_wrong_stores
 import check_wrong_variants
 from splitmix import WORD, SplitMix64
 from tally import Mismatch, Tally
+from vectors import Parser, run
 
 PARTS = (
     check_figures,
@@ -61,8 +62,8 @@ def seed_number(word):
 
 def main():
     """Run all parts with one random source."""
-    parser = argparse.ArgumentParser(description="Check the reference implementation.")
-    parser.add_argument("--seed", type=seed_number, help="seed of the random cases")
+    parser = Parser(__doc__)
+    parser.add_argument("--seed", type=seed_number)
     seed = parser.parse_args().seed
     if seed is None:
         seed = int.from_bytes(os.urandom(8))
@@ -81,4 +82,4 @@ def main():
 
 
 if __name__ == "__main__":
-    sys.exit(main())
+    run("check", main)

@@ -19,8 +19,6 @@ Without --check both files are written, or neither. With it they are compared
 byte for byte: exit 1 if they differ. Bad arguments exit with 2.
 """
 
-import argparse
-import sys
 from dataclasses import astuple
 
 from joined_cases import joined_cases
@@ -40,13 +38,5 @@ def expected_line(case):
     return outcome_line(run(case))
 
 
-def main():
-    """Write or compare the two files."""
-    parser = argparse.ArgumentParser(description="Write or compare vectors for two channels.")
-    return write_or_compare(
-        parser, "cases", lambda _: contents_of(joined_cases(), input_line, expected_line)
-    )
-
-
 if __name__ == "__main__":
-    sys.exit(main())
+    write_or_compare(__doc__, "cases", lambda _: contents_of(joined_cases(), input_line, expected_line))

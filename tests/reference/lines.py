@@ -12,9 +12,6 @@ Without --check both files are written, or neither. With it they are compared
 byte for byte: exit 1 if they differ. Bad arguments exit with 2.
 """
 
-import argparse
-import sys
-
 import store
 from line_cases import line_cases
 from texts import quoted
@@ -31,13 +28,5 @@ def expected_line(text):
     return quoted(store.program_answer(text)) + "\n"
 
 
-def main():
-    """Write or compare the two files."""
-    parser = argparse.ArgumentParser(description="Write or compare vectors for the store's lines.")
-    return write_or_compare(
-        parser, "inputs", lambda _: contents_of(line_cases(), input_line, expected_line)
-    )
-
-
 if __name__ == "__main__":
-    sys.exit(main())
+    write_or_compare(__doc__, "inputs", lambda _: contents_of(line_cases(), input_line, expected_line))

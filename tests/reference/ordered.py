@@ -17,9 +17,6 @@ Without --check both files are written, or neither. With it they are compared
 byte for byte: exit 1 if they differ. Bad arguments exit with 2.
 """
 
-import argparse
-import sys
-
 from ordered_cases import ordered_cases, run
 from vectors import contents_of, line, outcome_line, with_length, write_or_compare
 
@@ -34,13 +31,5 @@ def expected_line(case):
     return outcome_line(run(case))
 
 
-def main():
-    """Write or compare the two files."""
-    parser = argparse.ArgumentParser(description="Write or compare vectors for even powers first.")
-    return write_or_compare(
-        parser, "cases", lambda _: contents_of(ordered_cases(), input_line, expected_line)
-    )
-
-
 if __name__ == "__main__":
-    sys.exit(main())
+    write_or_compare(__doc__, "cases", lambda _: contents_of(ordered_cases(), input_line, expected_line))

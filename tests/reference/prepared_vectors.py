@@ -34,9 +34,6 @@ Without --check both files are written, or neither. With it they are compared
 byte for byte: exit 1 if they differ. Bad arguments exit with 2.
 """
 
-import argparse
-import sys
-
 import prepared
 from prepared_cases import CHANGES, MADE, loaded, run_operation, sequences
 from vectors import contents_of, line, outcome_line, with_length, write_or_compare
@@ -74,13 +71,5 @@ def expected_lines(steps):
     return "".join(lines)
 
 
-def main():
-    """Write or compare the two files."""
-    parser = argparse.ArgumentParser(description="Write or compare vectors of prepared families.")
-    return write_or_compare(
-        parser, "steps", lambda _: contents_of(sequences(), input_lines, expected_lines)
-    )
-
-
 if __name__ == "__main__":
-    sys.exit(main())
+    write_or_compare(__doc__, "steps", lambda _: contents_of(sequences(), input_lines, expected_lines))

@@ -16,9 +16,6 @@ Without --check both files are written, or neither. With it they are compared
 byte for byte: exit 1 if they differ. Bad arguments exit with 2.
 """
 
-import argparse
-import sys
-
 import jobs
 from text_cases import text_cases
 from vectors import contents_of, write_or_compare
@@ -54,13 +51,5 @@ def expected_line(case):
     )
 
 
-def main():
-    """Write or compare the two files."""
-    parser = argparse.ArgumentParser(description="Write or compare vectors for the text call.")
-    return write_or_compare(
-        parser, "texts", lambda _: contents_of(text_cases(), input_line, expected_line)
-    )
-
-
 if __name__ == "__main__":
-    sys.exit(main())
+    write_or_compare(__doc__, "texts", lambda _: contents_of(text_cases(), input_line, expected_line))

@@ -28,6 +28,11 @@ from itertools import zip_longest
 import cases
 from vector_cases import cases_of_call, reasons_of_call
 
+sys.dont_write_bytecode = True
+sys.path.append(os.path.join(os.path.dirname(os.path.abspath(__file__)), os.pardir, os.pardir, "bin"))
+
+from script import Parser, run  # noqa: E402
+
 SUM_MODULUS = 4294967291
 
 
@@ -160,14 +165,11 @@ def compare(contents):
     return same
 
 
-def write_or_compare(parser, unit, make):
-    """Add --check, IN and OUT to the parser; write what make(arguments) gives, or compare.
-
-    make gives the bytes of IN and those of OUT, and unit is what a line of either says.
-    """
-    parser.add_argument("--check", action="store_true", help="compare in place of writing")
-    parser.add_argument("input", metavar="IN", help=f"the file of {unit}")
-    parser.add_argument("expected", metavar="OUT", help="the file of expected answers")
+def exit_status(parser, unit, make):
+    """The exit status after the two files of the command line were written or compared."""
+    parser.add_argument("--check", action="store_true")
+    parser.add_argument("input", metavar="IN")
+    parser.add_argument("expected", metavar="OUT")
     arguments = parser.parse_args()
     paths = (arguments.input, arguments.expected)
     if os.path.realpath(paths[0]) == os.path.realpath(paths[1]):
@@ -185,17 +187,20 @@ def write_or_compare(parser, unit, make):
     return 0
 
 
-def main():
-    """Write or compare the two files."""
-    parser = argparse.ArgumentParser(description="Write or compare vectors for the calls.")
-    parser.add_argument(
-        "--calls",
-        type=call_selection,
-        default=sorted(cases.CALL_NAMES),
-        help="numbers of calls, commas between; all nine by default",
-    )
-    return write_or_compare(parser, "cases", lambda arguments: vectors(arguments.calls))
+def write_or_compare(document, unit, make, add_options=lambda parser: None):
+    """All that a script with this docstring does: write what make(arguments) gives, or compare.
+
+    make gives the bytes of IN and those of OUT, and unit is what a line of either says.
+    """
+    parser = Parser(document)
+    add_options(parser)
+    run(parser.prog, lambda: exit_status(parser, unit, make))
+
+
+def add_calls(parser):
+    """The option that selects calls; all nine by default."""
+    parser.add_argument("--calls", type=call_selection, default=sorted(cases.CALL_NAMES))
 
 
 if __name__ == "__main__":
-    sys.exit(main())
+    write_or_compare(__doc__, "cases", lambda arguments: vectors(arguments.calls), add_calls)

@@ -18,9 +18,6 @@ Without --check both files are written, or neither. With it they are compared
 byte for byte: exit 1 if they differ. Bad arguments exit with 2.
 """
 
-import argparse
-import sys
-
 from texts import outcome_line
 from vectors import contents_of, line, with_length, write_or_compare
 from written_cases import run, written_cases
@@ -38,13 +35,5 @@ def expected_line(case):
     return outcome_line(run(case))
 
 
-def main():
-    """Write or compare the two files."""
-    parser = argparse.ArgumentParser(description="Write or compare vectors for written jobs.")
-    return write_or_compare(
-        parser, "jobs", lambda _: contents_of(written_cases(), input_line, expected_line)
-    )
-
-
 if __name__ == "__main__":
-    sys.exit(main())
+    write_or_compare(__doc__, "jobs", lambda _: contents_of(written_cases(), input_line, expected_line))

@@ -21,7 +21,7 @@ import threading
 import time
 from contextlib import contextmanager
 
-from vectors import read_vectors, shown
+from vectors import Parser, read_vectors, run, shown
 
 HERE = os.path.dirname(os.path.abspath(__file__))
 sys.path.append(os.path.join(HERE, os.pardir, "reference"))
@@ -273,10 +273,10 @@ def random_list(source):
 def answered(name, program, key, lists):
     """What is printed for these lists behind a key."""
     text = b"".join(key + line + b"\n" for line in lists)
-    run = subprocess.run([program], input=text, capture_output=True, timeout=SECONDS)
-    if run.returncode != 0 or run.stderr:
-        raise Differs(f"{name}: status {run.returncode}, standard error {run.stderr!r}")
-    *printed, rest = run.stdout.split(b"\n")
+    ran = subprocess.run([program], input=text, capture_output=True, timeout=SECONDS)
+    if ran.returncode != 0 or ran.stderr:
+        raise Differs(f"{name}: status {ran.returncode}, standard error {ran.stderr!r}")
+    *printed, rest = ran.stdout.split(b"\n")
     expect(name, b"", rest)
     if len(printed) != len(lists):
         raise Differs(f"{name}: {len(lists)} lines have {len(printed)} answers")
@@ -307,9 +307,9 @@ def seed_number(word):
 
 def main():
     """All parts, with one random source."""
-    parser = argparse.ArgumentParser(description="Run the program store through pipes.")
-    parser.add_argument("--long", action="store_true", help="try a line of a gigabyte too")
-    parser.add_argument("--seed", type=seed_number, help="seed of the random parts")
+    parser = Parser(__doc__)
+    parser.add_argument("--long", action="store_true")
+    parser.add_argument("--seed", type=seed_number)
     parser.add_argument("program", metavar="PROGRAM")
     arguments = parser.parse_args()
     program, seed = arguments.program, arguments.seed
@@ -337,4 +337,4 @@ def main():
 
 
 if __name__ == "__main__":
-    sys.exit(main())
+    run("streams", main)

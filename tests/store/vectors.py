@@ -8,10 +8,16 @@ first input for which something else is printed and exits 1; exits 2 if somethin
 cannot be read, run, or is not of the form.
 """
 
+import os
 import re
 import subprocess
 import sys
 import tempfile
+
+sys.dont_write_bytecode = True
+sys.path.append(os.path.join(os.path.dirname(os.path.abspath(__file__)), os.pardir, os.pardir, "bin"))
+
+from script import Parser, run  # noqa: E402
 
 SECONDS = 20
 SHOWN = 300
@@ -51,11 +57,11 @@ def printed(program, text):
     with tempfile.TemporaryFile() as file:
         file.write(text)
         file.seek(0)
-        run = subprocess.run([program], stdin=file, capture_output=True, timeout=SECONDS)
-    if run.returncode != 0 or run.stderr:
+        ran = subprocess.run([program], stdin=file, capture_output=True, timeout=SECONDS)
+    if ran.returncode != 0 or ran.stderr:
         said = b"status %d, standard output %r, standard error %r"
-        return said % (run.returncode, run.stdout, run.stderr)
-    return run.stdout
+        return said % (ran.returncode, ran.stdout, ran.stderr)
+    return ran.stdout
 
 
 def shown(text):
@@ -65,7 +71,7 @@ def shown(text):
     return f"{text[:SHOWN]!r} and {len(text) - 2 * SHOWN} bytes more and {text[-SHOWN:]!r}"
 
 
-def main(program, in_path, out_path):
+def compare(program, in_path, out_path):
     """Run every input."""
     vectors = read_vectors(in_path, out_path)
     for number, (text, expected) in enumerate(vectors, 1):
@@ -82,12 +88,17 @@ def main(program, in_path, out_path):
     return 0
 
 
-if __name__ == "__main__":
-    if len(sys.argv) != 4:
-        print("usage: python3 tests/store/vectors.py PROGRAM IN OUT", file=sys.stderr)
-        sys.exit(2)
+def main():
+    """Compare, or say what cannot be used."""
+    parser = Parser(__doc__)
+    for name in ("PROGRAM", "IN", "OUT"):
+        parser.add_argument(name)
     try:
-        sys.exit(main(*sys.argv[1:]))
+        return compare(*vars(parser.parse_args()).values())
     except (OSError, Unusable, subprocess.TimeoutExpired) as problem:
         print(f"vectors: {problem}", file=sys.stderr)
-        sys.exit(2)
+        return 2
+
+
+if __name__ == "__main__":
+    run("vectors", main)

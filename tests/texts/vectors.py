@@ -8,9 +8,15 @@ than the program lends are passed over. Prints how many answers agree and exits
 cannot be read, run, or is not of the form.
 """
 
+import os
 import re
 import subprocess
 import sys
+
+sys.dont_write_bytecode = True
+sys.path.append(os.path.join(os.path.dirname(os.path.abspath(__file__)), os.pardir, os.pardir, "bin"))
+
+from script import Parser, run  # noqa: E402
 
 OUTPUT, WORKING = 4096, 16384
 SECONDS = 20
@@ -45,14 +51,14 @@ def fields(path, pattern):
 
 def printed(program, text):
     """What the program prints for a text, and what else it does amiss."""
-    run = subprocess.run([program], input=text, capture_output=True, timeout=SECONDS)
-    if run.returncode != 0 or run.stderr:
+    ran = subprocess.run([program], input=text, capture_output=True, timeout=SECONDS)
+    if ran.returncode != 0 or ran.stderr:
         return b"status %d, standard output %r, standard error %r" % (
-            run.returncode,
-            run.stdout,
-            run.stderr,
+            ran.returncode,
+            ran.stdout,
+            ran.stderr,
         )
-    return run.stdout
+    return ran.stdout
 
 
 def first_difference(program, texts):
@@ -64,7 +70,7 @@ def first_difference(program, texts):
     return None
 
 
-def main(program, in_path, out_path):
+def compare(program, in_path, out_path):
     """Run every text that the program can be given."""
     lines, answers = list(fields(in_path, INPUT_LINE)), list(fields(out_path, EXPECTED_LINE))
     if len(lines) != len(answers) or not lines:
@@ -88,12 +94,17 @@ def main(program, in_path, out_path):
     return 0
 
 
-if __name__ == "__main__":
-    if len(sys.argv) != 4:
-        print("usage: python3 tests/texts/vectors.py PROGRAM IN OUT", file=sys.stderr)
-        sys.exit(2)
+def main():
+    """Compare, or say what cannot be used."""
+    parser = Parser(__doc__)
+    for name in ("PROGRAM", "IN", "OUT"):
+        parser.add_argument(name)
     try:
-        sys.exit(main(*sys.argv[1:]))
+        return compare(*vars(parser.parse_args()).values())
     except (OSError, Unusable, subprocess.TimeoutExpired) as problem:
         print(f"vectors: {problem}", file=sys.stderr)
-        sys.exit(2)
+        return 2
+
+
+if __name__ == "__main__":
+    run("vectors", main)
