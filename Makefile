@@ -51,11 +51,12 @@ help:
 	    'make dist       target/dist/zahupnik-VERSION-x86_64-linux.tar.gz, an archive for machines without the kit' \
 	    'make clean      takes away the shared library, why and the archives; what is proved stays (rm -r target takes that too)'
 
-# Both decide by themselves whether something is to be proved and built anew. A recipe that leaves its file alone causes no more work.
+# Whether something is to be proved and built anew is decided as by the tests and by bin/channel and bin/store, which a signal ends together
+# with what they have started. A recipe that leaves its file alone causes no more work.
 $(ARCHIVE): FORCE
 	@bash -euo pipefail -c 'name=make built=target/library; . tests/library/common.sh; build_library'
 $(PROVED): FORCE
-	@bin/$(@F) </dev/null >/dev/null
+	@bash -euo pipefail -c 'name=$(@F) top=.; . bin/program.sh; trap "end_by 2" INT; trap "end_by 15" TERM; is_built || build'
 
 # -z text refuses code that is not position independent, -z defs a function that neither the archive nor libc has; -z now binds memcpy and
 # memset before the first call, so that no call takes the stack of a binding.
