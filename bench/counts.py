@@ -13,7 +13,7 @@ import sys
 sys.dont_write_bytecode = True
 sys.path.append(os.path.join(os.path.dirname(os.path.abspath(__file__)), os.pardir, "bin"))
 
-from script import Failure, Parser, run, text_of  # noqa: E402
+from script import Failure, Parser, run_script, text_of  # noqa: E402
 
 LEAST_SHARE = 0.01
 
@@ -95,4 +95,4 @@ def main():
 
 
 if __name__ == "__main__":
-    run("counts", main)
+    run_script("counts", main)

@@ -7,12 +7,17 @@ import pathlib
 import shutil
 import signal
 import sys
+import tempfile
 
 ROOT = pathlib.Path(__file__).resolve().parents[1]
 
+SIGNALS = (signal.SIGHUP, signal.SIGINT, signal.SIGTERM)
+
 # What is not in every system, and what has it.
-HAS = {
-    "rt": "the command of the Rattle kit that .ci/kit names",
+COMES_FROM = {
+    "rt": "the command of the Rattle kit that .ci/kit names, to prove and build with",
+    "gcc": "of Debian's gcc",
+    "git": "of Debian's git",
     "nm": "of Debian's binutils",
     "objdump": "of Debian's binutils",
 }
@@ -59,7 +64,7 @@ class Parser(argparse.ArgumentParser):
 
 def need(*tools):
     """All of these are on the PATH."""
-    missing = [f"{tool}, {HAS[tool]}" for tool in tools if shutil.which(tool) is None]
+    missing = [f"{tool}, {COMES_FROM[tool]}" for tool in tools if shutil.which(tool) is None]
     if missing:
         raise Failure(f"not on the PATH: {'; '.join(missing)}; nothing was begun")
 
@@ -109,17 +114,21 @@ def end_started():
             pass
 
 
+def ignore_signals():
+    """Nothing is to break off what ends the script."""
+    for number in SIGNALS:
+        signal.signal(number, signal.SIG_IGN)
+
+
 def end_by(number, _):
     """A signal ends this script and what it has started."""
+    ignore_signals()
     end_started()
     sys.exit(128 + number)
 
 
-def run(name, main):
-    """End with what main returns, or with 1 and why it failed, behind the name."""
-    for number in (signal.SIGHUP, signal.SIGINT, signal.SIGTERM):
-        if signal.getsignal(number) != signal.SIG_IGN:
-            signal.signal(number, end_by)
+def exit_status(name, main):
+    """What main returns, or why it failed, behind the name."""
     try:
         status = main()
         sys.stdout.flush()
@@ -130,4 +139,22 @@ def run(name, main):
         status = f"{name}: {problem}"
     except OSError as problem:
         status = f"{name}: {problem.filename}: {problem.strerror}" if problem.filename else f"{name}: {problem}"
-    sys.exit(status)
+    return status
+
+
+def run_script(name, main):
+    """End with what main returns, or with 1 and why it failed. All that it starts, and what it leaves in the folder for temporary files, ends
+    with it."""
+    mask = signal.pthread_sigmask(signal.SIG_BLOCK, SIGNALS)
+    for number in SIGNALS:
+        if signal.getsignal(number) != signal.SIG_IGN:
+            signal.signal(number, end_by)
+    room = tempfile.mkdtemp(prefix="zahupnik.")
+    os.chmod(room, 0o711)  # rt runs programs as nobody, who has to come through
+    os.environ["TMPDIR"] = tempfile.tempdir = room
+    try:
+        signal.pthread_sigmask(signal.SIG_SETMASK, mask)
+        sys.exit(exit_status(name, main))
+    finally:
+        ignore_signals()
+        shutil.rmtree(room, ignore_errors=True)

@@ -9,15 +9,19 @@ top=${BASH_SOURCE[0]%/*}/..
 while [[ $top = */bin/.. ]]; do top=${top%/bin/..}; done # it is shown to users
 
 # What is not in every system, and what has it.
-declare -A has=(
-    [rt]='the command of the Rattle kit that .ci/kit names'
+declare -A comes_from=(
+    [rt]='the command of the Rattle kit that .ci/kit names, to prove and build with'
     [cc]="a C compiler, of Debian's gcc"
+    [gcc]="of Debian's gcc"
+    [make]="of Debian's make"
     [nm]="of Debian's binutils"
     [objcopy]="of Debian's binutils"
     [objdump]="of Debian's binutils"
     [python3]="of Debian's python3"
     [awk]="of Debian's mawk"
     [git]="of Debian's git"
+    [groff]="of Debian's groff-base"
+    [pkg-config]="of Debian's pkgconf, or pkg-config"
 )
 
 say() { printf '%s: %s\n' "$name" "$*" >&2; }
@@ -28,7 +32,7 @@ fail() {
 need() { # TOOLS..: all of them are on the PATH
     local tool missing=()
     for tool; do
-        command -v "$tool" >/dev/null || missing+=("$tool, ${has[$tool]:?has no package}")
+        command -v "$tool" >/dev/null || missing+=("$tool, ${comes_from[$tool]:?has no package}")
     done
     [ "${#missing[@]}" -eq 0 ] || fail "not on the PATH: $(printf '%s; ' "${missing[@]}")nothing was begun"
 }
@@ -96,14 +100,14 @@ has_built() { # the next may build
 }
 
 end_started() { # kills all that this script has started, and what that has started; each is stopped first, so that it starts no more
-    local IFS=' ' file line fields more=yes # a read without IFS may be what the signal broke off
+    local file line parent more=yes
     local -A found=([$$]=yes)
     while [ -n "$more" ]; do
         more=''
         for file in /proc/[0-9]*/stat; do
             { IFS= read -r line <"$file"; } 2>/dev/null || continue # it has ended
-            read -r -a fields <<<"${line##*) }" # behind the name its state and its parent
-            if [ -n "${found[${fields[1]}]-}" ] && [ -z "${found[${line%% *}]-}" ]; then
+            parent=${line##*) ? } # behind the name its state, then its parent
+            if [ -n "${found[${parent%% *}]-}" ] && [ -z "${found[${line%% *}]-}" ]; then
                 kill -STOP "${line%% *}" 2>/dev/null || continue
                 found[${line%% *}]=yes more=yes
             fi
@@ -114,13 +118,11 @@ end_started() { # kills all that this script has started, and what that has star
 }
 guard() { # WORDS..: has a second process go on with the script, its words these, and waits for it. All that it starts, and what it leaves in
     # the folder for temporary files, ends with this one: bash acts on a signal at once only while it waits, and on INT not even then.
-    local status=0
+    local status=0 room=''
     if [ "${guarded_by-}" = "$PPID" ]; then
         unset guarded_by
         return
     fi
-    room=$(mktemp -d -t zahupnik.XXXXXX) || fail "no temporary folder can be made"
-    chmod 711 "$room" # rt runs programs as nobody, who has to come through
     guard_ends() { # STATUS
         trap '' HUP INT QUIT TERM
         end_started
@@ -132,6 +134,8 @@ guard() { # WORDS..: has a second process go on with the script, its words these
     trap 'guard_ends 130' INT
     trap 'guard_ends 131' QUIT
     trap 'guard_ends 143' TERM
+    room=$(mktemp -d -t zahupnik.XXXXXX) || fail "no temporary folder can be made"
+    chmod 711 "$room" # rt runs programs as nobody, who has to come through
     set -m # a group of its own, which is not deaf to INT
     (cd "$start" && guarded_by=$$ TMPDIR=$room exec "$BASH" "$script" "$@") &
     set +m

@@ -19,7 +19,7 @@ import sys
 sys.dont_write_bytecode = True
 sys.path.append(os.path.join(os.path.dirname(os.path.abspath(__file__)), os.pardir, os.pardir, "bin"))
 
-from script import Failure, Parser, need, run  # noqa: E402
+from script import Failure, Parser, need, run_script  # noqa: E402
 
 # Every function that has a division: how many stand in no loop, in one, and in more. Where the compiler tries a short division before a
 # long one, one remainder has two. In more than one loop: Euclid's algorithm for each entry, to find whom to blame. In one loop of the calls
@@ -220,4 +220,4 @@ def main():
 
 
 if __name__ == "__main__":
-    run("divisions", main)
+    run_script("divisions", main)

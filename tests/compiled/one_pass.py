@@ -23,7 +23,7 @@ import re
 import sys
 
 from divisions import DIVISION, END, INDIRECT, JUMP, disassembled, entries, functions, graph, loops, one_round, reached
-from divisions import Failure, Parser, run
+from divisions import Failure, Parser, run_script
 
 NAME = "products::transposed"
 MOST_STACK = 256
@@ -261,4 +261,4 @@ def main():
 
 
 if __name__ == "__main__":
-    run("one_pass", main)
+    run_script("one_pass", main)

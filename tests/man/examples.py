@@ -9,7 +9,8 @@ of a page run in one shell, in the folder, with the PATH as it is here. A block 
 put into the folder first, under that name, and has to compile without a warning. A block without a command may stand outside of the
 section EXAMPLES only, and is not run.
 Fails on a command that prints something else, on a program that no command compiles, on a page without an example, and on a character
-that some formatter shows as another one, so that a copied command would not be what was run. Exits 0 only if everything agrees.
+that some formatter shows as another one, so that a copied command would not be what was run. Needs groff. Exits 0 only if everything agrees;
+2 for bad arguments.
 """
 
 import os
@@ -20,6 +21,11 @@ import subprocess
 import sys
 
 from rendered import FORMATTERS, read, render
+
+sys.dont_write_bytecode = True
+sys.path.append(str(pathlib.Path(__file__).resolve().parents[2] / "bin"))
+
+from script import Failure, Parser, run_script  # noqa: E402
 
 SECONDS = 20
 MARK = "\x1e"
@@ -121,18 +127,16 @@ def check(page, folder):
 
 def main():
     """Check the page of the command line."""
-    if len(sys.argv) == 2 and sys.argv[1] == "--help":
-        print(__doc__, end="")
-        return
-    if len(sys.argv) != 3:
-        print("man: a page and a folder are wanted; usage: tests/man/examples.py PAGE FOLDER", file=sys.stderr)
-        sys.exit(2)
-    page, folder = map(pathlib.Path, sys.argv[1:])
+    parser = Parser(__doc__)
+    parser.add_argument("page", metavar="PAGE", type=pathlib.Path)
+    parser.add_argument("folder", metavar="FOLDER", type=pathlib.Path)
+    arguments = parser.parse_args()
+    page, folder = arguments.page, arguments.folder
     try:
         commands, programs = check(page, folder)
     except (Fault, subprocess.TimeoutExpired) as fault:
-        sys.exit(f"man: {page}: {fault}")
+        raise Failure(f"{page}: {fault}") from fault
     print(f"man: {page}: {commands} commands" + (f" and {programs} programs" if programs else "") + " print what the page shows")
 
 
-main()
+run_script("man", main)

@@ -10,8 +10,8 @@ FOLDER has the pages, man/ if it is not named. A page is read as its reader sees
 - every struct; every constant with its value; every refusal with its meaning; the stack of every call;
 - the paragraphs at the top of the header, but for those of IN_OTHER_WORDS.
 The refusals and limits of channel(1) are those of the call on texts, in its order, and of store(1) those of the calls that order a list. Of
-every page each name of the library is in a header, the version is the header's, and the title is that of the file. Exits 0 only if all
-of it is so.
+every page each name of the library is in a header, the version is the header's, and the title is that of the file. Needs groff. Exits 0 only if
+all of it is so; 2 for bad arguments.
 """
 
 import pathlib
@@ -20,7 +20,10 @@ import sys
 
 from rendered import read, sections
 
-ROOT = pathlib.Path(__file__).resolve().parents[2]
+sys.dont_write_bytecode = True
+sys.path.append(str(pathlib.Path(__file__).resolve().parents[2] / "bin"))
+
+from script import ROOT, Parser, run_script  # noqa: E402
 
 # Paragraphs at the top of the header that name files of the repository, so that the page says them in words of its own.
 IN_OTHER_WORDS = ("Which way to take", "The stack that a call takes", "Where it is installed")
@@ -153,13 +156,11 @@ def check_program(page, title, wanted, limits):
 
 def main():
     """Check every page."""
-    if sys.argv[1:] == ["--help"]:
-        print(__doc__, end="")
-        return
-    if len(sys.argv) > 2 or sys.argv[1:] and not pathlib.Path(sys.argv[1]).is_dir():
-        print(f"man: {sys.argv[-1]} is not a folder of pages; usage: tests/man/header.py [FOLDER]", file=sys.stderr)
-        sys.exit(2)
-    folder = pathlib.Path(sys.argv[1]) if sys.argv[1:] else ROOT / "man"
+    parser = Parser(__doc__)
+    parser.add_argument("folder", metavar="FOLDER", nargs="?", type=pathlib.Path, default=ROOT / "man")
+    folder = parser.parse_args().folder
+    if not folder.is_dir():
+        parser.error(f"'{folder}' is not a folder of pages")
     header, words = (read(ROOT / "include" / name) for name in ("zahupnik.h", "zahupnik_refusal.h"))
     values, declared = check_library(read(folder / "zahupnik.3"), header, words)
 
@@ -191,4 +192,4 @@ def main():
     print(f"man: {len(declared)} functions, {len(values)} constants and the version {version} are the headers'")
 
 
-main()
+run_script("man", main)

@@ -14,7 +14,7 @@ import sys
 
 import jobs
 import store
-from vectors import Parser, Unusable, compare, read_file, run, write_all
+from vectors import Parser, Unusable, compare, read_file, run_script, write_all
 
 # The ending of an input's file, that of its answer's, and what is printed.
 PROGRAMS = {
@@ -56,4 +56,4 @@ def main():
 
 
 if __name__ == "__main__":
-    run("answers", main)
+    run_script("answers", main)

@@ -30,7 +30,7 @@ import check_wrong_stores
 import check_wrong_variants
 from splitmix import WORD, SplitMix64
 from tally import Mismatch, Tally
-from vectors import Parser, run
+from vectors import Parser, run_script
 
 PARTS = (
     check_figures,
@@ -82,4 +82,4 @@ def main():
 
 
 if __name__ == "__main__":
-    run("check", main)
+    run_script("check", main)

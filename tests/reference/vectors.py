@@ -31,7 +31,7 @@ from vector_cases import cases_of_call, reasons_of_call
 sys.dont_write_bytecode = True
 sys.path.append(os.path.join(os.path.dirname(os.path.abspath(__file__)), os.pardir, os.pardir, "bin"))
 
-from script import Parser, run  # noqa: E402
+from script import Parser, run_script  # noqa: E402
 
 SUM_MODULUS = 4294967291
 
@@ -194,7 +194,7 @@ def write_or_compare(document, unit, make, add_options=lambda parser: None):
     """
     parser = Parser(document)
     add_options(parser)
-    run(parser.prog, lambda: exit_status(parser, unit, make))
+    run_script(parser.prog, lambda: exit_status(parser, unit, make))
 
 
 def add_calls(parser):

@@ -21,7 +21,7 @@ import threading
 import time
 from contextlib import contextmanager
 
-from vectors import Parser, read_vectors, run, shown
+from vectors import Parser, read_vectors, run_script, shown
 
 HERE = os.path.dirname(os.path.abspath(__file__))
 sys.path.append(os.path.join(HERE, os.pardir, "reference"))
@@ -337,4 +337,4 @@ def main():
 
 
 if __name__ == "__main__":
-    run("streams", main)
+    run_script("streams", main)

@@ -17,7 +17,7 @@ import tempfile
 sys.dont_write_bytecode = True
 sys.path.append(os.path.join(os.path.dirname(os.path.abspath(__file__)), os.pardir, os.pardir, "bin"))
 
-from script import Parser, run  # noqa: E402
+from script import Parser, run_script  # noqa: E402
 
 SECONDS = 20
 SHOWN = 300
@@ -101,4 +101,4 @@ def main():
 
 
 if __name__ == "__main__":
-    run("vectors", main)
+    run_script("vectors", main)

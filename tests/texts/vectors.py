@@ -16,7 +16,7 @@ import sys
 sys.dont_write_bytecode = True
 sys.path.append(os.path.join(os.path.dirname(os.path.abspath(__file__)), os.pardir, os.pardir, "bin"))
 
-from script import Parser, run  # noqa: E402
+from script import Parser, run_script  # noqa: E402
 
 OUTPUT, WORKING = 4096, 16384
 SECONDS = 20
@@ -107,4 +107,4 @@ def main():
 
 
 if __name__ == "__main__":
-    run("vectors", main)
+    run_script("vectors", main)
