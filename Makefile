@@ -36,7 +36,7 @@ HEADERS = $(wildcard include/*.h)
 PAGES = $(wildcard man/*.1 man/*.3)
 
 # The tests that prove nothing anew, each tests/NAME/run.
-CHECKS = documents header library texts store desk man install
+CHECKS = documents pictures header library texts store desk why man python rust scripts install
 
 all: $(ARCHIVE) $(SHARED) $(PROGRAMS)
 
