@@ -27,10 +27,10 @@
  * list besides, of any length from ZAHUPNIK_LEAST_WORK on, and what it holds does not matter. When the function has finished, the first
  * ZAHUPNIK_LEAST_WORK numbers of it are zero, and what lies beyond is untouched.
  *
- * What the caller owes: behind a pointer there are as many initialised numbers as the length beside it says, the one number
- * behind `inverse`, `factor` and `length`, and every number of a record that is handed in; a list of length 0 may have any pointer,
- * NULL too. What a call writes (the inverse, the factor, the length, the output, the working list) overlaps nothing else that it is
- * lent, and nobody else touches what is lent while the call runs.
+ * What the caller owes: behind a pointer there are as many numbers as the length beside it says, and one behind `inverse`, `factor` and
+ * `length`. The lists and the text that are read, and every number of a record that is handed in, are initialised; what is written need not
+ * be. A list of length 0 may have any pointer, NULL too. What a call writes (the inverse, the factor, the length, the output, the working
+ * list) overlaps nothing else that it is lent, and nobody else touches what is lent while the call runs.
  *
  * Nothing is allocated and nothing is kept, so calls from several threads do not disturb one another.
  *
@@ -92,15 +92,17 @@ extern "C" {
 
 /* For a compiler that knows these attributes: it warns where an answer is not looked at, and where a list is shorter than the length that
  * is handed in with it. READS and WRITES name the pointer and its length by their places among the parameters, WRITES_ONE a pointer to one
- * number. */
+ * number, which is not NULL. */
 #ifdef __has_attribute
-#if __has_attribute(warn_unused_result)
-#define ZAHUPNIK_ANSWERS __attribute__((warn_unused_result))
+#if __has_attribute(__warn_unused_result__)
+#define ZAHUPNIK_ANSWERS __attribute__((__warn_unused_result__))
 #endif
-#if __has_attribute(access)
-#define ZAHUPNIK_READS(list, length) __attribute__((access(read_only, list, length)))
-#define ZAHUPNIK_WRITES(list, length) __attribute__((access(write_only, list, length)))
-#define ZAHUPNIK_WRITES_ONE(number) __attribute__((access(write_only, number)))
+#if __has_attribute(__access__)
+#define ZAHUPNIK_READS(list, length) __attribute__((__access__(__read_only__, list, length)))
+#define ZAHUPNIK_WRITES(list, length) __attribute__((__access__(__write_only__, list, length)))
+#define ZAHUPNIK_WRITES_ONE(number) __attribute__((__access__(__write_only__, number), __nonnull__(number)))
+#elif __has_attribute(__nonnull__)
+#define ZAHUPNIK_WRITES_ONE(number) __attribute__((__nonnull__(number)))
 #endif
 #endif
 #ifndef ZAHUPNIK_ANSWERS
@@ -109,6 +111,8 @@ extern "C" {
 #ifndef ZAHUPNIK_READS
 #define ZAHUPNIK_READS(list, length)
 #define ZAHUPNIK_WRITES(list, length)
+#endif
+#ifndef ZAHUPNIK_WRITES_ONE
 #define ZAHUPNIK_WRITES_ONE(number)
 #endif
 

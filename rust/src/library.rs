@@ -1,4 +1,4 @@
-//! What include/zahupnik.h declares, in its order and with its names: tests/header.rs holds the two against each other.
+//! What include/zahupnik.h declares, in its order and with its names: tests/agreement/header.rs holds the two against each other.
 
 use crate::{MOST_ENTRIES, MOST_ROWS};
 

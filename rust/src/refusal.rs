@@ -60,16 +60,16 @@ refusals! {
     /// The job text has more than [`MOST_TEXT`](crate::MOST_TEXT) bytes.
     1 TextTooLong "the text has more than 8192 bytes: send a shorter one";
     /// The job text is not of the form; or no job text has this operation.
-    2 TextForm "the text is not of its form, or a number names no operation: write it as its form is, or name one of the five operations";
+    2 TextForm "the text is not of its form, or no operation has that number: write it as its form is, or name one of the five operations";
     /// m, or m1 or m2, is below 2 or above [`GREATEST_MODULUS`](crate::GREATEST_MODULUS).
     3 Modulus "a channel number is below 2 or above 2147483647: choose another";
     /// The lists a, b and c are not equally long.
     4 Lengths "a, b and c are not equally long: give each of them one number for every row";
     /// There are more than [`MOST_ROWS`](crate::MOST_ROWS) rows, or an append would make them; or a list that is to change its order has
     /// more than [`MOST_ENTRIES`](crate::MOST_ENTRIES) numbers.
-    5 Rows "there are more than 127 rows, or more than 128 numbers in a list to be ordered: use a shorter family, or list";
+    5 Rows "there are more than 127 rows, or would be, or more than 128 numbers in a list to be ordered: use a shorter family, or list";
     /// The curve, or the list of coefficients, is not n long; or not empty in a job for moments or norms.
-    6 CurveLength "the curve is too short or too long: give one number more than there are rows, or none for moments and norms";
+    6 CurveLength "the curve, or the list of coefficients, is too short or too long: give one number more than there are rows, or none for moments and norms";
     /// The output is not as long as the result; or too short for an answer text or a job text. Only a call of [`lent`](crate::lent) meets
     /// this: elsewhere the crate makes the output.
     7 OutputLength "the output is not as long as the result, or has too little room for a text: lend one of the length that the header states";
@@ -78,16 +78,16 @@ refusals! {
     /// An entry of a, b or c is not below m.
     9 Entry "a number of a, b or c is not below the channel number: correct it, or reduce the family";
     /// Some a has no inverse modulo m: that of the lowest such row is not zero, and shares a factor with m.
-    10 AInverse "a number of a shares a factor with the channel number: choose one without that factor, or correct the family";
+    10 AInverse "a number of a shares a factor with the channel number: choose a channel number without that factor, or correct the family";
     /// Some c from row 2 on has no inverse modulo m: that of the lowest such row is not zero, and shares a factor with m.
-    11 CInverse "a number of c, from row 2 on, shares a factor with the channel number: choose one without that factor, or correct the family";
+    11 CInverse "a number of c, from row 2 on, shares a factor with the channel number: choose a channel number without that factor, or correct the family";
     /// A curve entry, a coefficient, a remainder to join or the number to invert is not below its m.
-    12 CurveEntry "a number of the curve, to be joined or to be inverted is not below the channel number: correct it, or reduce it";
+    12 CurveEntry "a number of the curve, a coefficient, or a number to be joined or inverted is not below the channel number: correct it, or reduce it";
     /// The number to invert has no inverse modulo m.
     13 NoInverse {
         /// The greatest common factor of the number and m: m where the number is zero, above 1 and below m where it is not.
         factor
-    } "the number has no inverse: the factor that comes with it says why, the channel number itself for zero";
+    } "the number has no inverse: look at the factor that comes with it, which for zero is the channel number itself";
     /// The prepared family is not the record of its own rows, or these are not accepted.
     14 Record "the prepared family is not the record of its own rows, or these are not accepted: make it anew from its rows";
     /// There is no row to drop.
@@ -95,10 +95,10 @@ refusals! {
     /// There is no such row to replace.
     16 AbsentRow "there is no such row to replace: name one from 1 to the number of rows";
     /// Some a has no inverse modulo m: that of the lowest such row is zero; of [`expand_join`](crate::expand_join), it leaves zero.
-    17 AZero "a number of a is zero, or leaves zero, and is the first of them without an inverse: correct the family";
+    17 AZero "a number of a is zero, or leaves zero, and is the first without an inverse: correct the family, or choose another channel number if it only leaves zero";
     /// Some c from row 2 on has no inverse modulo m: that of the lowest such row is zero; of [`expand_join`](crate::expand_join), it
     /// leaves zero.
-    18 CZero "a number of c, from row 2 on, is zero, or leaves zero, and is the first of them without an inverse: correct the family";
+    18 CZero "a number of c, from row 2 on, is zero, or leaves zero, and is the first without an inverse: correct the family, or choose another channel number if it only leaves zero";
     /// m1 and m2 share a factor greater than 1.
     19 SharedFactor "the two channel numbers share a factor: choose another one of them";
     /// The two lists of remainders are not equally long.
