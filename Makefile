@@ -30,8 +30,7 @@ SONAME = libzahupnik.so.$(MAJOR)
 
 ARCHIVE = target/staticlib/libzahupnik.a
 SHARED = target/lib/libzahupnik.so.$(VERSION)
-PROVED = target/bin/channel target/bin/store
-PROGRAMS = $(PROVED) target/bin/why
+PROGRAMS = target/bin/channel target/bin/store target/bin/why
 HEADERS = $(wildcard include/*.h)
 PAGES = $(wildcard man/*.1 man/*.3)
 
@@ -51,12 +50,12 @@ help:
 	    'make dist       target/dist/zahupnik-VERSION-x86_64-linux.tar.gz, an archive for machines without the kit' \
 	    'make clean      takes away the shared library, why and the archives; what is proved stays (rm -r target takes that too)'
 
-# Whether something is to be proved and built anew is decided as by the tests and by bin/channel and bin/store, which a signal ends together
-# with what they have started. A recipe that leaves its file alone causes no more work.
+# Each decides by itself, by the contents of its sources, whether something is to be proved and built anew. A recipe that leaves its file alone
+# causes no more work.
 $(ARCHIVE): FORCE
 	@bash -euo pipefail -c 'name=make built=target/library; . tests/library/common.sh; build_library'
-$(PROVED): FORCE
-	@bash -euo pipefail -c 'name=$(@F) top=.; . bin/program.sh; trap "end_by 2" INT; trap "end_by 15" TERM; is_built || build'
+$(PROGRAMS): FORCE
+	@bin/$(@F) --build
 
 # -z text refuses code that is not position independent, -z defs a function that neither the archive nor libc has; -z now binds memcpy and
 # memset before the first call, so that no call takes the stack of a binding.
@@ -65,10 +64,6 @@ $(SHARED): $(ARCHIVE) packaging/zahupnik.map include/zahupnik.h Makefile
 	$(CC) -shared $(LDFLAGS) -Wl,-soname,$(SONAME) -Wl,--version-script=packaging/zahupnik.map -Wl,-z,text -Wl,-z,defs -Wl,-z,relro \
 	    -Wl,-z,now -Wl,--whole-archive $(ARCHIVE) -Wl,--no-whole-archive -o $@
 	@ln -sf $(@F) $(@D)/$(SONAME) && ln -sf $(SONAME) $(@D)/libzahupnik.so
-
-target/bin/why: $(wildcard why/*.c why/*.h) $(HEADERS) $(ARCHIVE)
-	@mkdir -p $(@D)
-	$(CC) -std=c11 $(CPPFLAGS) $(CFLAGS) -Iinclude $(LDFLAGS) -o $@ $(filter %.c,$^) $(ARCHIVE)
 
 # All of them run, whatever one of them says, and those that failed are named last.
 check: all

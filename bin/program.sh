@@ -29,7 +29,7 @@ is_built() { # whether the program is the one that was built last, from sources 
     [ -x "$program" ] && [ -f "$built" ] || return
     mapfile -t kept <"$built"
     mapfile -t found < <(contents_of "${sources[@]}" && contents_of "target/bin/$name")
-    wait "$!" && [ "${kept[*]}" = "${found[*]}" ]
+    [ "${kept[*]}" = "${found[*]}" ]
 }
 is_as_rt_left_it() { # as far as is known
     local kept=()
@@ -66,22 +66,34 @@ main() {
     trap 'end_by 2' INT
     trap 'end_by 3' QUIT
     trap 'end_by 15' TERM
-    take_arguments 0 --version "$@"
-    if [ "${#options[@]}" -gt 0 ]; then
+    take_arguments 0 '--version --build' "$@"
+    case "${options[*]}" in
+    '') ;;
+    --version)
         print_version
         exit
-    fi
+        ;;
+    --build)
+        is_built || build
+        exit
+        ;;
+    *) misused "one of '${options[*]}' alone" ;;
+    esac
     # Where one is closed, a pipe of this script would take its number.
     { : 3<&0; } 2>/dev/null || fail "standard input is closed"
     { : 3>&1; } 2>/dev/null || fail "standard output is closed"
     is_built || build
     [ ! -t 0 ] || say "waiting for $waits_for"
 
-    # A program of rt has no exit status of its own, but each writes to standard error only if it failed.
+    # A program of rt has no exit status of its own, but each writes to standard error only if it failed. Behind that and a zero byte comes
+    # the status: bash does not always know that of a process that it reads from.
     exec 3<&0 4>&1
-    exec 5< <(exec "$program" <&3 2>&1 >&4 3<&- 4>&-)
+    exec 5< <({
+        "$program" <&3 2>&1 >&4 3<&- 4>&- || status=$?
+        printf '\0%d\n' "$status"
+    } 2>/dev/null)
     IFS= read -r -d '' message <&5 || :
-    wait "$!" || status=$?
+    IFS= read -r status <&5 || fail "the program was killed"
     [ -z "$message" ] || {
         printf '%s' "$message" >&2
         exit 1

@@ -29,14 +29,11 @@ seal_of() { # SOURCES: the seal of the archive as it is, which this kit made fro
 is_sealed() { # whether the archive is the one that the kit made last, from sources that are as they were
     [ -f "$archive" ] && [ -f "$seal" ] && [ "$(<"$seal")" = "$(seal_of "$(contents crates crates.txt)")" ]
 }
-make_library() {
+seal() { # COMMAND..: makes the library, and is followed by the seal if it ends well
     local began
     began=$(contents crates crates.txt)
     rm -f "$seal"
-    rt staticlib zahupnik >"$built/staticlib.log" 2>&1 || {
-        cat "$built/staticlib.log" >&2
-        fail "rt staticlib zahupnik failed"
-    }
+    "$@" || return
     seal_of "$began" >"$seal.begun"
     mv "$seal.begun" "$seal"
 }
@@ -46,7 +43,10 @@ build_library() {
     mkdir -p "$built"
     is_sealed || {
         one_builds
-        is_sealed || make_library
+        is_sealed || seal rt staticlib zahupnik >"$built/staticlib.log" 2>&1 || {
+            cat "$built/staticlib.log" >&2
+            fail "rt staticlib zahupnik failed"
+        }
         has_built
     }
     diff <(functions <include/zahupnik.h) <(nm "$archive" | functions) >&2 ||
