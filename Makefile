@@ -33,6 +33,8 @@ SHARED = target/lib/libzahupnik.so.$(VERSION)
 PROGRAMS = target/bin/channel target/bin/store target/bin/why
 HEADERS = $(wildcard include/*.h)
 PAGES = $(wildcard man/*.1 man/*.3)
+# A page by the name of every function, which leads to zahupnik.3.
+FUNCTIONS := $(shell sed -nE 's/^(uint32_t|struct zahupnik_change|static inline const char) \*?(zahupnik_[a-z_]+)\(.*/\2/p' $(HEADERS))
 
 # The tests that prove nothing anew, each tests/NAME/run.
 CHECKS = documents pictures header library texts store desk why man python rust scripts install
@@ -126,13 +128,15 @@ install: folders $(if $(shell command -v rt),all,built)
 	    $(INSTALL) -m 644 /dev/stdin $(call to,$(CMAKE)/zahupnikConfigVersion.cmake)
 	$(if $(filter %.1,$(PAGES)),$(INSTALL) -m 644 $(filter %.1,$(PAGES)) $(call to,$(MANDIR)/man1))
 	$(if $(filter %.3,$(PAGES)),$(INSTALL) -m 644 $(filter %.3,$(PAGES)) $(call to,$(MANDIR)/man3))
+	@for function in $(FUNCTIONS); do ln -sfn zahupnik.3 $(call to,$(MANDIR)/man3)/$$function.3; done
 
 # The folders that others use too stay, but for those that are left empty after DESTDIR, where nobody else puts anything.
 INSTALLED = $(addprefix $(BINDIR)/,$(notdir $(PROGRAMS))) \
     $(addprefix $(LIBDIR)/,$(notdir $(ARCHIVE) $(SHARED)) $(SONAME) libzahupnik.so) \
     $(addprefix $(INCLUDEDIR)/,$(notdir $(HEADERS))) $(PC)/zahupnik.pc \
     $(CMAKE)/zahupnikConfig.cmake $(CMAKE)/zahupnikConfigVersion.cmake \
-    $(addprefix $(MANDIR)/man1/,$(notdir $(filter %.1,$(PAGES)))) $(addprefix $(MANDIR)/man3/,$(notdir $(filter %.3,$(PAGES))))
+    $(addprefix $(MANDIR)/man1/,$(notdir $(filter %.1,$(PAGES)))) $(addprefix $(MANDIR)/man3/,$(notdir $(filter %.3,$(PAGES)))) \
+    $(patsubst %,$(MANDIR)/man3/%.3,$(FUNCTIONS))
 uninstall: folders
 	rm -f $(foreach file,$(INSTALLED),$(call to,$(file)))
 	@[ ! -d $(call to,$(CMAKE)) ] || rmdir --ignore-fail-on-non-empty $(call to,$(CMAKE))
