@@ -34,7 +34,7 @@ PROGRAMS = target/bin/channel target/bin/store target/bin/why
 HEADERS = $(wildcard include/*.h)
 PAGES = $(wildcard man/*.1 man/*.3)
 # A page by the name of every function, which leads to zahupnik.3.
-FUNCTIONS := $(shell sed -nE 's/^(uint32_t|struct zahupnik_change|static inline const char) \*?(zahupnik_[a-z_]+)\(.*/\2/p' $(HEADERS))
+FUNCTIONS := $(shell sed -nE 's/^(uint32_t|struct zahupnik_change|static inline const char) \*?(zahupnik_[a-z_]+).*/\2/p' $(HEADERS))
 
 # The tests that prove nothing anew, each tests/NAME/run.
 CHECKS = documents pictures header library texts store desk why man python rust scripts install
