@@ -136,7 +136,7 @@ static void check_number(struct slips *slips, const struct line *line, size_t st
     if (other < end) {
         uint32_t code = character_at(text, other, end).code;
         name_character(text, other, end, sign);
-        if (other == start && (code == '-' || code == 0x2212)) {
+        if (other == start && (code == '-' || code == 0x2013 || code == 0x2212)) {
             uint32_t number = 0;
             snprintf(expected, sizeof expected, "a number without a sign");
             if (slips->m && read_number(text, other + character_at(text, other, end).bytes, end, &number))
@@ -226,26 +226,45 @@ static void check_operation(struct slips *slips, const struct line *line) {
 
 static int begins_number(uint8_t byte) { return (byte >= '0' && byte <= '9') || byte == '-' || byte == '+'; }
 
+/* A line without anything that is seen. */
+static void name_empty(const struct slips *slips, const struct line *line, char name[WORDS]) {
+    size_t at = line->start;
+    *name = 0;
+    while (at < line->end && (slips->text[at] == ' ' || slips->text[at] == '\t')) at++;
+    if (at < line->end)
+        name_run(slips, line->start, line->end, name);
+    else
+        append(name, line->end > line->start ? "a line of blanks only" : "an empty line");
+}
+
 /* What a line opens with. Returns whether the rest of it can be read as the contents of the line that is meant. */
 static int check_key(struct slips *slips, const struct line *line) {
     const uint8_t *text = slips->text;
     char expected[WORDS], found[QUOTE_ROOM], run[WORDS];
     const char *key = keys[line->meant];
     size_t letters = strlen(key) - 1;
-    if (line->exact) return 1;
     if (line->key == line->end) {
         snprintf(expected, sizeof expected, "the line %s", key);
-        note(slips, line, line->start, 1, expected, line->end > line->start ? "a line of blanks only" : "an empty line");
+        name_empty(slips, line, run);
+        note(slips, line, line->start, 1, expected, "%s", run);
         return 0;
     }
     if (line->key > line->start) {
+        size_t first = line->start + character_at(text, line->start, line->key).bytes;
+        quote(text, line->start, line->key, found);
         name_run(slips, line->start, line->key, run);
         snprintf(expected, sizeof expected, "%s at the start of the line", key);
-        note(slips, line, line->start, line->key - line->start, expected, "%s before the key", run);
+        note(slips, line, line->start, line->key - line->start, expected, "%s before the key",
+             first == line->key || skip(slips, line->start, line->key, is_blank) == line->key ? run : found);
     }
     size_t behind = line->key + letters;
     int is_written = line->key_end >= behind && memcmp(text + line->key, key, letters) == 0;
-    if (is_written && line->key_end == behind + 1 && text[behind] == '=') return 1;
+    if (is_written && line->key_end == behind + 1 && text[behind] == '=') {
+        size_t times = (line->contents - line->key) / (letters + 1);
+        if (times == 2) note(slips, line, line->key_end, letters + 1, "it once", "%s twice", key);
+        if (times > 2) note(slips, line, line->key_end, line->contents - line->key_end, "it once", "%s %zu times", key, times);
+        return 1;
+    }
     if (is_written && line->key_end > behind + 1 && text[line->key_end - 1] == '=' &&
         skip(slips, behind, line->key_end, is_blank) == line->key_end - 1) {
         name_run(slips, behind, line->key_end - 1, run);
@@ -270,6 +289,21 @@ static int check_key(struct slips *slips, const struct line *line) {
     snprintf(expected, sizeof expected, "the line %s", key);
     note(slips, line, line->key, 1, expected, "%s", found);
     return 0;
+}
+
+/* A key in the middle of a line, and what is to give way to the line end before it. */
+static void note_joined(struct slips *slips, const struct line *line) {
+    char expected[WORDS] = "byte 10, the line end, ", run[WORDS];
+    size_t gap = line->end;
+    while (gap > line->contents && skip(slips, gap - 1, line->end, is_separator) == line->end) gap--;
+    name_run(slips, gap, line->end, run);
+    if (gap + 1 == line->end && slips->text[gap] == ' ')
+        append(expected, "in place of the space before it");
+    else if (gap < line->end)
+        append(expected, "in place of what stands before it: %s", run);
+    else
+        append(expected, "before it");
+    note(slips, line, line->end, 1, expected, "the next key in the middle of the line");
 }
 
 /* Where a line that is not in its place belongs. */
@@ -330,24 +364,40 @@ static void note_endings(struct slips *slips, const struct lines *lines, enum en
     }
 }
 
+/* Whether a line that is too many goes on with a list of the line before: numbers without a key, or a key with the number of a row. */
+static int continues_list(const struct slips *slips, const struct line *line) {
+    size_t at = line->key;
+    if (line->role == ODD) return at < line->end && begins_number(slips->text[at]);
+    if (line->role != DOUBLE || line->exact || line->meant == MOD || line->meant == OP) return 0;
+    while (at < line->key_end && !(slips->text[at] >= '0' && slips->text[at] <= '9')) at++;
+    return at < line->key_end;
+}
+
 /* Lines that are too many. Those after the last of the six are told together, and so are empty ones. */
 static void note_extra(struct slips *slips, const struct lines *lines, size_t from, size_t to, int after_all) {
     const struct line *line = &lines->line[from];
     size_t more = to - from - 1;
     char found[WORDS] = "", quoted[QUOTE_ROOM];
     const char *expected = "the six lines mod=, a=, b=, c=, op= and v= only";
-    quote(slips->text, line->start, line->end, quoted);
+    if (continues_list(slips, line)) {
+        quote(slips->text, line->key, line->role == DOUBLE ? line->key_end : line->end, quoted);
+        note(slips, line, line->start, 1, "the numbers of a list in one line, after its key", line->role == DOUBLE ? "%s" : "%s without a key",
+             quoted);
+        return;
+    }
     if (line->role == EMPTY) {
-        append(found, line->end > line->start ? "a line of blanks only" : "an empty line");
+        name_empty(slips, line, found);
         expected = "no such line";
     } else if (line->role == DOUBLE) {
         append(found, "a second line %s", keys[line->meant]);
         expected = "one such line only";
-    } else if (begins_number(slips->text[line->start])) {
-        append(found, "%s without a key", quoted);
-        expected = "the numbers of a list in one line, after its key";
-    } else
-        append(found, "%s, which is none of the six lines", quoted);
+    } else {
+        size_t at = line->start;
+        while (at < line->end && (slips->text[at] < ' ' || slips->text[at] >= 127)) at++;
+        quote(slips->text, line->start, line->end, quoted);
+        if (at == line->end) name_run(slips, line->start, line->end, found);
+        append(found, "%s, which is none of the six lines", at == line->end ? "" : quoted);
+    }
     if (after_all) expected = "the end of the text after the line v=";
     if (more) append(found, " and %zu more line%s%s", more, more == 1 ? "" : "s", after_all ? "" : " like it");
     struct slip *slip = note(slips, line, line->start, 1, expected, "%s", found);
@@ -413,7 +463,8 @@ static void find_slips(struct slips *slips) {
         return;
     }
     const struct line *mod = lines.of[MOD];
-    if (mod && (!read_number(slips->text, mod->contents, mod->end, &slips->m) || slips->m > ZAHUPNIK_GREATEST_MODULUS)) slips->m = 0;
+    if (mod && (!read_number(slips->text, mod->contents, mod->end, &slips->m) || slips->m < 2 || slips->m > ZAHUPNIK_GREATEST_MODULUS))
+        slips->m = 0;
     note_endings(slips, &lines, CR_LF, "byte 13 before byte 10 (CR LF)");
     note_endings(slips, &lines, CR, "byte 13 (CR) in place of byte 10");
 
@@ -425,9 +476,13 @@ static void find_slips(struct slips *slips) {
         const struct line *line = &lines.line[i];
         if (i > last) {
             if (next < LINES) note_missing(slips, &lines, next, LINES, line, line->start);
-            note_extra(slips, &lines, i, lines.count, 1);
             next = LINES;
-            break;
+            size_t to = i + 1;
+            if (!continues_list(slips, line))
+                while (to < lines.count && !continues_list(slips, &lines.line[to])) to++;
+            note_extra(slips, &lines, i, to, 1);
+            i = to - 1;
+            continue;
         }
         if (line->role > REPLACED) {
             size_t to = i + 1;
@@ -448,13 +503,12 @@ static void find_slips(struct slips *slips) {
             else
                 check_numbers(slips, line);
         }
-        if (line->ending == JOINED)
-            note(slips, line, line->end, 1, "byte 10, the line end, before it", "the next key in the middle of the line");
+        if (line->ending == JOINED) note_joined(slips, line);
     }
     struct line end = lines.line[lines.count - 1];
-    if (end.ending == NOTHING)
+    if (end.ending == NOTHING && end.role <= REPLACED)
         note(slips, &end, length, 1, "byte 10, the line end, after the last line too", "the end of the text");
-    else {
+    else if (end.ending != NOTHING) {
         end.number++;
         end.line_start = length;
     }
