@@ -36,8 +36,10 @@ static int is_foreign_digit(uint32_t code) {
 static const char *known_name(uint32_t code) {
     switch (code) {
     case 0: return "a zero byte";
+    case 4: return "byte 4 (Ctrl-D)";
     case 9: return "a tab";
     case 13: return "byte 13 (CR)";
+    case 26: return "byte 26 (Ctrl-Z)";
     case ' ': return "a space";
     case ',': return "a comma";
     case ';': return "a semicolon";
@@ -48,6 +50,7 @@ static const char *known_name(uint32_t code) {
     case '"': return "a quotation mark";
     case 0xA0:
     case NO_CODE + 0xA0: return "a no-break space";
+    case 0x2013: return "an en dash";
     case 0x2212: return "a minus sign of another kind than -";
     case 0xFEFF: return "a byte order mark";
     default: return NULL;

@@ -84,7 +84,8 @@ uint32_t explain(FILE *out, const struct input *input) {
     if (number == ZAHUPNIK_FINISHED)
         fprintf(out, "accepted: ");
     else
-        fprintf(out, "refused=%" PRIu32 ": %s\n", number, zahupnik_refusal(number));
+        fprintf(out, "refused=%" PRIu32 ": %s\n", number,
+                number == ZAHUPNIK_REFUSED_TEXT_FORM ? "the text is not of its form: mend what is named below" : zahupnik_refusal(number));
     if (number == ZAHUPNIK_REFUSED_TEXT_TOO_LONG)
         print_length(out, input);
     else if (number == ZAHUPNIK_REFUSED_TEXT_FORM) {

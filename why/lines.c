@@ -49,31 +49,65 @@ static int key_like(const uint8_t *word, size_t length) {
     return LINES;
 }
 
+/* Where the key of a line begins, behind blanks and behind what mails, tables and numbered lists put before it: signs that are no letters
+ * or digits, a number with a point or bracket after it, or the number of the line; or words without a digit before a key that is exactly
+ * written. Behind the blanks only, if no key follows. */
+static size_t skip_prefix(const uint8_t *text, const struct line *line) {
+    size_t end = line->end, first = skip_blanks(text, line->start, end), at = first, number = 0, key = first;
+    while (key < end && is_letter(text[key])) key++;
+    if (key_like(text + first, key - first) < LINES || operation_like(text + first, key - first) < OPERATIONS) return first;
+    for (; key < end && !is_digit(text[key]) && text[key] != '='; key++)
+        if (key > first && !is_letter(text[key - 1]) && key_at(text, key, end) < LINES) return key;
+    while (at < end && !is_letter(text[at]) && !is_digit(text[at]) && text[at] != '=') at++;
+    if (at < end && is_digit(text[at]) && (at == first || (text[at - 1] != '-' && text[at - 1] != '+'))) {
+        for (; at < end && is_digit(text[at]); at++) number = (10 * number + (size_t)(text[at] - '0')) % (10 * MOST_LINES);
+        if (at < end && memchr(".):]", text[at], 4))
+            at++;
+        else if (at < end && !is_letter(text[at]) && number != line->number)
+            return first;
+        at = skip_blanks(text, at, end);
+    }
+    key = at;
+    while (key < end && is_letter(text[key])) key++;
+    size_t sign = skip_blanks(text, key, end);
+    return sign < end && text[sign] == '=' && key_like(text + at, key - at) < LINES ? at : first;
+}
+
 /* Finds what a line opens with. */
 static void read_key(const uint8_t *text, struct line *line) {
     size_t end = line->end, at = line->start;
-    line->exact = 0;
+    line->exact = key_at(text, at, end) < LINES;
+    if (!line->exact) at = skip_prefix(text, line);
+    line->key = at;
     line->meant = key_at(text, at, end);
     if (line->meant < LINES) {
-        line->exact = 1;
-        line->key = at;
         line->contents = line->key_end = at + strlen(keys[line->meant]);
+        while (key_at(text, line->contents, end) == line->meant) line->contents += strlen(keys[line->meant]);
         return;
     }
-    line->key = at = skip_blanks(text, at, end);
-    size_t letters = at, word;
+    size_t letters = at, word = at, sign;
+    int has_letter = 0;
     while (letters < end && is_letter(text[letters])) letters++;
-    for (word = letters; word < end && (is_digit(text[word]) || text[word] == '_');) word++;
-    size_t sign = skip_blanks(text, word, end);
-    if (sign < end && (text[sign] == '=' || text[sign] == ':') && (letters > at || word == at)) {
-        line->meant = key_like(text + at, letters - at);
+    for (; word < end && text[word] != '=' && !is_separator(character_at(text, word, end)); word++)
+        has_letter |= is_letter(text[word]) || text[word] >= 0x80;
+    sign = skip_blanks(text, word, end);
+    if (sign < end && text[sign] == '=' && (has_letter || word == at)) {
+        line->meant = key_like(text + at, word - at);
+        if (line->meant == LINES) line->meant = key_like(text + at, letters - at);
         line->contents = line->key_end = sign + 1;
-    } else {
-        line->meant = key_like(text + at, letters - at);
-        line->key_end = line->meant < LINES ? letters : at;
-        line->contents = skip_blanks(text, line->key_end, end);
-        if (line->meant == LINES && letters - at >= 4 && operation_like(text + at, letters - at) < OPERATIONS) line->meant = OP;
+        return;
     }
+    line->meant = key_like(text + at, letters - at);
+    for (word = letters; word < end && (is_digit(text[word]) || text[word] == '_');) word++;
+    sign = skip_blanks(text, word, end);
+    if (sign < end && ((text[sign] == ':' && (letters > at || word == at)) ||
+                       (line->meant < LINES && (text[sign] == ',' || text[sign] == ';')))) {
+        line->contents = line->key_end = sign + 1;
+        return;
+    }
+    line->key_end = line->meant < LINES ? letters : at;
+    line->contents = skip_blanks(text, line->key_end, end);
+    if (line->meant == LINES && letters - at >= 4 && operation_like(text + at, letters - at) < OPERATIONS) line->meant = OP;
 }
 
 static void add_line(const uint8_t *text, struct lines *lines, struct line line) {
@@ -81,16 +115,18 @@ static void add_line(const uint8_t *text, struct lines *lines, struct line line)
     lines->line[lines->count++] = line;
 }
 
-/* Adds a line, as several where keys stand in the middle of it. */
+/* Adds a line, as several where keys stand in the middle of it, behind the key that it opens with. */
 static void add_lines(const uint8_t *text, struct lines *lines, struct line line) {
     struct line part = line;
+    read_key(text, &part);
     for (size_t at = line.start; at < line.end; at++) {
-        if (!opens_line(text, part.start, at, line.end)) continue;
+        if ((part.meant < LINES && at < part.contents) || !opens_line(text, part.start, at, line.end)) continue;
         part.end = at;
         part.ending = JOINED;
         add_line(text, lines, part);
         part = line;
         part.start = at;
+        read_key(text, &part);
     }
     add_line(text, lines, part);
 }

@@ -22,7 +22,7 @@ struct line {
     size_t line_start;   /* where the line of this number begins: its place 1. A line with several keys is several of these */
     size_t start, end;   /* its bytes, without its ending */
     size_t key, key_end; /* what seems to be its key, with = or what stands for that; empty if there is none */
-    size_t contents;     /* where what follows the key begins */
+    size_t contents;     /* where what follows the key begins, or the last of it where it stands there several times */
     enum ending ending;
     enum role role;
     int meant; /* the line of a job that it seems to be, or LINES if none */

@@ -23,7 +23,8 @@ struct slips {
     const uint8_t *text;
     size_t length, count, room;
     struct slip *slip;
-    uint32_t m; /* the channel number, or 0 if it cannot be read */
+    uint32_t m;         /* the channel number, or 0 if it cannot be read */
+    uint32_t operation; /* or what it seems to be; OPERATIONS if that is not known */
 };
 
 static const char *const a_job = "a job of six lines: mod=, a=, b=, c=, op= and v=";
@@ -136,10 +137,10 @@ static void check_number(struct slips *slips, const struct line *line, size_t st
     if (other < end) {
         uint32_t code = character_at(text, other, end).code;
         name_character(text, other, end, sign);
-        if (other == start && (code == '-' || code == 0x2212)) {
+        if (other == start && (code == '-' || code == 0x2013 || code == 0x2212)) {
             uint32_t number = 0;
-            snprintf(expected, sizeof expected, "a number without a sign");
-            if (slips->m && read_number(text, other + character_at(text, other, end).bytes, end, &number))
+            snprintf(expected, sizeof expected, "a number without a sign%s", line->meant == MOD ? "" : ", the remainder modulo m");
+            if (slips->m && line->meant != MOD && read_number(text, other + character_at(text, other, end).bytes, end, &number))
                 snprintf(expected, sizeof expected, "%" PRIu32 ", which is -%" PRIu32 " modulo %" PRIu32,
                          (slips->m - number % slips->m) % slips->m, number, slips->m);
             note(slips, line, other, end - other, expected, "%s in %s", sign, word);
@@ -159,41 +160,137 @@ static void check_number(struct slips *slips, const struct line *line, size_t st
         note(slips, line, start, digits - start, expected, "a leading zero in %s", word);
     }
     uint32_t number;
-    if (!read_number(text, digits, end, &number))
-        note(slips, line, start, end - start, "a number of at most 4294967295", "the number %s", word);
+    if (!read_number(text, digits, end, &number)) {
+        snprintf(expected, sizeof expected, "a number of at most %" PRIu32, line->meant == MOD ? ZAHUPNIK_GREATEST_MODULUS : UINT32_MAX);
+        note(slips, line, start, end - start, expected, "the number %s", word);
+    }
+}
+
+static int is_digit(uint8_t byte) { return byte >= '0' && byte <= '9'; }
+static size_t skip_digits(const struct slips *slips, size_t at, size_t end) {
+    while (at < end && is_digit(slips->text[at])) at++;
+    return at;
+}
+
+/* Where a number ends that is written in groups of three digits with the same mark between each two, as 1,000,003; its start, if none
+ * stands there, or if it may be something else: a number that is not whole, as 1.000, or, unless it is to be the only one of its line,
+ * several, as 1,234 and 1 000. */
+static size_t skip_groups(const struct slips *slips, size_t start, size_t end, int only) {
+    const uint8_t *text = slips->text;
+    size_t at = skip_digits(slips, start, end), groups = 0;
+    int begins_with_zero = 0;
+    if (at == start || at > start + 3 || at == end || text[start] == '0') return start;
+    const struct character mark = character_at(text, at, end);
+    uint32_t code = mark.code;
+    while (at < end && character_at(text, at, end).code == code) {
+        size_t group = at + mark.bytes, group_end = skip_digits(slips, group, end);
+        if (group_end != group + 3) break;
+        begins_with_zero |= text[group] == '0';
+        groups++;
+        at = group_end;
+    }
+    if (groups == 0 || (at < end && !is_separator(character_at(text, at, end)))) return start;
+    int is_one;
+    if (code == '\'' || code == '_' || code == 0x2019)
+        is_one = 1;
+    else if (code == '.')
+        is_one = groups > 1;
+    else if (code == ',')
+        is_one = only || begins_with_zero;
+    else
+        is_one = is_blank(mark) && (only ? groups > 1 || begins_with_zero : begins_with_zero && code != ' ');
+    return is_one ? at : start;
+}
+
+/* A number in groups of digits, and what it is without the marks. */
+static void note_grouped(struct slips *slips, const struct line *line, size_t start, size_t end) {
+    char found[QUOTE_ROOM], expected[WORDS] = "\"";
+    quote(slips->text, start, end, found);
+    for (size_t at = start; at < end; at++)
+        if (is_digit(slips->text[at])) append(expected, "%c", slips->text[at]);
+    append(expected, "\", without a mark between its digits");
+    note(slips, line, start, end - start, expected, "groups of digits in %s", found);
+}
+
+/* What follows the number after mod=: other numbers, or something else. */
+static void check_after_modulus(struct slips *slips, const struct line *line, size_t start) {
+    size_t end = line->end, gap = start, numbers = 1, at = skip(slips, start, end, is_separator), second = at;
+    char found[QUOTE_ROOM];
+    while (at < end) {
+        size_t word = at;
+        at = skip_digits(slips, at, end);
+        numbers += at > word;
+        if (at == word || (at < end && !is_separator(character_at(slips->text, at, end)))) break;
+        at = skip(slips, at, end, is_separator);
+    }
+    if (at == end) {
+        note(slips, line, second, end - second, "one number after mod=, the channel number", "%zu numbers", numbers);
+        return;
+    }
+    quote(slips->text, second, end, found);
+    note(slips, line, gap, end - gap, "byte 10, the line end, right after the number", "%s after the number", found);
+}
+
+static int opened_by_equals(const struct slips *slips, const struct line *line) {
+    return line->key_end > line->key && slips->text[line->key_end - 1] == '=';
+}
+
+/* Something that is no number after v= where the operation takes no curve. Returns whether it is so. */
+static int check_no_curve(struct slips *slips, const struct line *line) {
+    size_t at = skip(slips, line->contents, line->end, is_separator);
+    char found[QUOTE_ROOM], expected[WORDS];
+    if (line->meant != V || slips->operation == OPERATIONS || takes_curve(slips->operation)) return 0;
+    if (at == line->end || is_digit(slips->text[at])) return 0;
+    quote(slips->text, line->contents, line->end, found);
+    snprintf(expected, sizeof expected, "nothing after v= for %s", operations[slips->operation]);
+    note(slips, line, line->contents, line->end - line->contents, expected, "%s", found);
+    return 1;
 }
 
 /* The numbers of a line: one if it is the line mod=, else any number of them with one space between two. */
 static void check_numbers(struct slips *slips, const struct line *line) {
     const uint8_t *text = slips->text;
-    size_t end = line->end, at = line->contents, words = 0, second = end;
+    size_t end = line->end, at = line->contents, words = 0;
     char run[WORDS];
     int one = line->meant == MOD;
+    if (check_no_curve(slips, line)) return;
     for (;;) {
         size_t gap = at;
         at = skip(slips, at, end, is_separator);
         name_run(slips, gap, at, run);
         if (words == 0 && at > gap)
             note(slips, line, gap, at - gap,
-                 at < end || one ? "the first number right after =" : "byte 10, the line end, right after =", "%s after =", run);
+                 at < end || one ? "the first number right after =" : "byte 10, the line end, right after =",
+                 opened_by_equals(slips, line) ? "%s after =" : "%s before the first number", run);
         else if (at == end && at > gap && line->ending != JOINED)
             note(slips, line, gap, at - gap, "byte 10, the line end, right after the last number", "%s at the end of the line", run);
         else if (at < end && words > 0 && !one && !(at == gap + 1 && text[gap] == ' ')) {
             size_t wrong = gap;
             while (wrong < at && text[wrong] == ' ') wrong++;
             if (wrong == at) wrong = gap + 1;
-            note(slips, line, wrong, at > wrong ? at - wrong : 1, "one space between two numbers", "%s", run);
+            size_t last = gap, group = skip_digits(slips, at, end);
+            while (last > line->contents && is_digit(text[last - 1])) last--;
+            const char *expected = at == gap + 1 && text[gap] == ',' && group == at + 3 && last < gap && gap - last <= 3
+                                       ? "one space between two numbers, or nothing inside one number"
+                                       : "one space between two numbers";
+            note(slips, line, wrong, at > wrong ? at - wrong : 1, expected, "%s", run);
         }
         if (at == end) break;
         size_t word = at;
-        at = skip_word(slips, at, end, is_separator);
-        check_number(slips, line, word, at);
-        if (++words == 2) second = word;
+        at = skip_groups(slips, word, end, one);
+        if (at > word)
+            note_grouped(slips, line, word, at);
+        else {
+            at = skip_word(slips, word, end, is_separator);
+            check_number(slips, line, word, at);
+        }
+        words++;
+        if (one && skip(slips, at, end, is_separator) < end) {
+            check_after_modulus(slips, line, at);
+            break;
+        }
     }
-    if (one && words == 0)
-        note(slips, line, end, 1, "one number after mod=, the channel number", "no number");
-    else if (one && words > 1)
-        note(slips, line, second, end - second, "one number after mod=, the channel number", "%zu numbers", words);
+    if (one && words == 0) note(slips, line, end, 1, "one number after mod=, the channel number", "no number");
 }
 
 /* The operation. */
@@ -202,7 +299,9 @@ static void check_operation(struct slips *slips, const struct line *line) {
     size_t end = line->end, at = skip(slips, line->contents, end, is_blank);
     char run[WORDS], word[QUOTE_ROOM];
     name_run(slips, line->contents, at, run);
-    if (at > line->contents) note(slips, line, line->contents, at - line->contents, "the operation right after =", "%s after =", run);
+    if (at > line->contents)
+        note(slips, line, line->contents, at - line->contents, "the operation right after =",
+             opened_by_equals(slips, line) ? "%s after =" : "%s before the operation", run);
     if (at == end) {
         note(slips, line, end, 1, five_operations, "no operation");
         return;
@@ -224,7 +323,18 @@ static void check_operation(struct slips *slips, const struct line *line) {
         note(slips, line, gap, at - gap, "byte 10, the line end, right after the operation", "%s at the end of the line", run);
 }
 
-static int begins_number(uint8_t byte) { return (byte >= '0' && byte <= '9') || byte == '-' || byte == '+'; }
+static int begins_number(uint8_t byte) { return is_digit(byte) || byte == '-' || byte == '+'; }
+
+/* A line without anything that is seen. */
+static void name_empty(const struct slips *slips, const struct line *line, char name[WORDS]) {
+    size_t at = line->start;
+    *name = 0;
+    while (at < line->end && (slips->text[at] == ' ' || slips->text[at] == '\t')) at++;
+    if (at < line->end)
+        name_run(slips, line->start, line->end, name);
+    else
+        append(name, line->end > line->start ? "a line of blanks only" : "an empty line");
+}
 
 /* What a line opens with. Returns whether the rest of it can be read as the contents of the line that is meant. */
 static int check_key(struct slips *slips, const struct line *line) {
@@ -232,20 +342,28 @@ static int check_key(struct slips *slips, const struct line *line) {
     char expected[WORDS], found[QUOTE_ROOM], run[WORDS];
     const char *key = keys[line->meant];
     size_t letters = strlen(key) - 1;
-    if (line->exact) return 1;
     if (line->key == line->end) {
         snprintf(expected, sizeof expected, "the line %s", key);
-        note(slips, line, line->start, 1, expected, line->end > line->start ? "a line of blanks only" : "an empty line");
+        name_empty(slips, line, run);
+        note(slips, line, line->start, 1, expected, "%s", run);
         return 0;
     }
     if (line->key > line->start) {
+        size_t first = line->start + character_at(text, line->start, line->key).bytes;
+        quote(text, line->start, line->key, found);
         name_run(slips, line->start, line->key, run);
         snprintf(expected, sizeof expected, "%s at the start of the line", key);
-        note(slips, line, line->start, line->key - line->start, expected, "%s before the key", run);
+        note(slips, line, line->start, line->key - line->start, expected, "%s before the key",
+             first == line->key || skip(slips, line->start, line->key, is_blank) == line->key ? run : found);
     }
     size_t behind = line->key + letters;
     int is_written = line->key_end >= behind && memcmp(text + line->key, key, letters) == 0;
-    if (is_written && line->key_end == behind + 1 && text[behind] == '=') return 1;
+    if (is_written && line->key_end == behind + 1 && text[behind] == '=') {
+        size_t times = (line->contents - line->key) / (letters + 1);
+        if (times == 2) note(slips, line, line->key_end, letters + 1, "it once", "%s twice", key);
+        if (times > 2) note(slips, line, line->key_end, line->contents - line->key_end, "it once", "%s %zu times", key, times);
+        return 1;
+    }
     if (is_written && line->key_end > behind + 1 && text[line->key_end - 1] == '=' &&
         skip(slips, behind, line->key_end, is_blank) == line->key_end - 1) {
         name_run(slips, behind, line->key_end - 1, run);
@@ -270,6 +388,21 @@ static int check_key(struct slips *slips, const struct line *line) {
     snprintf(expected, sizeof expected, "the line %s", key);
     note(slips, line, line->key, 1, expected, "%s", found);
     return 0;
+}
+
+/* A key in the middle of a line, and what is to give way to the line end before it. */
+static void note_joined(struct slips *slips, const struct line *line) {
+    char expected[WORDS] = "byte 10, the line end, ", run[WORDS];
+    size_t gap = line->end;
+    while (gap > line->contents && skip(slips, gap - 1, line->end, is_separator) == line->end) gap--;
+    name_run(slips, gap, line->end, run);
+    if (gap + 1 == line->end && slips->text[gap] == ' ')
+        append(expected, "in place of the space before it");
+    else if (gap < line->end)
+        append(expected, "in place of what stands before it: %s", run);
+    else
+        append(expected, "before it");
+    note(slips, line, line->end, 1, expected, "the next key in the middle of the line");
 }
 
 /* Where a line that is not in its place belongs. */
@@ -330,24 +463,40 @@ static void note_endings(struct slips *slips, const struct lines *lines, enum en
     }
 }
 
+/* Whether a line that is too many goes on with a list of the line before: numbers without a key, or a key with the number of a row. */
+static int continues_list(const struct slips *slips, const struct line *line) {
+    size_t at = line->key;
+    if (line->role == ODD) return at < line->end && begins_number(slips->text[at]);
+    if (line->role != DOUBLE || line->exact || line->meant == MOD || line->meant == OP) return 0;
+    while (at < line->key_end && !is_digit(slips->text[at])) at++;
+    return at < line->key_end;
+}
+
 /* Lines that are too many. Those after the last of the six are told together, and so are empty ones. */
 static void note_extra(struct slips *slips, const struct lines *lines, size_t from, size_t to, int after_all) {
     const struct line *line = &lines->line[from];
     size_t more = to - from - 1;
     char found[WORDS] = "", quoted[QUOTE_ROOM];
     const char *expected = "the six lines mod=, a=, b=, c=, op= and v= only";
-    quote(slips->text, line->start, line->end, quoted);
+    if (continues_list(slips, line)) {
+        quote(slips->text, line->key, line->role == DOUBLE ? line->key_end : line->end, quoted);
+        note(slips, line, line->start, 1, "the numbers of a list in one line, after its key",
+             line->role == DOUBLE ? "%s" : "%s without a key", quoted);
+        return;
+    }
     if (line->role == EMPTY) {
-        append(found, line->end > line->start ? "a line of blanks only" : "an empty line");
+        name_empty(slips, line, found);
         expected = "no such line";
     } else if (line->role == DOUBLE) {
         append(found, "a second line %s", keys[line->meant]);
         expected = "one such line only";
-    } else if (begins_number(slips->text[line->start])) {
-        append(found, "%s without a key", quoted);
-        expected = "the numbers of a list in one line, after its key";
-    } else
-        append(found, "%s, which is none of the six lines", quoted);
+    } else {
+        size_t at = line->start;
+        while (at < line->end && (slips->text[at] < ' ' || slips->text[at] >= 127)) at++;
+        quote(slips->text, line->start, line->end, quoted);
+        if (at == line->end) name_run(slips, line->start, line->end, found);
+        append(found, "%s, which is none of the six lines", at == line->end ? "" : quoted);
+    }
     if (after_all) expected = "the end of the text after the line v=";
     if (more) append(found, " and %zu more line%s%s", more, more == 1 ? "" : "s", after_all ? "" : " like it");
     struct slip *slip = note(slips, line, line->start, 1, expected, "%s", found);
@@ -380,11 +529,16 @@ static int is_other_text(struct slips *slips, size_t start) {
     return 0;
 }
 
-/* Whether the text is in two bytes for each character: it opens with a mark that says so, or has a zero byte beside each of its first
- * two characters. */
-static int is_utf_16(const uint8_t *text, size_t length) {
-    if (length >= 2 && ((text[0] == 255 && text[1] == 254) || (text[0] == 254 && text[1] == 255))) return 1;
-    return length >= 4 && ((text[0] && !text[1] && text[2] && !text[3]) || (!text[0] && text[1] && !text[2] && text[3]));
+/* The encoding of a text that has two or four bytes for each character: it opens with a mark that says so, or has zero bytes beside its
+ * first character, and beside the second if these are two bytes each. NULL for any other text. */
+static const char *wide_encoding(const uint8_t *text, size_t length) {
+    if (length >= 4) {
+        int begins = text[0] && !text[1] && !text[2] && !text[3], ends = !text[0] && !text[1] && !text[2] && text[3];
+        if (begins || ends || memcmp(text, "\xff\xfe\0\0", 4) == 0 || memcmp(text, "\0\0\xfe\xff", 4) == 0)
+            return "UTF-32, four bytes";
+        if ((text[0] && !text[1] && text[2] && !text[3]) || (!text[0] && text[1] && !text[2] && text[3])) return "UTF-16, two bytes";
+    }
+    return length >= 2 && ((text[0] == 255 && text[1] == 254) || (text[0] == 254 && text[1] == 255)) ? "UTF-16, two bytes" : NULL;
 }
 
 static void find_slips(struct slips *slips) {
@@ -395,9 +549,10 @@ static void find_slips(struct slips *slips) {
         note(slips, &first, 0, 1, a_job, "an empty text");
         return;
     }
-    if (is_utf_16(slips->text, length)) {
+    const char *encoding = wide_encoding(slips->text, length);
+    if (encoding) {
         note(slips, &first, 0, 1, "one byte for each character: save the text as ASCII, or as UTF-8 without a byte order mark",
-             "a text in UTF-16, two bytes for each character, which is read no further");
+             "a text in %s for each character, which is read no further", encoding);
         return;
     }
     if (length >= 3 && memcmp(slips->text, "\xef\xbb\xbf", 3) == 0) {
@@ -412,8 +567,14 @@ static void find_slips(struct slips *slips) {
         note(slips, &first, start, 1, a_job, "%s, and none of the six lines further on", quoted);
         return;
     }
-    const struct line *mod = lines.of[MOD];
-    if (mod && (!read_number(slips->text, mod->contents, mod->end, &slips->m) || slips->m > ZAHUPNIK_GREATEST_MODULUS)) slips->m = 0;
+    const struct line *mod = lines.of[MOD], *op = lines.of[OP];
+    slips->operation = OPERATIONS;
+    if (op) {
+        size_t name = skip(slips, op->contents, op->end, is_blank);
+        slips->operation = operation_like(slips->text + name, skip_word(slips, name, op->end, is_blank) - name);
+    }
+    if (mod && (!read_number(slips->text, mod->contents, mod->end, &slips->m) || slips->m < 2 || slips->m > ZAHUPNIK_GREATEST_MODULUS))
+        slips->m = 0;
     note_endings(slips, &lines, CR_LF, "byte 13 before byte 10 (CR LF)");
     note_endings(slips, &lines, CR, "byte 13 (CR) in place of byte 10");
 
@@ -425,9 +586,13 @@ static void find_slips(struct slips *slips) {
         const struct line *line = &lines.line[i];
         if (i > last) {
             if (next < LINES) note_missing(slips, &lines, next, LINES, line, line->start);
-            note_extra(slips, &lines, i, lines.count, 1);
             next = LINES;
-            break;
+            size_t to = i + 1;
+            if (!continues_list(slips, line))
+                while (to < lines.count && !continues_list(slips, &lines.line[to])) to++;
+            note_extra(slips, &lines, i, to, 1);
+            i = to - 1;
+            continue;
         }
         if (line->role > REPLACED) {
             size_t to = i + 1;
@@ -448,13 +613,12 @@ static void find_slips(struct slips *slips) {
             else
                 check_numbers(slips, line);
         }
-        if (line->ending == JOINED)
-            note(slips, line, line->end, 1, "byte 10, the line end, before it", "the next key in the middle of the line");
+        if (line->ending == JOINED) note_joined(slips, line);
     }
     struct line end = lines.line[lines.count - 1];
-    if (end.ending == NOTHING)
+    if (end.ending == NOTHING && end.role <= REPLACED)
         note(slips, &end, length, 1, "byte 10, the line end, after the last line too", "the end of the text");
-    else {
+    else if (end.ending != NOTHING) {
         end.number++;
         end.line_start = length;
     }

@@ -148,6 +148,7 @@ static void damage(struct random *random, struct text *text) {
         "\r",   "\n",  "\n\n", "\r\n",  "0",      "00",     "7",    "1 2",    "A",        "x",            "#",
         "\"",   "a=",  "v=",  "op=",   "mod=",   "B =",    "C:",   "put=",   "refused=", "\nmod=7\n",    "norms",
         "\x80", "expand", "\xff", "\xc2\xa0", "\xd9\xa3", "9999999999", "4294967296", "\xef\xbb\xbf", "\xe2\x88\x92",
+        "\xe2\x80\x93", "> ", "1. ", "\n  ", "a2=", "v1=", "1,000", "1 000", "'000", "\x1a", "none", "m0d=", "c+=", "a=a=",
     };
     const char *word = ONE_OF(random, words);
     size_t at = below(random, text->length + 1), start, length, other, other_length;
