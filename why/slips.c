@@ -202,6 +202,19 @@ static size_t skip_groups(const struct slips *slips, size_t start, size_t end, i
     return is_one ? at : start;
 }
 
+/* The channel number that a line seems to say, or 0 if it says none. */
+static uint32_t read_modulus(const struct slips *slips, const struct line *line) {
+    uint8_t digits[WORDS];
+    uint32_t m = 0;
+    size_t length = 0, start = skip(slips, line->contents, line->end, is_separator), at = skip_groups(slips, start, line->end, 1);
+    if (at == start) at = skip_digits(slips, start, line->end);
+    size_t next = skip(slips, at, line->end, is_separator);
+    if (next < line->end && (next == at || is_digit(slips->text[next]))) return 0;
+    for (size_t i = start; i < at && length < sizeof digits; i++)
+        if (is_digit(slips->text[i])) digits[length++] = slips->text[i];
+    return read_number(digits, 0, length, &m) && m >= 2 && m <= ZAHUPNIK_GREATEST_MODULUS ? m : 0;
+}
+
 /* A number in groups of digits, and what it is without the marks. */
 static void note_grouped(struct slips *slips, const struct line *line, size_t start, size_t end) {
     char found[QUOTE_ROOM], expected[WORDS] = "\"";
@@ -466,7 +479,10 @@ static void note_endings(struct slips *slips, const struct lines *lines, enum en
 /* Whether a line that is too many goes on with a list of the line before: numbers without a key, or a key with the number of a row. */
 static int continues_list(const struct slips *slips, const struct line *line) {
     size_t at = line->key;
-    if (line->role == ODD) return at < line->end && begins_number(slips->text[at]);
+    if (line->role == ODD) {
+        while (at < line->end && memchr(" \t>|\"", slips->text[at], 5)) at++; /* signs of a mail or a table */
+        return at < line->end && begins_number(slips->text[at]);
+    }
     if (line->role != DOUBLE || line->exact || line->meant == MOD || line->meant == OP) return 0;
     while (at < line->key_end && !is_digit(slips->text[at])) at++;
     return at < line->key_end;
@@ -573,8 +589,7 @@ static void find_slips(struct slips *slips) {
         size_t name = skip(slips, op->contents, op->end, is_blank);
         slips->operation = operation_like(slips->text + name, skip_word(slips, name, op->end, is_blank) - name);
     }
-    if (mod && (!read_number(slips->text, mod->contents, mod->end, &slips->m) || slips->m < 2 || slips->m > ZAHUPNIK_GREATEST_MODULUS))
-        slips->m = 0;
+    slips->m = mod ? read_modulus(slips, mod) : 0;
     note_endings(slips, &lines, CR_LF, "byte 13 before byte 10 (CR LF)");
     note_endings(slips, &lines, CR, "byte 13 (CR) in place of byte 10");
 
