@@ -8,7 +8,6 @@
 #include "lines.h"
 
 static int is_letter(uint8_t byte) { return (byte >= 'a' && byte <= 'z') || (byte >= 'A' && byte <= 'Z'); }
-static int is_digit(uint8_t byte) { return byte >= '0' && byte <= '9'; }
 
 /* The line whose key, byte for byte, begins at this place, or LINES. */
 static int key_at(const uint8_t *text, size_t at, size_t end) {

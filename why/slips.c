@@ -122,7 +122,7 @@ static size_t skip_word(const struct slips *slips, size_t at, size_t end, int (*
 static int read_number(const uint8_t *text, size_t start, size_t end, uint32_t *number) {
     uint64_t value = 0;
     size_t at = start;
-    for (; at < end && text[at] >= '0' && text[at] <= '9' && value <= UINT32_MAX; at++) value = 10 * value + (text[at] - '0');
+    for (; at < end && is_digit(text[at]) && value <= UINT32_MAX; at++) value = 10 * value + (text[at] - '0');
     *number = (uint32_t)value;
     return start < end && at == end && value <= UINT32_MAX;
 }
@@ -133,7 +133,7 @@ static void check_number(struct slips *slips, const struct line *line, size_t st
     char word[QUOTE_ROOM], sign[NAME_ROOM], expected[WORDS];
     size_t other = start, digits = start;
     quote(text, start, end, word);
-    while (other < end && text[other] >= '0' && text[other] <= '9') other++;
+    while (other < end && is_digit(text[other])) other++;
     if (other < end) {
         uint32_t code = character_at(text, other, end).code;
         name_character(text, other, end, sign);
@@ -166,7 +166,6 @@ static void check_number(struct slips *slips, const struct line *line, size_t st
     }
 }
 
-static int is_digit(uint8_t byte) { return byte >= '0' && byte <= '9'; }
 static size_t skip_digits(const struct slips *slips, size_t at, size_t end) {
     while (at < end && is_digit(slips->text[at])) at++;
     return at;
