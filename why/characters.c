@@ -17,6 +17,8 @@ struct character character_at(const uint8_t *text, size_t at, size_t end) {
     return (struct character){code, bytes};
 }
 
+int is_digit(uint8_t byte) { return byte >= '0' && byte <= '9'; }
+
 int is_blank(struct character character) {
     uint32_t code = character.code;
     return code == 0 || (code >= 9 && code <= 13) || code == ' ' || code == 0x85 || code == 0xA0 || code == NO_CODE + 0xA0 ||

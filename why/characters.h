@@ -15,6 +15,8 @@ struct character {
 /* The character that begins at a place before the end. */
 struct character character_at(const uint8_t *text, size_t at, size_t end);
 
+int is_digit(uint8_t byte);
+
 /* Whether it is a space, or leaves a gap or nothing at all where it is shown: a tab, a no-break space, byte 13, a zero byte, ... */
 int is_blank(struct character character);
 

@@ -8,7 +8,6 @@
 #include "lines.h"
 
 static int is_letter(uint8_t byte) { return (byte >= 'a' && byte <= 'z') || (byte >= 'A' && byte <= 'Z'); }
-static int is_digit(uint8_t byte) { return byte >= '0' && byte <= '9'; }
 
 /* The line whose key, byte for byte, begins at this place, or LINES. */
 static int key_at(const uint8_t *text, size_t at, size_t end) {
@@ -49,28 +48,49 @@ static int key_like(const uint8_t *word, size_t length) {
     return LINES;
 }
 
-/* Where the key of a line begins, behind blanks and behind what mails, tables and numbered lists put before it: signs that are no letters
- * or digits, a number with a point or bracket after it, or the number of the line; or words without a digit before a key that is exactly
- * written. Behind the blanks only, if no key follows. */
+/* Reads a word with = behind it, or else with a colon, a comma or a semicolon, as a key. Returns the line of a job that it may be meant to
+ * open, or LINES; the key ends where it begins if there is none. */
+static int read_word(const uint8_t *text, size_t at, size_t end, size_t *key_end) {
+    size_t letters = at, word = at, colon = end;
+    int has_letter = 0;
+    while (letters < end && is_letter(text[letters])) letters++;
+    for (; word < end && text[word] != '=' && !is_separator(character_at(text, word, end)); word++) {
+        has_letter |= colon == end && (is_letter(text[word]) || text[word] >= 0x80);
+        if (text[word] == ':' && colon == end) colon = word;
+    }
+    size_t sign = skip_blanks(text, word, end);
+    int has_equals = sign < end && text[sign] == '=';
+    if (!has_equals && colon < end) sign = word = colon;
+    int meant = key_like(text + at, word - at);
+    if (meant == LINES) meant = key_like(text + at, letters - at);
+    int is_key = has_equals || (sign < end && text[sign] == ':') ||
+                 (sign < end && meant < LINES && (text[sign] == ',' || text[sign] == ';'));
+    *key_end = is_key && (has_letter || word == at) ? sign + 1 : at;
+    return *key_end > at ? meant : LINES;
+}
+
+/* Behind signs that are no letters or digits. */
+static size_t skip_signs(const uint8_t *text, size_t at, size_t end) {
+    while (at < end && !is_letter(text[at]) && !is_digit(text[at]) && text[at] != '=') at++;
+    return at;
+}
+
+/* Where the key of a line begins, behind blanks and behind what mails, tables and numbered lists put before it: signs, a number with a
+ * point or bracket after it, or the number of the line; or words without a digit before a key that is exactly written. Behind the blanks
+ * only, if no key follows. */
 static size_t skip_prefix(const uint8_t *text, const struct line *line) {
-    size_t end = line->end, first = skip_blanks(text, line->start, end), at = first, number = 0, key = first;
+    size_t end = line->end, first = skip_blanks(text, line->start, end), key = first, number = 0, key_end;
     while (key < end && is_letter(text[key])) key++;
     if (key_like(text + first, key - first) < LINES || operation_like(text + first, key - first) < OPERATIONS) return first;
     for (; key < end && !is_digit(text[key]) && text[key] != '='; key++)
         if (key > first && !is_letter(text[key - 1]) && key_at(text, key, end) < LINES) return key;
-    while (at < end && !is_letter(text[at]) && !is_digit(text[at]) && text[at] != '=') at++;
-    if (at < end && is_digit(text[at]) && (at == first || (text[at - 1] != '-' && text[at - 1] != '+'))) {
-        for (; at < end && is_digit(text[at]); at++) number = (10 * number + (size_t)(text[at] - '0')) % (10 * MOST_LINES);
-        if (at < end && memchr(".):]", text[at], 4))
-            at++;
-        else if (at < end && !is_letter(text[at]) && number != line->number)
-            return first;
-        at = skip_blanks(text, at, end);
-    }
-    key = at;
-    while (key < end && is_letter(text[key])) key++;
-    size_t sign = skip_blanks(text, key, end);
-    return sign < end && text[sign] == '=' && key_like(text + at, key - at) < LINES ? at : first;
+    size_t at = skip_signs(text, first, end);
+    if (read_word(text, at, end, &key_end) < LINES) return at;
+    if (at == end || !is_digit(text[at]) || (at > first && (text[at - 1] == '-' || text[at - 1] == '+'))) return first;
+    for (; at < end && is_digit(text[at]); at++) number = (10 * number + (size_t)(text[at] - '0')) % (10 * MOST_LINES);
+    if (at < end && !memchr(".):]", text[at], 4) && !is_letter(text[at]) && number != line->number) return first;
+    at = skip_signs(text, at, end);
+    return read_word(text, at, end, &key_end) < LINES ? at : first;
 }
 
 /* Finds what a line opens with. */
@@ -85,26 +105,12 @@ static void read_key(const uint8_t *text, struct line *line) {
         while (key_at(text, line->contents, end) == line->meant) line->contents += strlen(keys[line->meant]);
         return;
     }
-    size_t letters = at, word = at, sign;
-    int has_letter = 0;
+    line->meant = read_word(text, at, end, &line->key_end);
+    line->contents = line->key_end;
+    if (line->key_end > at) return;
+    size_t letters = at;
     while (letters < end && is_letter(text[letters])) letters++;
-    for (; word < end && text[word] != '=' && !is_separator(character_at(text, word, end)); word++)
-        has_letter |= is_letter(text[word]) || text[word] >= 0x80;
-    sign = skip_blanks(text, word, end);
-    if (sign < end && text[sign] == '=' && (has_letter || word == at)) {
-        line->meant = key_like(text + at, word - at);
-        if (line->meant == LINES) line->meant = key_like(text + at, letters - at);
-        line->contents = line->key_end = sign + 1;
-        return;
-    }
     line->meant = key_like(text + at, letters - at);
-    for (word = letters; word < end && (is_digit(text[word]) || text[word] == '_');) word++;
-    sign = skip_blanks(text, word, end);
-    if (sign < end && ((text[sign] == ':' && (letters > at || word == at)) ||
-                       (line->meant < LINES && (text[sign] == ',' || text[sign] == ';')))) {
-        line->contents = line->key_end = sign + 1;
-        return;
-    }
     line->key_end = line->meant < LINES ? letters : at;
     line->contents = skip_blanks(text, line->key_end, end);
     if (line->meant == LINES && letters - at >= 4 && operation_like(text + at, letters - at) < OPERATIONS) line->meant = OP;

@@ -122,7 +122,7 @@ static size_t skip_word(const struct slips *slips, size_t at, size_t end, int (*
 static int read_number(const uint8_t *text, size_t start, size_t end, uint32_t *number) {
     uint64_t value = 0;
     size_t at = start;
-    for (; at < end && text[at] >= '0' && text[at] <= '9' && value <= UINT32_MAX; at++) value = 10 * value + (text[at] - '0');
+    for (; at < end && is_digit(text[at]) && value <= UINT32_MAX; at++) value = 10 * value + (text[at] - '0');
     *number = (uint32_t)value;
     return start < end && at == end && value <= UINT32_MAX;
 }
@@ -133,7 +133,7 @@ static void check_number(struct slips *slips, const struct line *line, size_t st
     char word[QUOTE_ROOM], sign[NAME_ROOM], expected[WORDS];
     size_t other = start, digits = start;
     quote(text, start, end, word);
-    while (other < end && text[other] >= '0' && text[other] <= '9') other++;
+    while (other < end && is_digit(text[other])) other++;
     if (other < end) {
         uint32_t code = character_at(text, other, end).code;
         name_character(text, other, end, sign);
@@ -166,7 +166,6 @@ static void check_number(struct slips *slips, const struct line *line, size_t st
     }
 }
 
-static int is_digit(uint8_t byte) { return byte >= '0' && byte <= '9'; }
 static size_t skip_digits(const struct slips *slips, size_t at, size_t end) {
     while (at < end && is_digit(slips->text[at])) at++;
     return at;
@@ -200,6 +199,19 @@ static size_t skip_groups(const struct slips *slips, size_t start, size_t end, i
     else
         is_one = is_blank(mark) && (only ? groups > 1 || begins_with_zero : begins_with_zero && code != ' ');
     return is_one ? at : start;
+}
+
+/* The channel number that a line seems to say, or 0 if it says none. */
+static uint32_t read_modulus(const struct slips *slips, const struct line *line) {
+    uint8_t digits[WORDS];
+    uint32_t m = 0;
+    size_t length = 0, start = skip(slips, line->contents, line->end, is_separator), at = skip_groups(slips, start, line->end, 1);
+    if (at == start) at = skip_digits(slips, start, line->end);
+    size_t next = skip(slips, at, line->end, is_separator);
+    if (next < line->end && (next == at || is_digit(slips->text[next]))) return 0;
+    for (size_t i = start; i < at && length < sizeof digits; i++)
+        if (is_digit(slips->text[i])) digits[length++] = slips->text[i];
+    return read_number(digits, 0, length, &m) && m >= 2 && m <= ZAHUPNIK_GREATEST_MODULUS ? m : 0;
 }
 
 /* A number in groups of digits, and what it is without the marks. */
@@ -466,7 +478,10 @@ static void note_endings(struct slips *slips, const struct lines *lines, enum en
 /* Whether a line that is too many goes on with a list of the line before: numbers without a key, or a key with the number of a row. */
 static int continues_list(const struct slips *slips, const struct line *line) {
     size_t at = line->key;
-    if (line->role == ODD) return at < line->end && begins_number(slips->text[at]);
+    if (line->role == ODD) {
+        while (at < line->end && memchr(" \t>|\"", slips->text[at], 5)) at++; /* signs of a mail or a table */
+        return at < line->end && begins_number(slips->text[at]);
+    }
     if (line->role != DOUBLE || line->exact || line->meant == MOD || line->meant == OP) return 0;
     while (at < line->key_end && !is_digit(slips->text[at])) at++;
     return at < line->key_end;
@@ -573,8 +588,7 @@ static void find_slips(struct slips *slips) {
         size_t name = skip(slips, op->contents, op->end, is_blank);
         slips->operation = operation_like(slips->text + name, skip_word(slips, name, op->end, is_blank) - name);
     }
-    if (mod && (!read_number(slips->text, mod->contents, mod->end, &slips->m) || slips->m < 2 || slips->m > ZAHUPNIK_GREATEST_MODULUS))
-        slips->m = 0;
+    slips->m = mod ? read_modulus(slips, mod) : 0;
     note_endings(slips, &lines, CR_LF, "byte 13 before byte 10 (CR LF)");
     note_endings(slips, &lines, CR, "byte 13 (CR) in place of byte 10");
 
