@@ -6,7 +6,7 @@
 #
 # Folders, as packagers set them: PREFIX, BINDIR, LIBDIR, INCLUDEDIR, MANDIR, or the same in small letters; DESTDIR goes before each, and no
 # installed file names it. The first five are absolute, of letters, digits and the marks _ . / + , @ = ~ - alone, since pkg-config and CMake
-# read them; DESTDIR may have any mark. CC, CFLAGS, CPPFLAGS, LDFLAGS and INSTALL are as everywhere.
+# read them; DESTDIR may have any mark but the dollar sign, which make reads. CC, CFLAGS, CPPFLAGS, LDFLAGS and INSTALL are as everywhere.
 
 prefix ?= /usr/local
 PREFIX ?= $(prefix)
@@ -24,12 +24,13 @@ CFLAGS ?= -O2
 
 # The version is the header's, and the soname its first number.
 number = $(shell sed -n 's/^.define ZAHUPNIK_VERSION_$(1) *\([0-9][0-9]*\).*/\1/p' include/zahupnik.h)
-MAJOR := $(call number,MAJOR)
-VERSION := $(MAJOR).$(call number,MINOR).$(call number,PATCH)
+override MAJOR := $(call number,MAJOR)
+override VERSION := $(MAJOR).$(call number,MINOR).$(call number,PATCH)
 SONAME = libzahupnik.so.$(MAJOR)
 
 ARCHIVE = target/staticlib/libzahupnik.a
 SHARED = target/lib/libzahupnik.so.$(VERSION)
+LINKS = target/lib/$(SONAME) target/lib/libzahupnik.so
 PROGRAMS = target/bin/channel target/bin/store target/bin/why
 HEADERS = $(wildcard include/*.h)
 PAGES = $(wildcard man/*.1 man/*.3)
@@ -39,7 +40,7 @@ FUNCTIONS := $(shell sed -nE 's/^(uint32_t|struct zahupnik_change|static inline 
 # The tests that prove nothing anew, each tests/NAME/run.
 CHECKS = documents pictures header library texts store desk why man python rust scripts install
 
-all: $(ARCHIVE) $(SHARED) $(PROGRAMS)
+all: $(ARCHIVE) $(SHARED) $(LINKS) $(PROGRAMS)
 
 help:
 	@printf '%s\n' \
@@ -65,7 +66,11 @@ $(SHARED): $(ARCHIVE) packaging/zahupnik.map include/zahupnik.h Makefile
 	@mkdir -p $(@D)
 	$(CC) -shared $(LDFLAGS) -Wl,-soname,$(SONAME) -Wl,--version-script=packaging/zahupnik.map -Wl,-z,text -Wl,-z,defs -Wl,-z,relro \
 	    -Wl,-z,now -Wl,--whole-archive $(ARCHIVE) -Wl,--no-whole-archive -o $@
-	@ln -sf $(@F) $(@D)/$(SONAME) && ln -sf $(SONAME) $(@D)/libzahupnik.so
+
+target/lib/$(SONAME): $(SHARED) FORCE
+	@[ "$$(readlink $@)" = $(notdir $(SHARED)) ] || ln -sfn $(notdir $(SHARED)) $@
+target/lib/libzahupnik.so: target/lib/$(SONAME) FORCE
+	@[ "$$(readlink $@)" = $(SONAME) ] || ln -sfn $(SONAME) $@
 
 # All of them run, whatever one of them says, and those that failed are named last.
 check: all

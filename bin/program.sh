@@ -1,17 +1,18 @@
 # Runs a program of this repository, and proves and builds it first where it has to: what bin/channel, bin/store and bin/why do alike. Sourced
 # by them, with `top` set to the repository's root, `name` to the program's name and `waits_for` to what a user at a terminal has to type.
-# A program that rt does not link by itself has `sources`, `tools` and make_program of its own.
+# A program that rt does not link by itself has `sources`, `tools`, `made_with` and make_program of its own.
 set -euo pipefail
 . "$top/bin/script.sh"
 
 sources=(crates crates.txt)
 tools=(rt)
+made_with='' # words that go into what is built
 make_program() { # in the repository's root
     rt check "$name"
 }
 
 program=$top/target/bin/$name
-built=$top/target/$name.built # two checksums: of the sources when the last build that succeeded began, and of the program
+built=$top/target/$name.built # two checksums, of the sources when the last build that succeeded began and of the program, and `made_with`
 log=$top/target/$name.log
 
 # What may take long runs in the background and is waited for: bash acts on a signal only when the foreground is done, and on INT not
@@ -29,7 +30,7 @@ is_built() { # whether the program is the one that was built last, from sources 
     [ -x "$program" ] && [ -f "$built" ] || return
     mapfile -t kept <"$built"
     mapfile -t found < <(contents_of "${sources[@]}" && contents_of "target/bin/$name")
-    [ "${kept[*]}" = "${found[*]}" ]
+    [ "${kept[*]}" = "${found[*]} $made_with" ]
 }
 is_as_rt_left_it() { # as far as is known
     local kept=()
@@ -48,7 +49,7 @@ build() {
         (cd "$top" && make_program 2>&1 | tee "target/$name.log" | sed -un '/^rt: /p') </dev/null >&2 &
         wait "$!" || fail "the program is not proved and built, so there is none to run: see $log"
         [ -x "$program" ] || fail "$program was not built: see $log"
-        printf '%s\n' "$began" "$(contents_of "target/bin/$name")" >"$built.begun"
+        printf '%s\n' "$began" "$(contents_of "target/bin/$name")" "$made_with" >"$built.begun"
         mv "$built.begun" "$built"
     fi
     has_built

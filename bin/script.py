@@ -77,7 +77,7 @@ def shown(path):
 def text_of(path):
     """The text of a file."""
     try:
-        return pathlib.Path(path).read_text(encoding="utf-8")
+        return pathlib.Path(path).read_bytes().decode("utf-8")
     except OSError as problem:
         raise Failure(f"{shown(path)}: {problem.strerror}") from problem
     except UnicodeDecodeError as problem:

@@ -17,6 +17,7 @@ declare -A comes_from=(
     [nm]="of Debian's binutils"
     [objcopy]="of Debian's binutils"
     [objdump]="of Debian's binutils"
+    [readelf]="of Debian's binutils"
     [python3]="of Debian's python3"
     [awk]="of Debian's mawk"
     [git]="of Debian's git"
