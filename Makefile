@@ -2,7 +2,7 @@
 #
 # Needs GNU make, bash, a C compiler and rt, the command of the Rattle kit, which proves the library and the programs channel and store and
 # builds them. The shared library is linked from the proved archive, and the program why is compiled, by the C compiler. Only what has
-# changed is built, and all of it stands in target/.
+# changed is built, and all of it stands in target/. What rt keeps of its proofs stands in crates/NAME/out/.
 #
 # Folders, as packagers set them: PREFIX, BINDIR, LIBDIR, INCLUDEDIR, MANDIR, or the same in small letters; DESTDIR goes before each, and no
 # installed file names it. The first five are absolute, of letters, digits and the marks _ . / + , @ = ~ - alone, since pkg-config and CMake
@@ -51,7 +51,7 @@ help:
 	    '                BINDIR, LIBDIR, INCLUDEDIR, MANDIR, each after DESTDIR' \
 	    'make uninstall  takes away what make install put there, if told the same folders' \
 	    'make dist       target/dist/zahupnik-VERSION-x86_64-linux.tar.gz, an archive for machines without the kit' \
-	    'make clean      takes away the shared library, why and the archives; what is proved stays (rm -r target takes that too)'
+	    'make clean      takes away the shared library, why and the archives; what is proved stays (rm -r crates/*/out target takes that too)'
 
 # Each decides by itself, by the contents of its sources, whether something is to be proved and built anew. A recipe that leaves its file alone
 # causes no more work.
@@ -160,5 +160,5 @@ clean:
 
 FORCE:
 .PHONY: all help check folders built install uninstall dist clean FORCE
-# rt proves and builds one thing at a time in a target folder.
+# One thing at a time is built and put into target/.
 .NOTPARALLEL:

@@ -7,8 +7,9 @@ set -euo pipefail
 sources=(crates crates.txt)
 tools=(rt)
 made_with='' # words that go into what is built
-make_program() { # in the repository's root
-    rt check "$name"
+make_program() { # in the repository's root. rt proves, builds and runs it, on nothing; its stamp says to rt that it is as it was left
+    rm -f "crates/$name/out/$name.stamp"
+    (cd "crates/$name" && rt run "--cpu=$processor" </dev/null >/dev/null) && put_into_target "crates/$name/out/$name" bin
 }
 
 program=$top/target/bin/$name
@@ -32,11 +33,6 @@ is_built() { # whether the program is the one that was built last, from sources 
     mapfile -t found < <(contents_of "${sources[@]}" && contents_of "target/bin/$name")
     [ "${kept[*]}" = "${found[*]} $made_with" ]
 }
-is_as_rt_left_it() { # as far as is known
-    local kept=()
-    [ ! -f "$built" ] || mapfile -t kept <"$built"
-    [ -x "$program" ] && { [ "${#kept[@]}" -eq 0 ] || [ "${kept[1]-}" = "$(contents_of "target/bin/$name")" ]; }
-}
 build() {
     local began
     need "${tools[@]}"
@@ -45,8 +41,7 @@ build() {
     if ! is_built; then
         say "proving and building the program, which takes minutes the first time ($log has all of it)"
         began=$(contents_of "${sources[@]}") || fail "not all sources can be read: ${sources[*]/#/$top/}"
-        is_as_rt_left_it || rm -f "$top/target/stamp/$name" # or rt would say of a lost program that nothing has changed
-        (cd "$top" && make_program 2>&1 | tee "target/$name.log" | sed -un '/^rt: /p') </dev/null >&2 &
+        (cd "$top" && make_program 2>&1 | tee "target/$name.log" | sed -un '/^rt: running /d; /^rt: /p') </dev/null >&2 &
         wait "$!" || fail "the program is not proved and built, so there is none to run: see $log"
         [ -x "$program" ] || fail "$program was not built: see $log"
         printf '%s\n' "$began" "$(contents_of "target/bin/$name")" "$made_with" >"$built.begun"
@@ -86,8 +81,8 @@ main() {
     is_built || build
     [ ! -t 0 ] || say "waiting for $waits_for"
 
-    # A program of rt has no exit status of its own, but each writes to standard error only if it failed. Behind that and a zero byte comes
-    # the status: bash does not always know that of a process that it reads from.
+    # Each program writes to standard error only if it failed, and then ends with 1. Behind what it says and a zero byte comes the status: bash
+    # does not always know that of a process that it reads from.
     exec 3<&0 4>&1
     exec 5< <({
         "$program" <&3 2>&1 >&4 3<&- 4>&- || status=$?

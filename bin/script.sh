@@ -81,11 +81,19 @@ take_arguments() { # MOST OPTIONS WORDS..: of the words of a command line the op
     done
 }
 
-contents() { # FILES AND FOLDERS..: a checksum over the names and the contents of all files there. No must-fail edit goes into what is built
-    find -L "$@" -name must-fail -prune -o -type f -print0 | LC_ALL=C sort -z | xargs -0 -r b2sum -l 256 | b2sum -l 256
+contents() { # FILES AND FOLDERS..: a checksum over the names and the contents of all files there. No must-fail edit goes into what is built, and
+    # what rt makes in a crate's out/ is no source
+    find -L "$@" \( -name must-fail -o -name out \) -prune -o -type f -print0 | LC_ALL=C sort -z | xargs -0 -r b2sum -l 256 | b2sum -l 256
 }
 
-one_builds() { # waits until no other script builds, and holds the others off until has_built: rt builds one thing at a time in a target/
+# The processor that all that is built is for: any of x86-64. Left to itself rt builds for x86-64-v2.
+processor=x86-64
+
+put_into_target() { # FILE FOLDER of target/, in the repository's root: in one step, so that nobody meets a part of it
+    mkdir -p "target/$2" && cp -p "$1" "target/$2/.new" && mv -f "target/$2/.new" "target/$2/${1##*/}"
+}
+
+one_builds() { # waits until no other script builds, and holds the others off until has_built: what is built is put into target/ when it is whole
     { mkdir -p "$top/target" && : >>"$top/target/program.lock"; } || fail "cannot write to $top/target"
     exec 9>>"$top/target/program.lock"
     if ! command -v flock >/dev/null; then

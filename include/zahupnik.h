@@ -66,8 +66,8 @@
  *     zahupnik_even_first                   64
  *     zahupnik_even_back                    64
  *
- * Where it is installed, `cc program.c $(pkg-config --cflags --libs zahupnik)` compiles and links; in the repository `rt staticlib
- * zahupnik` builds target/staticlib/libzahupnik.a. It is for x86-64 Linux. The functions are proved to do this on every input
+ * Where it is installed, `cc program.c $(pkg-config --cflags --libs zahupnik)` compiles and links; in the repository `make
+ * target/staticlib/libzahupnik.a` builds it. It is for x86-64 Linux. The functions are proved to do this on every input
  * (crates/zahupnik; that a job that is written is carried out, crates/text_laws; that a record comes back when a row is put back, and that
  * a record answers as the lists do, crates/prepared_laws; that a joined value is the only one with its remainders in the range, and that
  * Expand and join is exact in it, crates/join_laws; that either order comes back by the other, and where the zeros of an expanded curve

@@ -4,7 +4,7 @@
 //!
 //! 1. ZAHUPNIK_LIB_DIR, a folder; where it is set, nowhere else;
 //! 2. ../../../lib, where the crate stands in an archive or an installation as share/zahupnik/rust;
-//! 3. ../target/staticlib, where it stands in the repository and `rt staticlib zahupnik` has built;
+//! 3. ../target/staticlib, where it stands in the repository and `make` has built;
 //! 4. the libdir that pkg-config, or the command that PKG_CONFIG names, has for zahupnik of the crate's major version.
 //!
 //! What came with the crate goes before what is installed, so that a crate is not run on the library of another version.
@@ -92,7 +92,7 @@ fn not_found(beside: &[PathBuf], asked: Result<PathBuf, String>) -> String {
         Ok(folder) => format!("    {} (by pkg-config)\n", folder.display()),
         Err(reason) => format!("    and asked pkg-config ({reason})\n"),
     };
-    why + "Install the library, or build it in the repository by `rt staticlib zahupnik`, \
+    why + "Install the library, or build it in the repository by `make`, \
            or set ZAHUPNIK_LIB_DIR to the folder that has it."
 }
 

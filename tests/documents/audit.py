@@ -17,7 +17,7 @@ NOTATION = "\n## Notation\n"
 # The words of the two languages that are no names.
 WORDS = set(
     "data record deriving module where use mod pub package using open as unfoldable abbrev axiom unfold unfolding ruleset mutual infix infixl infixr"
-    " elim let in do Type ghost fn extern struct enum const self mut requires ensures now entry exit u8 u16 u32 u64 usize i8 i16 i32 i64 isize bool".split()
+    " elim let in do Type ghost fn extern struct enum const self mut requires ensures now old new result u8 u16 u32 u64 usize i8 i16 i32 i64 isize bool".split()
 )
 
 
@@ -31,15 +31,15 @@ def statements(trust):
         yield re.sub(r'"[^"\n]*"', "", text)
     for crate in (*DEFINITIONS, *counted):
         text = re.sub(r"//[^\n]*", "", (ROOT / "crates" / crate / "src" / "lib.rt").read_text(encoding="utf-8"))
-        yield from re.findall(r"^ghost use [^\n]*$", text, flags=re.M)
-        yield from re.findall(r'^ *(?:#\[no_mangle\]\n *)?(?:pub )?(?:extern "C" )?(?:fn|struct|enum) .*?^ *\{$', text, flags=re.M | re.S)
+        yield from re.findall(r"^ghost use [^;]*;", text, flags=re.M)
+        yield from re.findall(r'^ *(?:#\[unsafe\(no_mangle\)\]\n *)?(?:pub )?(?:extern "C" )?(?:fn|struct|enum) .*?^ *\{$', text, flags=re.M | re.S)
 
 
 def notation(text):
     """The words, the names of the kit and the signs outside ASCII that a statement has."""
     found = WORDS & set(re.findall(r"\w+", text)) | {sign for sign in text if ord(sign) > 127}
-    for names in re.findall(r"^(?:ghost )?use (?:mathlib|Prim|lib)\.[\w.]+\.\{([^}]*)\}", text, flags=re.M):
-        found |= {name.split(" as ")[-1].strip("_") for name in names.split(", ")}
+    for names in re.findall(r"^(?:ghost )?use (?:Rattle\.std|Rattle\.core|mathlib|Prim|native|lib)\.[\w.]+\.\{([^}]*)\}", text, flags=re.M):
+        found |= {name.split(" as ")[-1].strip("◌ \n") for name in names.split(",")} - {""}
     return found
 
 
@@ -64,7 +64,7 @@ def faults(audit, trust):
     for example in column(audit, 3):
         if example not in source:
             yield f"no statement has `{example}`, an example of the notation"
-    figures = [re.search(pattern, trust) for pattern in (r"crates proved from nothing: (\d+)", r"must-fail edits: (\d+)")]
+    figures = [re.search(pattern, trust) for pattern in (r"crates proved: (\d+)", r"must-fail edits: (\d+)")]
     if not all(figures):
         yield "docs/TRUST.md does not have the figures of the crates and of the edits"
         return

@@ -37,15 +37,18 @@ seal() { # COMMAND..: makes the library, and is followed by the seal if it ends 
     seal_of "$began" >"$seal.begun"
     mv "$seal.begun" "$seal"
 }
+make_library() { # in the repository's root
+    (cd crates/zahupnik && rt lib "--cpu=$processor") && put_into_target crates/zahupnik/out/libzahupnik.a staticlib
+}
 build_library() {
     need rt cc nm
     [ "$(uname -m)" = x86_64 ] || fail "the static library is for x86-64, and this machine is $(uname -m)"
     mkdir -p "$built"
     is_sealed || {
         one_builds
-        is_sealed || seal rt staticlib zahupnik >"$built/staticlib.log" 2>&1 || {
+        is_sealed || seal make_library >"$built/staticlib.log" 2>&1 || {
             cat "$built/staticlib.log" >&2
-            fail "rt staticlib zahupnik failed"
+            fail "rt lib failed in crates/zahupnik"
         }
         has_built
     }

@@ -1,1 +1,3 @@
+#![tactic(auto)]
+
 // The tests of the calls as plain facts: no code, only the laws of specs/.

@@ -1,7 +1,7 @@
 -- 9 of the rows of a lent family, by passes over its lists and a look at the closing row.
 --   Entered   what 9 asks for: the entries of the three lists and those of the closing row are below m
 -- Proved: 9 passes if and only if the rows are so (entered-passes); what a pass over a list found. Assumes nothing.
-use Rattle.std.specs.Prelude.{◌≡◌, Bool, true, false, List, ◌↔◌, ℕ, suc, ◌<◌, ◌≤◌, length, get_or, take}
+use Rattle.std.specs.Prelude.{◌≡◌, Bool, false, List, ◌↔◌, ℕ, suc, ◌<◌, ◌≤◌, length, get_or, take}
 use Rattle.std.proofs.Common.{sym, ◌∙◌, subst, true≢false, arith, length-take-le}
 use Rattle.std.proofs.Math.Logic.Iff
 use Rattle.std.proofs.Math.Logic.{by_cases}

@@ -1,5 +1,7 @@
 // The tests that the calls make before they convert. Each check answers an enum, which its caller takes apart by 'let .. else'
 // before the next check. A pass over a list answers with the first bad entry and the reason.
+#![tactic(auto)]
+
 ghost use Rattle.std.specs.Prelude.{◌≡◌, true, false, List, [], ◌∷◌, ℕ, ◌≤◌, ◌<◌, length};
 ghost use Rattle.definitions.specs.Answers.{answered};
 ghost use Rattle.definitions.specs.Family.{row_of};

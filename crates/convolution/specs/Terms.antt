@@ -17,7 +17,7 @@ use Rattle.reduction.specs.Reciprocal.{word}
 use Rattle.reduction.specs.Wrapping.{Reducible}
 use Rattle.convolution.specs.Coefficients.{past_first, past-second}
 use Rattle.convolution.specs.Totals.{Lesser, Added, amount, amount-number}
-use Rattle.convolution.specs.Steps.{transposed_term, pair_term, Small, SinglesInput, PairsInput}
+use Rattle.convolution.specs.Steps.{transposed_term, Small, SinglesInput, PairsInput}
 
 pub record SumInput (m reciprocal : ℕ) (p v : List ℕ) (i : ℕ) : Type 0 where
   pub reducible : Reducible m reciprocal

@@ -1,5 +1,7 @@
 // One coefficient of a sum of two products of polynomials, or one term of a sum of two transposed products, on input that is already
 // checked. A sum is kept as its low 64 bits and a count of its wraps: nothing is taken off in the loop, and one remainder ends it.
+#![tactic(auto)]
+
 ghost use Rattle.std.specs.Prelude.{◌≡◌, ◌+◌, ◌-◌, ◌*◌, ◌%◌, ◌≤◌};
 ghost use Rattle.definitions.specs.Number.{sum};
 ghost use Rattle.numbers.specs.Products.{product_at, transposed_at};

@@ -1,5 +1,5 @@
 -- The figures to check by, P1 to P12 of the scope paper, and worked examples of our own.
---   Call      a call with its input, its output as long as it must be; Totals stands for the two sides of the product law
+--   Call      a call with its input, its output as long as it must be; call_totals stands for the two sides of the product law
 --   handed    what the call hands out: its verdict, with the definition's list or number as the values
 --   figures   each call beside what it must hand out
 --   examples  the same of our own, for what the paper's figures leave untouched

@@ -1,62 +1,65 @@
 // The scope paper's figures through the public calls, one line each: the figure, the answer, and what the output then holds. Each
 // output is lent full of fours, so that a refusal is seen to leave it. A figure is a function of its own: the more lists a function makes, the longer its
 // proof is sought.
+#![tactic(auto)]
+
 use definitions::{Answer, InverseAnswer};
+use std::io;
 
-fn text(bytes: &[u8]) {
-    io::write_all(libc::STDOUT_FILENO, bytes);
+fn text(rt: &impl Print, bytes: &[u8]) -> io::Result<()> {
+    rt.write_all(bytes)
 }
 
-fn number(x: u32) {
-    text(b" ");
-    io::print_decimal(libc::STDOUT_FILENO, x as u64);
+fn number(rt: &impl Print, x: u32) -> io::Result<()> {
+    text(rt, b" ")?;
+    rt.print(x)
 }
 
-fn list(xs: &[u32]) {
-    let mut i: usize = 0;
-    while i < xs.len() {
-        number(xs[i]);
-        i += 1;
+fn list(rt: &impl Print, xs: &[u32]) -> io::Result<()> {
+    for x in xs {
+        number(rt, *x)?;
     }
+    Ok(())
 }
 
-fn show(label: &[u8], answer: Answer, output: &[u32]) {
-    text(label);
+fn show(rt: &impl Print, label: &[u8], answer: Answer, output: &[u32]) -> io::Result<()> {
+    text(rt, label)?;
     match answer {
-        Answer::Finished => text(b" finished:"),
+        Answer::Finished => text(rt, b" finished:")?,
         Answer::Refused(k) => {
-            text(b" refused");
-            number(k);
-            text(b":");
+            text(rt, b" refused")?;
+            number(rt, k)?;
+            text(rt, b":")?;
         }
     }
-    list(output);
-    text(b"\n");
+    list(rt, output)?;
+    text(rt, b"\n")
 }
 
-fn show_inverse(label: &[u8], answer: InverseAnswer) {
-    text(label);
+fn show_inverse(rt: &impl Print, label: &[u8], answer: InverseAnswer) -> io::Result<()> {
+    text(rt, label)?;
     match answer {
         InverseAnswer::Found(y, g) => {
-            text(b" value:");
-            number(y);
-            text(b", factor");
-            number(g);
+            text(rt, b" value:")?;
+            number(rt, y)?;
+            text(rt, b", factor")?;
+            number(rt, g)?;
         }
         InverseAnswer::NoInverse(g) => {
-            text(b" refused 13, factor");
-            number(g);
+            text(rt, b" refused 13, factor")?;
+            number(rt, g)?;
         }
         InverseAnswer::Refused(k) => {
-            text(b" refused");
-            number(k);
+            text(rt, b" refused")?;
+            number(rt, k)?;
         }
     }
-    text(b"\n");
+    text(rt, b"\n")
 }
 
 // The calls, each shown with what its output then holds.
 fn expand(
+    rt: &impl Print,
     label: &[u8],
     m: u32,
     a: &[u32],
@@ -64,12 +67,13 @@ fn expand(
     c: &[u32],
     curve: &[u32],
     output: &mut [u32],
-) {
+) -> io::Result<()> {
     let answer = plain_calls::plain_expand(m, a, b, c, curve, output);
-    show(label, answer, output);
+    show(rt, label, answer, output)
 }
 
 fn adjoint(
+    rt: &impl Print,
     label: &[u8],
     m: u32,
     a: &[u32],
@@ -77,12 +81,13 @@ fn adjoint(
     c: &[u32],
     curve: &[u32],
     output: &mut [u32],
-) {
+) -> io::Result<()> {
     let answer = plain_calls::plain_adjoint(m, a, b, c, curve, output);
-    show(label, answer, output);
+    show(rt, label, answer, output)
 }
 
 fn decompose(
+    rt: &impl Print,
     label: &[u8],
     m: u32,
     a: &[u32],
@@ -90,55 +95,91 @@ fn decompose(
     c: &[u32],
     coefficients: &[u32],
     output: &mut [u32],
-) {
+) -> io::Result<()> {
     let answer = plain_calls::plain_decompose(m, a, b, c, coefficients, output);
-    show(label, answer, output);
+    show(rt, label, answer, output)
 }
 
-fn norms(label: &[u8], m: u32, a: &[u32], b: &[u32], c: &[u32], output: &mut [u32]) {
+fn norms(
+    rt: &impl Print,
+    label: &[u8],
+    m: u32,
+    a: &[u32],
+    b: &[u32],
+    c: &[u32],
+    output: &mut [u32],
+) -> io::Result<()> {
     let answer = plain_calls::norms(m, a, b, c, output);
-    show(label, answer, output);
+    show(rt, label, answer, output)
 }
 
 // R: m = 7, a = 1 2, b = 0 3, c = 1 5.
-fn p1() {
-    expand(b"P1", 7, &[1, 2], &[0, 3], &[1, 5], &[3, 0, 1], &mut [4; 3]);
+fn p1(rt: &impl Print) -> io::Result<()> {
+    expand(
+        rt,
+        b"P1",
+        7,
+        &[1, 2],
+        &[0, 3],
+        &[1, 5],
+        &[3, 0, 1],
+        &mut [4; 3],
+    )
 }
 
-fn p2() {
-    adjoint(b"P2", 7, &[1, 2], &[0, 3], &[1, 5], &[1, 3, 2], &mut [4; 3]);
+fn p2(rt: &impl Print) -> io::Result<()> {
+    adjoint(
+        rt,
+        b"P2",
+        7,
+        &[1, 2],
+        &[0, 3],
+        &[1, 5],
+        &[1, 3, 2],
+        &mut [4; 3],
+    )
 }
 
-fn p3() {
-    decompose(b"P3", 7, &[1, 2], &[0, 3], &[1, 5], &[1, 3, 2], &mut [4; 3]);
+fn p3(rt: &impl Print) -> io::Result<()> {
+    decompose(
+        rt,
+        b"P3",
+        7,
+        &[1, 2],
+        &[0, 3],
+        &[1, 5],
+        &[1, 3, 2],
+        &mut [4; 3],
+    )
 }
 
-fn p5() {
-    norms(b"P5", 7, &[1, 2], &[0, 3], &[1, 5], &mut [4; 3]);
+fn p5(rt: &impl Print) -> io::Result<()> {
+    norms(rt, b"P5", 7, &[1, 2], &[0, 3], &[1, 5], &mut [4; 3])
 }
 
-fn on_r() {
-    p1();
-    p2();
-    p3();
-    p5();
+fn on_r(rt: &impl Print) -> io::Result<()> {
+    p1(rt)?;
+    p2(rt)?;
+    p3(rt)?;
+    p5(rt)
 }
 
 // Families of one row or none.
-fn p6() {
-    expand(b"P6", 2, &[], &[], &[], &[1], &mut [4; 1]);
+fn p6(rt: &impl Print) -> io::Result<()> {
+    expand(rt, b"P6", 2, &[], &[], &[], &[1], &mut [4; 1])
 }
 
-fn p7() {
-    expand(b"P7", 2, &[1], &[1], &[1], &[1, 1], &mut [4; 2]);
+fn p7(rt: &impl Print) -> io::Result<()> {
+    expand(rt, b"P7", 2, &[1], &[1], &[1], &[1, 1], &mut [4; 2])
 }
 
-fn p10() {
-    expand(b"P10", 15, &[3], &[0], &[5], &[1, 1], &mut [4; 2]);
+fn p10(rt: &impl Print) -> io::Result<()> {
+    expand(rt, b"P10", 15, &[3], &[0], &[5], &[1, 1], &mut [4; 2])
 }
 
-fn p10_zero() {
+fn p10_zero(rt: &impl Print) -> io::Result<()> {
     expand(
+        rt,
         b"P10 with a = 0",
         15,
         &[0],
@@ -146,40 +187,41 @@ fn p10_zero() {
         &[5],
         &[1, 1],
         &mut [4; 2],
-    );
+    )
 }
 
-fn p11() {
-    norms(b"P11", 7, &[], &[], &[], &mut [4; 1]);
+fn p11(rt: &impl Print) -> io::Result<()> {
+    norms(rt, b"P11", 7, &[], &[], &[], &mut [4; 1])
 }
 
-fn p12() {
-    norms(b"P12", 15, &[2], &[1], &[4], &mut [4; 2]);
+fn p12(rt: &impl Print) -> io::Result<()> {
+    norms(rt, b"P12", 15, &[2], &[1], &[4], &mut [4; 2])
 }
 
-fn on_small_families() {
-    p6();
-    p7();
-    p10();
-    p10_zero();
-    p11();
-    p12();
+fn on_small_families(rt: &impl Print) -> io::Result<()> {
+    p6(rt)?;
+    p7(rt)?;
+    p10(rt)?;
+    p10_zero(rt)?;
+    p11(rt)?;
+    p12(rt)
 }
 
-fn on_inverses() {
-    show_inverse(b"P8", plain_calls::invert(15, 4));
-    show_inverse(b"P9", plain_calls::invert(15, 6));
-    show_inverse(b"0, m = 15", plain_calls::invert(15, 0));
-    show_inverse(b"15, m = 15", plain_calls::invert(15, 15));
+fn on_inverses(rt: &impl Print) -> io::Result<()> {
+    show_inverse(rt, b"P8", plain_calls::invert(15, 4))?;
+    show_inverse(rt, b"P9", plain_calls::invert(15, 6))?;
+    show_inverse(rt, b"0, m = 15", plain_calls::invert(15, 0))?;
+    show_inverse(rt, b"15, m = 15", plain_calls::invert(15, 15))
 }
 
 // The limits of the modulus, of the number of rows and of an entry.
-fn modulus_1() {
-    expand(b"m = 1", 1, &[], &[], &[], &[0], &mut [4; 1]);
+fn modulus_1(rt: &impl Print) -> io::Result<()> {
+    expand(rt, b"m = 1", 1, &[], &[], &[], &[0], &mut [4; 1])
 }
 
-fn modulus_2147483647() {
+fn modulus_2147483647(rt: &impl Print) -> io::Result<()> {
     expand(
+        rt,
         b"m = 2147483647",
         2147483647,
         &[],
@@ -187,11 +229,12 @@ fn modulus_2147483647() {
         &[],
         &[2147483646],
         &mut [4; 1],
-    );
+    )
 }
 
-fn modulus_2147483648() {
+fn modulus_2147483648(rt: &impl Print) -> io::Result<()> {
     expand(
+        rt,
         b"m = 2147483648",
         2147483648,
         &[],
@@ -199,23 +242,23 @@ fn modulus_2147483648() {
         &[],
         &[0],
         &mut [4; 1],
-    );
+    )
 }
 
-fn entry_6() {
-    decompose(b"entry 6, m = 7", 7, &[], &[], &[], &[6], &mut [4; 1]);
+fn entry_6(rt: &impl Print) -> io::Result<()> {
+    decompose(rt, b"entry 6, m = 7", 7, &[], &[], &[], &[6], &mut [4; 1])
 }
 
-fn entry_7() {
-    decompose(b"entry 7, m = 7", 7, &[], &[], &[], &[7], &mut [4; 1]);
+fn entry_7(rt: &impl Print) -> io::Result<()> {
+    decompose(rt, b"entry 7, m = 7", 7, &[], &[], &[], &[7], &mut [4; 1])
 }
 
-fn on_limits() {
-    modulus_1();
-    modulus_2147483647();
-    modulus_2147483648();
-    entry_6();
-    entry_7();
+fn on_limits(rt: &impl Print) -> io::Result<()> {
+    modulus_1(rt)?;
+    modulus_2147483647(rt)?;
+    modulus_2147483648(rt)?;
+    entry_6(rt)?;
+    entry_7(rt)
 }
 
 fn most_rows() -> [u32; 127] {
@@ -230,20 +273,21 @@ fn fours() -> [u32; 128] {
     [4; 128]
 }
 
-fn on_most_rows() {
+fn on_most_rows(rt: &impl Print) -> io::Result<()> {
     let rows = most_rows();
     let mut output = fours();
-    norms(b"127 rows", 7, &rows, &rows, &rows, &mut output);
+    norms(rt, b"127 rows", 7, &rows, &rows, &rows, &mut output)
 }
 
-fn on_too_many_rows() {
+fn on_too_many_rows(rt: &impl Print) -> io::Result<()> {
     let rows = too_many_rows();
-    norms(b"128 rows", 7, &rows, &rows, &rows, &mut [4; 3]);
+    norms(rt, b"128 rows", 7, &rows, &rows, &rows, &mut [4; 3])
 }
 
 // The row factor of last autumn: zero, m itself, or one that shares a factor with m, in a and in c.
-fn a_0_2() {
+fn a_0_2(rt: &impl Print) -> io::Result<()> {
     decompose(
+        rt,
         b"a = 0 2",
         15,
         &[0, 2],
@@ -251,11 +295,12 @@ fn a_0_2() {
         &[1, 4],
         &[1, 2, 3],
         &mut [4; 3],
-    );
+    )
 }
 
-fn a_1_6() {
+fn a_1_6(rt: &impl Print) -> io::Result<()> {
     decompose(
+        rt,
         b"a = 1 6",
         15,
         &[1, 6],
@@ -263,11 +308,12 @@ fn a_1_6() {
         &[1, 4],
         &[1, 2, 3],
         &mut [4; 3],
-    );
+    )
 }
 
-fn a_6_0() {
+fn a_6_0(rt: &impl Print) -> io::Result<()> {
     decompose(
+        rt,
         b"a = 6 0",
         15,
         &[6, 0],
@@ -275,11 +321,12 @@ fn a_6_0() {
         &[1, 4],
         &[1, 2, 3],
         &mut [4; 3],
-    );
+    )
 }
 
-fn a_1_15() {
+fn a_1_15(rt: &impl Print) -> io::Result<()> {
     decompose(
+        rt,
         b"a = 1 15",
         15,
         &[1, 15],
@@ -287,11 +334,12 @@ fn a_1_15() {
         &[1, 4],
         &[1, 2, 3],
         &mut [4; 3],
-    );
+    )
 }
 
-fn c_0_4() {
+fn c_0_4(rt: &impl Print) -> io::Result<()> {
     decompose(
+        rt,
         b"c = 0 4",
         15,
         &[1, 2],
@@ -299,11 +347,12 @@ fn c_0_4() {
         &[0, 4],
         &[1, 2, 3],
         &mut [4; 3],
-    );
+    )
 }
 
-fn c_1_10() {
+fn c_1_10(rt: &impl Print) -> io::Result<()> {
     decompose(
+        rt,
         b"c = 1 10",
         15,
         &[1, 2],
@@ -311,11 +360,12 @@ fn c_1_10() {
         &[1, 10],
         &[1, 2, 3],
         &mut [4; 3],
-    );
+    )
 }
 
-fn c_1_0() {
+fn c_1_0(rt: &impl Print) -> io::Result<()> {
     decompose(
+        rt,
         b"c = 1 0",
         15,
         &[1, 2],
@@ -323,11 +373,12 @@ fn c_1_0() {
         &[1, 0],
         &[1, 2, 3],
         &mut [4; 3],
-    );
+    )
 }
 
-fn c_15_4() {
+fn c_15_4(rt: &impl Print) -> io::Result<()> {
     decompose(
+        rt,
         b"c = 15 4",
         15,
         &[1, 2],
@@ -335,18 +386,18 @@ fn c_15_4() {
         &[15, 4],
         &[1, 2, 3],
         &mut [4; 3],
-    );
+    )
 }
 
-fn on_row_factors() {
-    a_0_2();
-    a_1_6();
-    a_6_0();
-    a_1_15();
-    c_0_4();
-    c_1_10();
-    c_1_0();
-    c_15_4();
+fn on_row_factors(rt: &impl Print) -> io::Result<()> {
+    a_0_2(rt)?;
+    a_1_6(rt)?;
+    a_6_0(rt)?;
+    a_1_15(rt)?;
+    c_0_4(rt)?;
+    c_1_10(rt)?;
+    c_1_0(rt)?;
+    c_15_4(rt)
 }
 
 // The tree way, in a working list of 16,389 nines: a second line shows its first number, the last that an accepted call clears, and
@@ -355,15 +406,16 @@ fn nines() -> [u32; 16389] {
     [9; 16389]
 }
 
-fn working(first: u32, last: u32, beyond: u32) {
-    text(b"  working list:");
-    number(first);
-    number(last);
-    number(beyond);
-    text(b"\n");
+fn working(rt: &impl Print, first: u32, last: u32, beyond: u32) -> io::Result<()> {
+    text(rt, b"  working list:")?;
+    number(rt, first)?;
+    number(rt, last)?;
+    number(rt, beyond)?;
+    text(rt, b"\n")
 }
 
 fn tree_expand(
+    rt: &impl Print,
     label: &[u8],
     m: u32,
     a: &[u32],
@@ -371,14 +423,15 @@ fn tree_expand(
     c: &[u32],
     curve: &[u32],
     output: &mut [u32],
-) {
+) -> io::Result<()> {
     let mut work = nines();
     let answer = tree_calls::tree_expand(m, a, b, c, curve, output, &mut work);
-    show(label, answer, output);
-    working(work[0], work[16383], work[16384]);
+    show(rt, label, answer, output)?;
+    working(rt, work[0], work[16383], work[16384])
 }
 
 fn tree_adjoint(
+    rt: &impl Print,
     label: &[u8],
     m: u32,
     a: &[u32],
@@ -386,15 +439,16 @@ fn tree_adjoint(
     c: &[u32],
     curve: &[u32],
     output: &mut [u32],
-) {
+) -> io::Result<()> {
     let mut work = nines();
     let answer = tree_calls::tree_adjoint(m, a, b, c, curve, output, &mut work);
-    show(label, answer, output);
-    working(work[0], work[16383], work[16384]);
+    show(rt, label, answer, output)?;
+    working(rt, work[0], work[16383], work[16384])
 }
 
-fn p1_by_the_tree() {
+fn p1_by_the_tree(rt: &impl Print) -> io::Result<()> {
     tree_expand(
+        rt,
         b"P1 by the tree",
         7,
         &[1, 2],
@@ -402,11 +456,12 @@ fn p1_by_the_tree() {
         &[1, 5],
         &[3, 0, 1],
         &mut [4; 3],
-    );
+    )
 }
 
-fn p2_by_the_tree() {
+fn p2_by_the_tree(rt: &impl Print) -> io::Result<()> {
     tree_adjoint(
+        rt,
         b"P2 by the tree",
         7,
         &[1, 2],
@@ -414,19 +469,29 @@ fn p2_by_the_tree() {
         &[1, 5],
         &[1, 3, 2],
         &mut [4; 3],
-    );
+    )
 }
 
-fn p6_by_the_tree() {
-    tree_expand(b"P6 by the tree", 2, &[], &[], &[], &[1], &mut [4; 1]);
+fn p6_by_the_tree(rt: &impl Print) -> io::Result<()> {
+    tree_expand(rt, b"P6 by the tree", 2, &[], &[], &[], &[1], &mut [4; 1])
 }
 
-fn p7_by_the_tree() {
-    tree_expand(b"P7 by the tree", 2, &[1], &[1], &[1], &[1, 1], &mut [4; 2]);
-}
-
-fn p10_by_the_tree() {
+fn p7_by_the_tree(rt: &impl Print) -> io::Result<()> {
     tree_expand(
+        rt,
+        b"P7 by the tree",
+        2,
+        &[1],
+        &[1],
+        &[1],
+        &[1, 1],
+        &mut [4; 2],
+    )
+}
+
+fn p10_by_the_tree(rt: &impl Print) -> io::Result<()> {
+    tree_expand(
+        rt,
         b"P10 by the tree",
         15,
         &[3],
@@ -434,18 +499,19 @@ fn p10_by_the_tree() {
         &[5],
         &[1, 1],
         &mut [4; 2],
-    );
+    )
 }
 
-fn by_the_tree() {
-    p1_by_the_tree();
-    p2_by_the_tree();
-    p6_by_the_tree();
-    p7_by_the_tree();
-    p10_by_the_tree();
+fn by_the_tree(rt: &impl Print) -> io::Result<()> {
+    p1_by_the_tree(rt)?;
+    p2_by_the_tree(rt)?;
+    p6_by_the_tree(rt)?;
+    p7_by_the_tree(rt)?;
+    p10_by_the_tree(rt)
 }
 
 fn tree_decompose(
+    rt: &impl Print,
     label: &[u8],
     m: u32,
     a: &[u32],
@@ -453,22 +519,31 @@ fn tree_decompose(
     c: &[u32],
     coefficients: &[u32],
     output: &mut [u32],
-) {
+) -> io::Result<()> {
     let mut work = nines();
     let answer = tree_calls::tree_decompose(m, a, b, c, coefficients, output, &mut work);
-    show(label, answer, output);
-    working(work[0], work[16383], work[16384]);
+    show(rt, label, answer, output)?;
+    working(rt, work[0], work[16383], work[16384])
 }
 
-fn moments(label: &[u8], m: u32, a: &[u32], b: &[u32], c: &[u32], output: &mut [u32]) {
+fn moments(
+    rt: &impl Print,
+    label: &[u8],
+    m: u32,
+    a: &[u32],
+    b: &[u32],
+    c: &[u32],
+    output: &mut [u32],
+) -> io::Result<()> {
     let mut work = nines();
     let answer = tree_calls::moments(m, a, b, c, output, &mut work);
-    show(label, answer, output);
-    working(work[0], work[16383], work[16384]);
+    show(rt, label, answer, output)?;
+    working(rt, work[0], work[16383], work[16384])
 }
 
-fn p3_by_the_tree() {
+fn p3_by_the_tree(rt: &impl Print) -> io::Result<()> {
     tree_decompose(
+        rt,
         b"P3 by the tree",
         7,
         &[1, 2],
@@ -476,31 +551,31 @@ fn p3_by_the_tree() {
         &[1, 5],
         &[1, 3, 2],
         &mut [4; 3],
-    );
+    )
 }
 
-fn p4() {
-    moments(b"P4", 7, &[1, 2], &[0, 3], &[1, 5], &mut [4; 5]);
+fn p4(rt: &impl Print) -> io::Result<()> {
+    moments(rt, b"P4", 7, &[1, 2], &[0, 3], &[1, 5], &mut [4; 5])
 }
 
-fn moments_of_p11() {
-    moments(b"moments of P11", 7, &[], &[], &[], &mut [4; 1]);
+fn moments_of_p11(rt: &impl Print) -> io::Result<()> {
+    moments(rt, b"moments of P11", 7, &[], &[], &[], &mut [4; 1])
 }
 
-fn moments_of_p12() {
-    moments(b"moments of P12", 15, &[2], &[1], &[4], &mut [4; 3]);
+fn moments_of_p12(rt: &impl Print) -> io::Result<()> {
+    moments(rt, b"moments of P12", 15, &[2], &[1], &[4], &mut [4; 3])
 }
 
-fn moments_of_p10() {
-    moments(b"moments of P10", 15, &[3], &[0], &[5], &mut [4; 3]);
+fn moments_of_p10(rt: &impl Print) -> io::Result<()> {
+    moments(rt, b"moments of P10", 15, &[3], &[0], &[5], &mut [4; 3])
 }
 
-fn by_the_moments() {
-    p3_by_the_tree();
-    p4();
-    moments_of_p11();
-    moments_of_p12();
-    moments_of_p10();
+fn by_the_moments(rt: &impl Print) -> io::Result<()> {
+    p3_by_the_tree(rt)?;
+    p4(rt)?;
+    moments_of_p11(rt)?;
+    moments_of_p12(rt)?;
+    moments_of_p10(rt)
 }
 
 fn short() -> [u32; 16383] {
@@ -508,7 +583,7 @@ fn short() -> [u32; 16383] {
 }
 
 // P1 in a working list that is one number too short.
-fn in_a_short_list() {
+fn in_a_short_list(rt: &impl Print) -> io::Result<()> {
     let mut output: [u32; 3] = [4; 3];
     let mut work = short();
     let answer = tree_calls::tree_expand(
@@ -520,19 +595,19 @@ fn in_a_short_list() {
         &mut output,
         &mut work,
     );
-    show(b"P1 in a short list", answer, &output);
-    working(work[0], work[16381], work[16382]);
+    show(rt, b"P1 in a short list", answer, &output)?;
+    working(rt, work[0], work[16381], work[16382])
 }
 
-fn main() {
-    on_r();
-    on_small_families();
-    on_inverses();
-    on_limits();
-    on_most_rows();
-    on_too_many_rows();
-    on_row_factors();
-    by_the_tree();
-    by_the_moments();
-    in_a_short_list();
+fn main(rt: HostRuntime) -> io::Result<()> {
+    on_r(&rt)?;
+    on_small_families(&rt)?;
+    on_inverses(&rt)?;
+    on_limits(&rt)?;
+    on_most_rows(&rt)?;
+    on_too_many_rows(&rt)?;
+    on_row_factors(&rt)?;
+    by_the_tree(&rt)?;
+    by_the_moments(&rt)?;
+    in_a_short_list(&rt)
 }

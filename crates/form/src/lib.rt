@@ -1,6 +1,8 @@
 // Reads the lines of a family and a whole job text (the scope paper, 'The job text'). Each list is put into a lent one while its line is
 // checked, as far as it has room, and counted whole: so no number is read twice, and a list that is too long is refused by its count
 // and not here. Every contract says what the reading of definitions answers.
+#![tactic(auto)]
+
 ghost use Rattle.std.specs.Prelude.{◌≡◌, ◌≤◌, length, drop};
 ghost use Rattle.form.specs.FamilyLines.{read_rows, RowsRead, read_family, FamilyRead};
 ghost use Rattle.form.specs.JobForm.{read_end, EndRead, with_family, Formed};

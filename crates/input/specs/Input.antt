@@ -7,7 +7,7 @@ use Rattle.input.specs.declared.Input.{Input}
 
 abbrev pub Within : Input → ℕ → Type 0
 Within (Input.Bytes count) most = count ≤ most
-Within Input.Failed most = Unit {0}
+Within (Input.Failed error) most = Unit {0}
 
 pub within-bytes : {r : Input} {most count : ℕ} → Within r most → r ≡ Input.Bytes count → count ≤ most
 within-bytes {most = most} within is = subst (λ x. Within x most) is within

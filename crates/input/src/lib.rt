@@ -1,23 +1,24 @@
-// Standard input, read a part at a time.
+// Input that is read a part at a time.
+#![tactic(auto)]
+
 ghost use Rattle.std.specs.Prelude.{length};
 ghost use Rattle.input.specs.Input.{Within};
 
-use libc::STDIN_FILENO;
+use std::io::{Error, Read};
 
-// How many bytes were read, or that they could not be.
+// How many bytes were read, or why they could not be.
 #[derive(Drop)]
 pub enum Input {
     Bytes(usize),
-    Failed,
+    Failed(Error),
 }
 
-// One read of standard input, which may bring a part only, as from a pipe. Where there is room for a byte, 0 bytes are its end.
-pub fn read_some(part: &mut [u8]) -> Input
+// One read, which may bring a part only, as from a pipe. Where there is room for a byte, 0 bytes are the end.
+pub fn read_some<R: Read>(reader: &mut R, part: &mut [u8]) -> Input
     ensures { Within result (length part.new) }
 {
-    let got = libc::read(STDIN_FILENO, part);
-    if got < 0 {
-        return Input::Failed;
+    match reader.read(part) {
+        Ok(count) => Input::Bytes(count),
+        Err(error) => Input::Failed(error),
     }
-    Input::Bytes(io::count(got, part))
 }

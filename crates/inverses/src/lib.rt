@@ -1,5 +1,7 @@
 // The inverses of the entries of a list modulo m from a place on, from one inverse where the product of all has one; and one product by
 // which to tell whether all entries of two lists have inverses, and two numbers more.
+#![tactic(auto)]
+
 ghost use Rattle.std.specs.Prelude.{◌≡◌, ◌+◌, ◌<◌, ◌≤◌, length, get_or};
 ghost use Rattle.definitions.specs.Number as Number;
 ghost use Rattle.numbers.specs.Lists.{filled};

@@ -1,6 +1,8 @@
 // The calls on job texts. The text call: a job text in, its answer text out; the lists are read by `form`, converted by `operations` and
 // written by `writer`. And the call that writes a job text, by `job_text`. Nothing is written before every test has passed, and neither has
 // a 'requires'.
+#![tactic(auto)]
+
 ghost use Rattle.std.specs.Prelude.{◌≡◌, take};
 ghost use Rattle.definitions.specs.Family.{ones};
 ghost use Rattle.definitions.specs.TextCall.{TextConverted};

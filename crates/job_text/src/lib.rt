@@ -1,5 +1,7 @@
 // Writes a job text (the scope paper, 'The job text') line by line into a lent output. Nothing is tested here: the lists are no longer
 // than those of a family and its curve, and the output has room for them.
+#![tactic(auto)]
+
 ghost use Rattle.std.specs.Prelude.{[], ◌+◌, ◌≤◌, length};
 ghost use Rattle.definitions.specs.JobWriting.{written_job};
 ghost use Rattle.writer.specs.Putting.{Put};

@@ -1,6 +1,8 @@
 // Leaves of the calls on two channels, on input that is already checked: signed numbers reduced modulo m, and remainders modulo m1 and m2
 // joined. Of what a pair of moduli needs, the inverse of the one modulo the other is handed in, and the rest is found once for a list; an entry
 // is joined without a division.
+#![tactic(auto)]
+
 ghost use Rattle.std.specs.Prelude.{◌++◌, ◌≡◌, ◌≤◌, ◌<◌, length, take, drop};
 ghost use Rattle.joining.specs.Whole.{remainder, joined, joined_list};
 ghost use Rattle.joining.specs.Expanding.{reduced_list};

@@ -1,5 +1,7 @@
 // Laws over the calls on two channels. Each function lends every list, makes the calls until one refuses, and promises its law of the very
 // lists handed out, on what the calls accept. The promises stand in specs/Laws.antt. They are evidence and no library calls.
+#![tactic(auto)]
+
 ghost use Rattle.definitions.specs.Answers.{answered};
 ghost use Rattle.joining.specs.Expanding.{signed};
 ghost use Rattle.join_laws.specs.Laws.{lists, JoinLaw, ExpandJoinLaw, ChannelsLaw};

@@ -1,1 +1,3 @@
+#![tactic(auto)]
+
 // Two channels, as definitions: it has no code, only what specs/ says.

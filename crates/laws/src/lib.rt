@@ -2,6 +2,8 @@
 // input, which refusal is given and what each list then holds; on an accepted family, with curves on it and lists as long as the calls
 // ask, that every call finishes and the law holds of the very lists handed out. The promises stand in specs/Laws.antt.
 // They are evidence and no library calls: public is what the program `weighing` runs, and what other laws go on from.
+#![tactic(auto)]
+
 ghost use Rattle.definitions.specs.Conversion.{expand, adjoint, decompose};
 ghost use Rattle.definitions.specs.Family.{family};
 ghost use Rattle.laws.specs.Laws.{lists, Made, ThereAndBack, Agreed, HandedOut, Weighed};

@@ -7,7 +7,7 @@
 -- Proved: each over two pieces, one after the other (ended-append, unended-append); of the lines of the pieces joined the same is kept, however a
 -- text was cut into pieces (handed-lines); what is open of a line has no byte 10 (unended-unbroken). Assumes nothing.
 use Rattle.std.specs.Prelude.{Bool, true, false, List, [], ◌∷◌, ◌++◌, map, ◌≡◌, ℕ, zero, suc, ◌<◌, eqb, take}
-use Rattle.std.proofs.Common.{append_assoc, append-nil, sym, ◌∙◌, ap, ap₂, arith}
+use Rattle.std.proofs.Common.{append_assoc, sym, ◌∙◌, ap, ap₂, arith}
 use Rattle.std.proofs.Math.Path.{refl}
 use Rattle.std.proofs.Math.Seq.{take-nil}
 use Rattle.definitions.specs.Reading.{pick}

@@ -4,7 +4,7 @@
 --   Walking .. said ..         the state of a loop that takes them: of the lines `said`, and then of those that end from here on, the same is
 --                              kept as of those that end in the piece, and from here on the same is left open
 -- Assumes nothing.
-use Rattle.std.specs.Prelude.{Bool, true, false, List, [], ◌∷◌, ◌++◌, ◌≡◌, refl, ℕ, ◌<◌, ◌≤◌, length, take, drop}
+use Rattle.std.specs.Prelude.{Bool, true, false, List, [], ◌∷◌, ◌++◌, ◌≡◌, refl, ℕ, ◌≤◌, length, take, drop}
 use Rattle.std.proofs.Common.{append_assoc, append-nil, sym, ◌∙◌, ap, arith, drop_of_length-le}
 use Rattle.lines.specs.Pieces.{ended, unended, ended-none, unended-none}
 use Rattle.lines.specs.Taking.{LineTaken}

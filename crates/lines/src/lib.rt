@@ -1,6 +1,8 @@
 // Takes the lines of a text that comes in pieces of any length. What is open of a line is kept in a lent list, as far as it has room; the
 // rest of a line is passed over. So a line may lie across any number of pieces, and a list that has room for one byte more
 // than the longest line that is wanted tells by its count that a line was too long.
+#![tactic(auto)]
+
 ghost use Rattle.std.specs.Prelude.{◌≤◌, length};
 ghost use Rattle.lines.specs.Taking.{Kept, LineTaken};
 

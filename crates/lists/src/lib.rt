@@ -1,5 +1,7 @@
 // Local lists and lent ones, entry by entry: what the ways of conversion share. Lists are lent whole, with a count of the entries that take
 // part; the entries past the count stay.
+#![tactic(auto)]
+
 ghost use Rattle.std.specs.Prelude.{◌≡◌, ◌-◌, ◌≤◌, length, get_or, take, replicate};
 ghost use Rattle.definitions.specs.Answers.{cleared};
 ghost use Rattle.numbers.specs.Lists.{filled};

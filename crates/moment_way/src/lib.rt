@@ -3,6 +3,8 @@
 // the Hankel matrix H of the moments and the norms D: u = D^-1 F^t H p, a Hankel product, Adjoint, and the norms (the report, Figure 3).
 // Lists are lent whole, with n: the first n - 1 entries of the rows' lists take part, and close_a, close_b, close_c close them. The
 // inverses are lent beside the rows, and none is searched for.
+#![tactic(auto)]
+
 ghost use Rattle.std.specs.Prelude.{◌≡◌, suc, ◌*◌, ◌-◌, ◌≤◌, ◌<◌, length, take, replicate};
 ghost use Rattle.definitions.specs.Family.{ones, row_of};
 ghost use Rattle.definitions.specs.Conversion.{decompose};

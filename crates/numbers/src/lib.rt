@@ -1,1 +1,3 @@
+#![tactic(auto)]
+
 // Lists of numbers and numbers modulo m: no code, only the laws of specs/.

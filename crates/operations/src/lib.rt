@@ -1,5 +1,7 @@
 // The operations of a job on lists, by the tree way, once the tests on sizes have passed: how many numbers each hands out, and the conversion
 // with the tests that are left.
+#![tactic(auto)]
+
 ghost use Rattle.std.specs.Prelude.{◌≡◌, ◌≤◌, length, take};
 ghost use Rattle.definitions.specs.Answers.{answered};
 ghost use Rattle.definitions.specs.Family.{family, ones};

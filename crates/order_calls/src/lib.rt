@@ -1,6 +1,8 @@
 // The public calls that put a list in another order: even powers first, and the way back. Each makes every test itself, ends on every input,
 // and either writes the list or refuses with the number that the change requests give and touches nothing: it has no 'requires', and one 'ensures'
 // that settles answer and output on every input.
+#![tactic(auto)]
+
 ghost use Rattle.std.specs.Prelude.{[], ◌≡◌, ◌<◌, ◌≤◌, length};
 ghost use Rattle.definitions.specs.Answers.{answered};
 ghost use Rattle.definitions.specs.Refusals.{verdict};

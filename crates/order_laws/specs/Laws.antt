@@ -12,7 +12,7 @@ use Rattle.std.specs.Prelude.{List, [], ◌++◌, ◌≡◌, ℕ, ◌-◌, ◌�
 use Rattle.definitions.specs.Answers.{after}
 use Rattle.definitions.specs.Conversion.{expand}
 use Rattle.definitions.specs.Family.{Family, size}
-use Rattle.definitions.specs.Refusals.{Test, Verdict, finished, verdict}
+use Rattle.definitions.specs.Refusals.{Verdict, finished, verdict}
 use Rattle.laws.specs.Laws.{TwoCallsInput, way_tests, work_left}
 use Rattle.laws.specs.declared.Way.{Way}
 use Rattle.storing.specs.Calls.{most_entries, order_tests}

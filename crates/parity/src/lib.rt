@@ -1,1 +1,3 @@
+#![tactic(auto)]
+
 // Even powers first, as facts: it has no code, only what specs/ proves.

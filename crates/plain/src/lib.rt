@@ -1,6 +1,8 @@
 // The plain ways, on input that is already checked: row by row, one remainder for each coefficient and no division, in local arrays.
 // Lists are lent whole, with n: the first n - 1 entries of the rows' lists take part, the first n of the curve, and the first n of the
 // output are written. The 1 that stands for a row's number past these is the closing row's.
+#![tactic(auto)]
+
 ghost use Rattle.std.specs.Prelude.{◌≡◌, List, ◌++◌, ℕ, ◌-◌, ◌<◌, ◌≤◌, length, take, drop};
 ghost use Rattle.definitions.specs.Conversion.{expand, adjoint, decompose};
 ghost use Rattle.definitions.specs.Family.{row_of, ones};

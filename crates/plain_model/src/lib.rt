@@ -1,1 +1,3 @@
+#![tactic(auto)]
+
 // The plain ways as models on lists: no code, only the models and laws of specs/.

@@ -2,6 +2,8 @@
 // itself, the whole record first, ends on every input, and either hands out the record of the changed family or refuses with the paper's
 // number and hands back the record that it was handed: none has a 'requires', and each has one 'ensures' that settles answer and record on
 // every input. What a record holds and what it means that it is right stands in definitions, specs/Prepared.antt.
+#![tactic(auto)]
+
 ghost use Rattle.std.specs.Prelude.{◌≡◌, [], ◌∷◌};
 ghost use Rattle.definitions.specs.Answers.{answered};
 ghost use Rattle.definitions.specs.Family.{row_of, ones};
@@ -16,7 +18,7 @@ use definitions::{Answer, FIRST_C};
 
 // The record: modulus, row count, rows, the inverses beside them (0 for c_1), and the norms. Unused places are zero.
 #[repr(C)]
-#[derive(Drop)]
+#[derive(Clone, Copy)]
 pub struct Prepared {
     pub modulus: u32,
     pub rows: u32,
@@ -73,6 +75,7 @@ fn prepare(m: u32, rows: u32, a: [u32; 127], b: [u32; 127], c: [u32; 127]) -> Pr
 }
 
 // 14, 5, 9, 17, 10, 18 and 11.
+#[inline(never)]
 fn append_verdict(p: Prepared, a: u32, b: u32, c: u32) -> Answer
     ensures { answered result ≡ verdict (append_tests (held p) (row_of a b c)) [] }
 {
@@ -101,6 +104,7 @@ fn drop_verdict(p: Prepared) -> Answer
 }
 
 // 14, 16, 9, 17, 10, 18 and 11.
+#[inline(never)]
 fn replace_verdict(p: Prepared, row: u32, a: u32, b: u32, c: u32) -> Answer
     ensures { answered result ≡ verdict (replace_tests (held p) row (row_of a b c)) [] }
 {

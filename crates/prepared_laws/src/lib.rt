@@ -2,6 +2,8 @@
 // refuses, and promises what then holds on every input: of the changes in specs/PreparedLaws.antt, of the operations in
 // specs/RecordLaws.antt. They are evidence and no library calls. An operation on the record that is made by appending the rows of the lists
 // keeps, on an accepted family, the very promise of the call on the lists: answer, output and working list.
+#![tactic(auto)]
+
 ghost use Rattle.std.specs.Prelude.{◌≡◌};
 ghost use Rattle.definitions.specs.Answers.{answered, NormsCall, MomentsCall};
 ghost use Rattle.definitions.specs.Conversion.{expand, adjoint, decompose};

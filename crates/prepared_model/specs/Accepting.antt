@@ -6,7 +6,7 @@
 -- without rows, m is a modulus. Assumes nothing.
 use Rattle.std.specs.Prelude.{◌≡◌, false, List, ◌↔◌, ℕ, ◌-◌, ◌<◌, ◌≤◌, eqb}
 use Rattle.std.proofs.Math.Logic.Iff
-use Rattle.std.proofs.Common.{arith, ltb-false, le-ltb}
+use Rattle.std.proofs.Common.{ltb-false, le-ltb}
 use Rattle.definitions.specs.Family.{Row, Family, Modulus, most_rows, first_c}
 use Rattle.definitions.specs.Number.{HasInverse}
 use Rattle.definitions.specs.Refusals.{finished, verdict, no_inverse}

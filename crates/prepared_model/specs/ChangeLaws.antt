@@ -4,7 +4,7 @@
 -- Proved of what the changes promise: a change that finishes hands out a right record, so that its stored inverses and norms are true; a row
 -- replaced and the old one put back, and a row appended and dropped, hand out the old record, and the second change finishes where the first did.
 -- Assumes nothing.
-use Rattle.std.specs.Prelude.{◌≡◌, refl, ℕ, suc, ◌+◌, ◌-◌, ◌<◌, length, get_or, take}
+use Rattle.std.specs.Prelude.{◌≡◌, refl, ℕ, suc, ◌-◌, ◌<◌, length, get_or, take}
 use Rattle.std.proofs.Common.{sym, ◌∙◌, ap, ap₂, arith, length-set, take_at, take-suc}
 use mathlib.Core.List.{List, [], ◌∷◌, ◌++◌}
 use Rattle.std.proofs.Math.ListN.{set}

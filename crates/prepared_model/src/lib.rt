@@ -1,1 +1,3 @@
+#![tactic(auto)]
+
 // What is true of a prepared family: no code, only the facts of specs/.

@@ -2,6 +2,8 @@
 // itself, ends on every input, and either converts or refuses with the paper's number and touches nothing: none has a 'requires', and each
 // has one 'ensures' that settles answer, output and working list on every input. No inverse is searched for. The record's lists are lent to
 // the tests; a core, which takes each list for a time of its own, is lent one of them and copies of the others.
+#![tactic(auto)]
+
 ghost use Rattle.std.specs.Prelude.{◌≡◌, []};
 ghost use Rattle.definitions.specs.Answers.{answered};
 ghost use Rattle.definitions.specs.Conversion.{expand, adjoint, decompose};

@@ -1,4 +1,6 @@
 // What a record stores beside the rows, worked out from them: the inverses, with zeros behind, and the norms.
+#![tactic(auto)]
+
 ghost use Rattle.std.specs.Prelude.{◌≡◌, List, ℕ, ◌<◌, ◌≤◌, length, replicate};
 ghost use Rattle.definitions.specs.Family.{most_rows, ones};
 ghost use Rattle.definitions.specs.Number.{table};

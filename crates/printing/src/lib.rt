@@ -1,4 +1,6 @@
 // What the program prints for a job text: its answer text, or its refusal text (the scope paper, 'The job text').
+#![tactic(auto)]
+
 ghost use Rattle.std.specs.Prelude.{◌≡◌, replicate};
 ghost use Rattle.printing.specs.Printouts.{Prints};
 

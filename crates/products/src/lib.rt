@@ -1,4 +1,6 @@
 // Products of polynomials and transposed products, of parts of a working list and into a part of it, on input that is already checked.
+#![tactic(auto)]
+
 ghost use Rattle.std.specs.Prelude.{◌≡◌, ◌+◌, ◌%◌, ◌≤◌, length, get_or};
 ghost use Rattle.numbers.specs.Regions.{part, written};
 ghost use Rattle.numbers.specs.Products.{product_at, plus_products, transposed_sum};

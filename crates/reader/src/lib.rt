@@ -1,6 +1,8 @@
 // Reads numbers and lines, of numbers, of one number and of an operation (the scope paper, 'The job text'), at any place of a text.
 // A line's numbers are put into a lent list while its form is checked, as far as the list has room; those past it are still counted,
 // so the caller can refuse by their number. Every contract says what the reading of definitions answers.
+#![tactic(auto)]
+
 ghost use Rattle.std.specs.Prelude.{◌≡◌, ◌≤◌, length, drop, set};
 ghost use Rattle.definitions.specs.Text.{operation_key};
 ghost use Rattle.definitions.specs.Reading.{read_key, read_digits, read_number, read_numbers, read_operation, ended, read_line};

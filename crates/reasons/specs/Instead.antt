@@ -12,7 +12,7 @@ use Rattle.std.proofs.Math.Bool.{true, false}
 use mathlib.Core.List.{List, [], ◌∷◌, ◌++◌, append-nil}
 use Rattle.std.proofs.Math.Nat.{zero-mod}
 use Rattle.std.proofs.Math.Dec.{eqb}
-use Rattle.definitions.specs.Family.{Family, Row, first_c, rows, row_at, size}
+use Rattle.definitions.specs.Family.{Family, Row, first_c, row_at, size}
 use Rattle.definitions.specs.JobWriting.{job_output_length, writing_tests}
 use Rattle.definitions.specs.Number.{inverse}
 use Rattle.definitions.specs.Orthogonality.{moment_count}

@@ -1,6 +1,8 @@
 // Remainders of numbers of 64 bits without a division: by the reciprocal of the modulus, which is found once. For every
 // modulus of 32 bits from 1 on and every number. Longer sums are kept as their low 64 bits and a count of how often they have
 // wrapped; their remainder is for a modulus of at most 31 bits.
+#![tactic(auto)]
+
 ghost use Rattle.std.specs.Prelude.{◌≡◌, ◌+◌, ◌*◌, ◌%◌, ◌<◌};
 ghost use Rattle.reduction.specs.Reciprocal.{Reciprocal, HighHalf, LesserOf};
 ghost use Rattle.reduction.specs.Wrapping.{Reducible, WrapsAfter, Unwrapped, Shortened};

@@ -1,6 +1,8 @@
 // Arithmetic modulo m on words of 32 bits, for every modulus from 1 on, and the inverse, for every modulus.
 // Arguments need not be below m, those of combine apart; the results of sum and product are. In loops the reciprocal of m takes the place
 // of divisions.
+#![tactic(auto)]
+
 ghost use Rattle.std.specs.Prelude.{◌≡◌, ◌+◌, ◌*◌, ◌%◌, ◌<◌, length, get_or};
 ghost use Rattle.definitions.specs.Number.{negative};
 ghost use Rattle.numbers.specs.RunningProduct.{running_product};

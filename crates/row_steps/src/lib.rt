@@ -1,5 +1,7 @@
 // Loops over lists of residues: one step of each plain way. Lists are lent whole, with a count of the entries that take part;
 // the entries past the count stay. Each stored coefficient costs one remainder, by the reciprocal of m.
+#![tactic(auto)]
+
 ghost use Rattle.std.specs.Prelude.{◌≡◌, ◌<◌, length};
 ghost use Rattle.numbers.specs.Lists.{filled};
 ghost use Rattle.plain_model.specs.PlainBasis.{basis_entry};

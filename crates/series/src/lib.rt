@@ -1,5 +1,7 @@
 // Quotients of power series, on input that is already checked. A series is a polynomial read from its top coefficient down, as the
 // moments' two are: the polynomial is lent as it lies, and no list is turned round.
+#![tactic(auto)]
+
 ghost use Rattle.std.specs.Prelude.{◌≡◌, ◌++◌, suc, ◌≤◌, length, get_or, drop};
 ghost use Rattle.definitions.specs.Orthogonality.{next_quotient, quotient};
 ghost use Rattle.series.specs.Division.{reversed, CoefficientInput, QuotientInput};

@@ -2,7 +2,7 @@
 --   LeftOpen piece before count before' r   r: how many bytes at the front of before' these are, where the first count of before are kept of the line
 --                                           that the piece goes on with, and that they have no byte 10; nothing where an answer could not be written
 -- Proved: they are what the pieces' law says, after they were copied back; how many they are. Assumes nothing.
-use Rattle.std.specs.Prelude.{List, [], ◌≡◌, ℕ, ◌≤◌, length, take}
+use Rattle.std.specs.Prelude.{List, ◌≡◌, ℕ, ◌≤◌, length, take}
 use Rattle.std.proofs.Common.{sym, ◌∙◌, ap, subst}
 use Rattle.lines.specs.Walking.{Open}
 use Rattle.store_lines.specs.Answering.{printed_lines, PieceAnswered}
@@ -12,7 +12,7 @@ use Rattle.store.specs.declared.Kept.{Kept}
 
 abbrev pub LeftOpen : List ℕ → List ℕ → ℕ → List ℕ → Kept → Type 0
 LeftOpen piece before count before' (Kept.Bytes k) = Open (length before) (take count before) piece before' k × Unbroken (take k before')
-LeftOpen piece before count before' Kept.Unwritten = Unit {0}
+LeftOpen piece before count before' (Kept.Unwritten error) = Unit {0}
 
 pub left-within : (piece before : List ℕ) (count : ℕ) (before' : List ℕ) (r : Kept) (k : ℕ) → LeftOpen piece before count before' r
     → r ≡ Kept.Bytes k → k ≤ length before'

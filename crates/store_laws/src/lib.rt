@@ -1,6 +1,8 @@
 // A law over what the program `store` does with its input: it makes the program's calls, one after the other, on a text that is cut into pieces
 // of the sizes that it is lent, with one output for all that is printed. The program makes these calls on what its reads bring, and writes what
 // they put: that it does, and what a read brings and a write prints, no contract says. Of any pieces, as a fact: any-cut in specs/Printing.antt.
+#![tactic(auto)]
+
 ghost use Rattle.std.specs.Prelude.{◌≡◌, ◌+◌, ◌*◌, ◌<◌, ◌≤◌, length, get_or, take};
 ghost use Rattle.storing.specs.Printing.{printed_input};
 ghost use Rattle.store_lines.specs.Printed.{printed_room};

@@ -5,7 +5,7 @@
 use Rattle.std.specs.Prelude.{Bool, true, false, ◌≡◌, ℕ, zero, suc, ◌*◌, ◌<◌, ◌≤◌, ltb, get_or}
 use mathlib.Core.List.{List, [], ◌∷◌, ◌++◌}
 use Rattle.std.proofs.Math.Path.{refl, ap}
-use Rattle.std.proofs.Common.{sym, ◌∙◌, ltb-true, ltb-false, length-append}
+use Rattle.std.proofs.Common.{◌∙◌, ltb-true, ltb-false, length-append}
 use native.Mathlib.Omega.{arith}
 use Rattle.std.proofs.Math.ListN.{length}
 use Rattle.definitions.specs.Reading.{Front, got, bad, read_key, read_numbers, read_line}

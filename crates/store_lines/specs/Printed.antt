@@ -2,12 +2,12 @@
 --   printed_room  room for what is printed for a line: 128 numbers of ten digits, each with a space before it, and byte 10
 -- Proved: printed-1, printed-2, printed-5 and printed-list; the same put into an output, and found at its front (front-printed); what is
 -- kept of a line with room for 8,193 bytes decides what is printed for it (printed-kept). Assumes nothing.
-use Rattle.std.specs.Prelude.{Bool, true, false, ◌≡◌, refl, ℕ, ◌+◌, ◌*◌, ◌<◌, ◌≤◌, ltb, length, take, drop}
+use Rattle.std.specs.Prelude.{Bool, true, false, ◌≡◌, refl, ℕ, ◌*◌, ◌<◌, ◌≤◌, ltb, length, take, drop}
 use mathlib.Core.List.{List, [], ◌∷◌}
 use Rattle.std.proofs.Common.{sym, ◌∙◌, arith, length-take, take_all, take_at, lt-ltb, le-ltb, ltb-true, ltb-false}
 use Rattle.std.proofs.Math.Path.{ap}
 use Rattle.definitions.specs.Printing.{shown}
-use Rattle.definitions.specs.Refusals.{Verdict, finished, refused, verdict, test}
+use Rattle.definitions.specs.Refusals.{verdict, test}
 use Rattle.definitions.specs.Text.{decimal, numbers, line, refusal_key, refusal_text}
 use Rattle.definitions.specs.TextCall.{most_bytes, text_length_test}
 use Rattle.acceptance.specs.Verdicts.{verdict-here, verdict-next}

@@ -6,7 +6,7 @@
 use Rattle.std.specs.Prelude.{List, [], ◌∷◌, ◌≡◌, refl, ℕ, ◌<◌, ◌≤◌, length, take, drop}
 use Rattle.std.proofs.Common.{sym, ◌∙◌, ap, arith, drop_of_length-le, drop-cons}
 use Rattle.definitions.specs.Reading.{Front, got, bad, read_numbers, read_line}
-use Rattle.reader.specs.Storing.{Stored, ListAt, kept-front}
+use Rattle.reader.specs.Storing.{ListAt, kept-front}
 use Rattle.storing.specs.Printing.{Asked, asked, malformed, key, or_asked, read_store}
 use Rattle.storing.specs.declared.Direction.{Direction}
 use Rattle.texts.specs.DecimalReading.{got-not-bad}

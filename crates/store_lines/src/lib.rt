@@ -1,5 +1,7 @@
 // What the program `store` prints: for a line the list that it brings, in the order that it asks for, or a refusal; and for the lines that end
 // in a piece of its input.
+#![tactic(auto)]
+
 ghost use Rattle.std.specs.Prelude.{[], ◌≡◌, ◌+◌, ◌*◌, ◌≤◌, length, take};
 ghost use Rattle.definitions.specs.Text.{numbers, line};
 ghost use Rattle.storing.specs.Order.{arranged};

@@ -1,5 +1,7 @@
 // The subproduct tree in the working list, and the ways up and down a stored tree. Vectors and scratch lie behind the tree
 // (specs/Layout.antt). All recursions go by the number of pairs of rows, which is halved at each level.
+#![tactic(auto)]
+
 ghost use Rattle.std.specs.Prelude.{◌≡◌, [], ◌∷◌, ◌+◌, ◌*◌, ◌-◌, ◌%◌, ◌≤◌, length, get_or, take};
 ghost use Rattle.definitions.specs.Family.{ones, row_of};
 ghost use Rattle.lists.specs.Lent.{lent};

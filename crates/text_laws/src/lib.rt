@@ -2,6 +2,8 @@
 // refuses, and promises on every input which refusal is given and what each list then holds, and that only an accepted job is written; on
 // an accepted job and lists as long as the calls ask, that both finish and the law holds of the very bytes handed out. The promise stands
 // in specs/Laws.antt. It is evidence and no library call.
+#![tactic(auto)]
+
 ghost use Rattle.definitions.specs.JobWriting.{written_job};
 ghost use Rattle.text_laws.specs.Laws.{WrittenAndAnswered};
 

@@ -73,6 +73,10 @@ module _ (R : CommRing) where
       at i = simp (co-add R, co-C-mul R, co-poly, co-X-poly)
 
   -- ---- degree and leading coefficient
+  degree-step : (ρ : Rows) (k i : ℕ) → term ρ (suc k) i ≡ 𝟘 → term ρ (suc k) (suc i) ≡ 𝟘 → term ρ k (suc i) ≡ 𝟘
+      → term ρ (suc (suc k)) (suc i) ≡ 𝟘
+  degree-step ρ k i lead same old = term-step ρ k (suc i) ∙ simp (lead, same, old, Ring.mul-zero R, R.add-zero)
+
   pub degree : (ρ : Rows) (k i : ℕ) → k ≤ i → term ρ k i ≡ 𝟘
   unfolding term
   degree ρ zero i h = refl
@@ -80,24 +84,21 @@ module _ (R : CommRing) where
   degree ρ (suc zero) (suc i) h = refl
   degree ρ (suc (suc k)) zero h = absurd (omega arith)
   degree ρ (suc (suc k)) (suc i) h =
-      simp (
-        degree ρ (suc k) i (le_of_suc-le-suc h),
-        degree ρ (suc k) (suc i) (omega arith),
-        degree ρ k (suc i) (omega arith),
-        Ring.mul-zero R,
-        R.add-zero,
-      )
+      degree-step ρ k i (degree ρ (suc k) i (le_of_suc-le-suc h)) (degree ρ (suc k) (suc i) (omega arith))
+      (degree ρ k (suc i) (omega arith))
 
   -- the coefficient of x^k in P_k is a_1 .. a_k
+  leading-step : (ρ : Rows) (k : ℕ) → term ρ (suc k) k ≡ product R k ρ.a → term ρ (suc (suc k)) (suc k) ≡ product R (suc k) ρ.a
+  leading-step ρ k lead = term-step ρ k (suc k) ∙ simp (
+    lead,
+    degree ρ (suc k) (suc k) (omega arith),
+    degree ρ k (suc k) (omega arith),
+    Ring.mul-zero R,
+    R.add-zero,
+    product-last R,
+  ) (R.mul_comm (ρ.a k) (product R k ρ.a))
+
   pub leading : (ρ : Rows) (k : ℕ) → term ρ (suc k) k ≡ product R k ρ.a
   unfolding term
   leading ρ zero = sym (product-empty R ρ.a)
-  leading ρ (suc k) =
-      simp (
-        leading ρ k,
-        degree ρ (suc k) (suc k) (omega arith),
-        degree ρ k (suc k) (omega arith),
-        Ring.mul-zero R,
-        R.add-zero,
-        product-last R,
-      ) (R.mul_comm (ρ.a k) (product R k ρ.a))
+  leading ρ (suc k) = leading-step ρ k (leading ρ k)

@@ -1,1 +1,3 @@
+#![tactic(auto)]
+
 // What is true of the definitions: it has no code, only the laws of specs/.

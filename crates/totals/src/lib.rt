@@ -1,5 +1,7 @@
 // The two totals of the product law, one remainder for each term. Lists are lent whole, with n: the first n entries take part, and
 // of the moments the first 2n - 1. Entries need not be below m.
+#![tactic(auto)]
+
 ghost use Rattle.std.specs.Prelude.{◌≡◌};
 ghost use Rattle.definitions.specs.Orthogonality.{moment_total, norm_total};
 ghost use Rattle.totals.specs.Totals.{row_total, RowTotalInput, MomentTotalInput, NormTotalInput};

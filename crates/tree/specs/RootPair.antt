@@ -15,7 +15,6 @@ use Rattle.std.proofs.Math.Seq.{length-take-le}
 use Rattle.definitions.specs.Family.{Modulus}
 use Rattle.definitions.specs.Number.{sum, table}
 use Rattle.lists.specs.Held.{Holds, held_below}
-use Rattle.tree_model.specs.Level.{span}
 use Rattle.numbers.specs.Lists.{table-length, table-entry, table-past, table-equal}
 use Rattle.numbers.specs.Regions.{part, written, Apart, ResiduesIn, KeptOutside, part_length, part-entry, part-residues, part-both}
 use Rattle.numbers.specs.Regions.{part-written, written-kept, kept-wider, kept_then, kept-part, Writing, writing-ends}

@@ -1,5 +1,7 @@
 // The public calls by the tree way, and Moments. Each makes every test itself, ends on every input, and either converts or refuses with the scope
 // paper's number and touches nothing: none has a 'requires', and each has one 'ensures' that settles answer, output and working list on every input.
+#![tactic(auto)]
+
 ghost use Rattle.definitions.specs.Answers.{answered, TreeCall, MomentsCall};
 ghost use Rattle.definitions.specs.Conversion.{expand, adjoint, decompose};
 ghost use Rattle.definitions.specs.Family.{family};

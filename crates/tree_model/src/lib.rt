@@ -1,1 +1,3 @@
+#![tactic(auto)]
+
 // The tree way as a model on lists: no code, only the model and laws of specs/.

@@ -1,7 +1,7 @@
 -- What Inverse promises, from its tests and from what Euclid's algorithm found.
 -- Proved: a test before 13 that refuses, or 13 itself, or that it finishes, and what is then handed out: no number, the factor alone, or the
 -- inverse and 1. Assumes nothing.
-use Rattle.std.specs.Prelude.{◌≡◌, refl, true, false, ℕ, ◌<◌, ◌≤◌}
+use Rattle.std.specs.Prelude.{◌≡◌, refl, true, false, ℕ, ◌<◌}
 use Rattle.std.proofs.Common.{sym, ◌∙◌, ne_eqb}
 use Rattle.std.proofs.Math.Path.{ap}
 use mathlib.Core.List.{List, [], ◌∷◌, ◌++◌}

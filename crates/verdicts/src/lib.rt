@@ -1,4 +1,6 @@
 // All tests of a call in their order, as its one verdict: the call goes on where the answer is Finished, and hands a refusal on.
+#![tactic(auto)]
+
 ghost use Rattle.std.specs.Prelude.{◌≡◌, [], ◌≤◌, length};
 ghost use Rattle.definitions.specs.Answers.{answered, inverse_answered, inverse_handed, factor_handed, InverseCall};
 ghost use Rattle.definitions.specs.Family.{family};

@@ -1,6 +1,8 @@
 // Writes lines, of numbers, of one number and of an operation, and of them an answer text or a refusal text (the scope paper, 'The job
 // text'), into a lent output. Each function writes from a place on, answers the place after what it wrote, and leaves every other byte
 // as it was.
+#![tactic(auto)]
+
 ghost use Rattle.std.specs.Prelude.{[], ◌+◌, ◌*◌, ◌≤◌, length};
 ghost use Rattle.definitions.specs.Text.{decimal, numbers, line, operation_key, name};
 ghost use Rattle.writer.specs.Putting.{Put};
