@@ -1,0 +1,13 @@
+-- `entries_below` finds the first entry that is not below m, if there is one. The loop's invariant: none of those passed is such an entry.
+-- Assumes nothing.
+use Prim.Native.Nat.{◌-◌}
+use lib.ListN.{length}
+use Rattle.definitions.specs.Refusals.{not_below}
+use Rattle.checks.specs.Passes.{Passed}
+use Rattle.checks.proofs.entries_below.Given as goal
+
+abbrev pub invariant-loop-i : goal.invariant-loop-i
+invariant-loop-i l = Passed (not_below l.m) l.list l.i
+
+abbrev pub decreases-loop-i : goal.decreases-loop-i
+decreases-loop-i l = length l.list - l.i

@@ -1,0 +1,64 @@
+-- `convolution::products_at` meets its contract: the loop's invariant is that the first t terms are in (`Multiplying`), and its measure is
+-- what is left of them. Assumes nothing.
+use Rattle.std.proofs.Common.{arith}
+use Rattle.convolution.specs.Coefficients.{multiplying-starts, multiplying-small, multiplying-plus, multiplying-next}
+use Rattle.convolution.specs.Coefficients.{multiplying-ends}
+use Rattle.convolution.proofs.products_at.Goals as goal
+
+pub loop-t-init : goal.loop-t-init
+loop-t-init c =
+    multiplying-starts c.requires c.excess-first.ensures
+    c.lesser-end.ensures c.excess-count.ensures
+
+pub overflow_add-i : goal.overflow_add-i
+overflow_add-i c = omega (arith, c.loop-t.invariant.counted, c.loop-t.invariant.ends.second, c.well_formed)
+
+pub overflow_sub-j : goal.overflow_sub-j
+overflow_sub-j c = omega (arith, c.loop-t.invariant.counted, c.loop-t.invariant.ends.first)
+
+pub offset_bounds-p-i : goal.offset_bounds-p-i
+offset_bounds-p-i c = omega (arith, c.loop-t.invariant.counted, c.loop-t.invariant.ends.second, c.well_formed)
+
+pub bounds-p-i : goal.bounds-p-i
+bounds-p-i c = omega (arith, c.loop-t.invariant.counted, c.loop-t.invariant.ends.second)
+
+pub offset_bounds-q-j : goal.offset_bounds-q-j
+offset_bounds-q-j c = omega (arith, c.loop-t.invariant.begins, c.well_formed)
+
+pub bounds-q-j : goal.bounds-q-j
+bounds-q-j c =
+    omega (arith, c.loop-t.invariant.begins, c.loop-t.invariant.counted, c.loop-t.invariant.ends.first)
+
+pub offset_bounds-r-i : goal.offset_bounds-r-i
+offset_bounds-r-i c =
+    omega (arith, c.loop-t.invariant.counted, c.loop-t.invariant.ends.second, c.well_formed)
+
+pub bounds-r-i : goal.bounds-r-i
+bounds-r-i c =
+    omega (arith, c.loop-t.invariant.counted, c.loop-t.invariant.ends.second, c.requires.r_long)
+
+pub offset_bounds-s-j : goal.offset_bounds-s-j
+offset_bounds-s-j c = omega (arith, c.loop-t.invariant.begins, c.well_formed)
+
+pub bounds-s-j : goal.bounds-s-j
+bounds-s-j c =
+    omega (arith, c.loop-t.invariant.begins, c.loop-t.invariant.counted, c.loop-t.invariant.ends.first, c.requires.s_long)
+
+pub pair-x-requires : goal.pair-x-requires
+pair-x-requires c = multiplying-small c.requires c.loop-t.invariant
+
+pub plus-total-requires : goal.plus-total-requires
+plus-total-requires c =
+    multiplying-plus c.requires c.loop-t.invariant (omega (arith, c.well_formed)) c.pair-x.ensures
+
+pub loop-t-preserved : goal.loop-t-preserved
+loop-t-preserved c =
+    multiplying-next c.requires c.loop-t.invariant c.loop-t-test.true
+    c.pair-x.ensures c.plus-total.ensures
+
+pub remainder_of_sum-requires : goal.remainder_of_sum-requires
+remainder_of_sum-requires c = c.requires.reducible
+
+pub returns : goal.returns
+returns c =
+    multiplying-ends c.requires c.loop-t.invariant c.loop-t-test.false _ c.remainder_of_sum.ensures

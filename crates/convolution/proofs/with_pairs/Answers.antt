@@ -1,0 +1,29 @@
+-- `convolution::with_pairs` meets its contract: the loop's invariant is that the pairs before j are in and that what is left is even
+-- (`Pairs`), and its measure is what is left of them. Assumes nothing.
+use Rattle.std.proofs.Common.{arith}
+use Rattle.convolution.specs.Steps.{pairs_first, pairs_start, pairs-reach, pairs-plus, pairs_next, pairs_end}
+use Rattle.convolution.proofs.with_pairs.Goals as goal
+
+pub with_first-sum-requires : goal.with_first-sum-requires
+with_first-sum-requires c = pairs_first c.requires
+
+pub loop-j-init : goal.loop-j-init
+loop-j-init c = pairs_start c.requires c.with_first-sum.ensures
+
+pub two_pairs-x-requires : goal.two_pairs-x-requires
+two_pairs-x-requires c =
+    pairs-reach c.requires c.with_first-sum.ensures c.loop-j.invariant c.loop-j-test.true
+
+pub plus-sum-requires : goal.plus-sum-requires
+plus-sum-requires c =
+    pairs-plus c.requires c.with_first-sum.ensures c.loop-j.invariant (omega (arith, c.well_formed))
+    c.two_pairs-x.ensures
+
+pub loop-j-preserved : goal.loop-j-preserved
+loop-j-preserved c =
+    pairs_next c.requires c.with_first-sum.ensures c.loop-j.invariant c.loop-j-test.true
+    c.two_pairs-x.ensures c.plus-sum.ensures
+
+pub returns : goal.returns
+returns c =
+    pairs_end c.requires c.with_first-sum.ensures c.loop-j.invariant c.loop-j-test.false

@@ -1,0 +1,13 @@
+-- `column` answers the verdict of a column of remainders. Assumes nothing.
+use mathlib.Core.List.{[]}
+use mathlib.Core.Path.{◌∙◌, ap}
+use lib.ListN.{length, drop}
+use Rattle.definitions.specs.Refusals.{verdict}
+use Rattle.expand_join.specs.Rows.{front-column}
+use Rattle.expand_join.proofs.column.Goals as goal
+
+pub returns : goal.returns
+returns c =
+    c.column.ensures
+    ∙ ap (λ ts. verdict ts []) (front-column c.args.m c.args.first c.args.list.now c.args.«zero» c.args.shared
+    (drop (length c.args.list.now) c.zeros-x.result) _ c.reduce_list.ensures)

@@ -1,0 +1,10 @@
+-- `share_inverse` meets its contract: its loop goes from the last entry down, and its measure is the place. Assumes what Sharable says.
+use lib.ListN.{get_or}
+use Rattle.inverses.specs.Sharing.{Sharing}
+use Rattle.inverses.proofs.share_inverse.Given as goal
+
+abbrev pub invariant-loop-i : goal.invariant-loop-i
+invariant-loop-i l = Sharing l.m (λ k. get_or l.list k 0) l.n l.initial.output l.output l.i l.shared
+
+abbrev pub decreases-loop-i : goal.decreases-loop-i
+decreases-loop-i l = l.i

@@ -1,0 +1,11 @@
+-- `join_lists` joins place by place. The loop's invariant: the places passed are joined. Assumes nothing.
+use Prim.Native.Nat.{◌-◌}
+use lib.ListN.{length}
+use Rattle.join.specs.Joining.{Joined}
+use Rattle.join.proofs.join_lists.Given as goal
+
+abbrev pub invariant-loop-i : goal.invariant-loop-i
+invariant-loop-i l = Joined l.m1 l.m2 l.first l.second l.initial.output l.output l.i
+
+abbrev pub decreases-loop-i : goal.decreases-loop-i
+decreases-loop-i l = length l.initial.output - l.i

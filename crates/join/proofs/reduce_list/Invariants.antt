@@ -1,0 +1,11 @@
+-- `reduce_list` reduces place by place. The loop's invariant: the places passed are reduced, the others as they were. Assumes nothing.
+use Prim.Native.Nat.{◌-◌}
+use lib.ListN.{length}
+use Rattle.join.specs.Reducing.{Reducing}
+use Rattle.join.proofs.reduce_list.Given as goal
+
+abbrev pub invariant-loop-i : goal.invariant-loop-i
+invariant-loop-i l = Reducing l.m l.list l.initial.out l.out l.i
+
+abbrev pub decreases-loop-i : goal.decreases-loop-i
+decreases-loop-i l = length l.list - l.i

@@ -1,0 +1,16 @@
+-- `decompose_after_expand` meets its law: Decompose undoes Expand on the lists that the calls hand out. Assumes nothing.
+use Rattle.laws.specs.RoundTrips.{first-refused, both-made, decompose-undoes-expand}
+use Rattle.laws.proofs.decompose_after_expand.Goals as goal
+
+pub returns-in_default : goal.returns-in_default
+returns-in_default c =
+    first-refused decompose-undoes-expand _ _ _ _ _ _ _ _ _ _
+    c.expand_by-answer.ensures _
+    c.in_default.is
+
+pub returns : goal.returns
+returns c =
+    both-made decompose-undoes-expand _ _ _ _ _ _ _ _ _ _
+    c.expand_by-answer.ensures
+    c.in-Finished.is _ _ _
+    c.decompose_by.ensures

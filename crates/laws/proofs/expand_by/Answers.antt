@@ -1,0 +1,13 @@
+-- `expand_by` meets its promise: the call of each way keeps it. Assumes nothing.
+use Rattle.definitions.specs.Conversion.{expand}
+use Rattle.laws.specs.ByWay.{by-plain, by-tree}
+use Rattle.laws.proofs.expand_by.Goals as goal
+
+pub returns-in-Plain : goal.returns-in-Plain
+returns-in-Plain c =
+    rw c.in-Plain.is (by-plain expand _ _ _ _ _ _ c.plain_expand.ensures)
+
+pub returns-in-Tree : goal.returns-in-Tree
+returns-in-Tree c =
+    rw c.in-Tree.is
+    (by-tree expand _ _ _ _ _ _ _ c.tree_expand.ensures)

@@ -1,0 +1,22 @@
+-- `take_line` takes one line. The loop's invariant: going on from where it is gives what going on from the start does. The measure is what is
+-- left of the piece. Assumes nothing.
+use native.Mathlib.Omega.{arith}
+use borrow.Author.Tests.{eq-eqb, ne_eqb}
+use Rattle.lines.specs.Taking.{taking-starts, taking-past, taking-ends, taking-on}
+use Rattle.lines.proofs.take_line.Goals as goal
+
+pub loop-i-init : goal.loop-i-init
+loop-i-init c = taking-starts _ _ _ _ c.requires.0 c.requires.1
+
+pub returns-then-byte-eq10 : goal.returns-then-byte-eq10
+returns-then-byte-eq10 c =
+    taking-ends _ _ _ _ _ _ _ c.loop-i.invariant (omega arith) _ _ c.keep_byte-n.ensures
+    (eq-eqb _ _ c.if-byte-eq10.true)
+
+pub loop-i-preserved : goal.loop-i-preserved
+loop-i-preserved c =
+    taking-on _ _ _ _ _ _ _ c.loop-i.invariant (omega arith) _ _ c.keep_byte-n.ensures
+    (ne_eqb _ _ c.if-byte-eq10.false) (omega arith)
+
+pub returns : goal.returns
+returns c = taking-past _ _ _ _ _ _ _ c.loop-i.invariant c.loop-i-test.false

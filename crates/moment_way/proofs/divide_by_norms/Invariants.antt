@@ -1,0 +1,12 @@
+-- `divide_by_norms` meets its contract: the laws of `Dividing` at the loop. The measure is what is left of the entries.
+-- Assumes nothing.
+use Prim.Native.Nat.{◌-◌}
+use Rattle.moment_way.specs.Decompose.{Dividing}
+use Rattle.moment_way.proofs.divide_by_norms.Given as goal
+
+abbrev pub invariant-loop-i : goal.invariant-loop-i
+invariant-loop-i l =
+    Dividing l.m l.a l.c_inverses l.close_a l.close_c_inverse l.n l.initial.output l.output l.signed l.i
+
+abbrev pub decreases-loop-i : goal.decreases-loop-i
+decreases-loop-i l = l.n - l.i

@@ -1,0 +1,15 @@
+-- `leading_inverse` meets its contract: the laws of `Multiplied` at the loop. The measure is what is left of the rows.
+-- Assumes nothing.
+use Rattle.moment_way.specs.Moments.{multiplied-starts, multiplied-next, multiplied-ends}
+use Rattle.moment_way.proofs.leading_inverse.Goals as goal
+
+pub loop-i-init : goal.loop-i-init
+loop-i-init c = multiplied-starts
+
+pub loop-i-preserved : goal.loop-i-preserved
+loop-i-preserved c =
+    multiplied-next c.loop-i.invariant c.loop-i-test.true c.row_entry-factor.ensures
+    c.product_by-result.ensures
+
+pub returns : goal.returns
+returns c = multiplied-ends c.loop-i.invariant c.loop-i-test.false

@@ -1,0 +1,22 @@
+-- `expand` meets its contract: the laws of `Expanding` at the loop. The measure is what is left of the steps.
+-- Assumes nothing.
+use Rattle.plain.specs.Expanding.{expanding-starts, expand-step-input, expand-step, expand-ends}
+use Rattle.plain.proofs.expand.Goals as goal
+
+pub loop-i-init : goal.loop-i-init
+loop-i-init c = expanding-starts _ _ _ _ _ c.zeros-current.ensures c.zeros-older.ensures
+
+pub expand_row-requires : goal.expand_row-requires
+expand_row-requires c =
+    expand-step-input c.requires c.loop-i-test.true c.loop-i.invariant
+    c.row_entry-p.ensures c.row_entry-q.ensures c.row_entry-r.ensures
+
+pub loop-i-preserved : goal.loop-i-preserved
+loop-i-preserved c =
+    expand-step c.requires c.loop-i-test.true c.loop-i.invariant
+    c.row_entry-p.ensures c.row_entry-q.ensures c.row_entry-r.ensures
+    c.expand_row.ensures
+
+pub returns : goal.returns
+returns c =
+    expand-ends c.requires c.loop-i-test.false c.loop-i.invariant c.copy.ensures

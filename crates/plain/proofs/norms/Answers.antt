@@ -1,0 +1,20 @@
+-- `norms` meets its contract: the laws of `Norming` at the loop. The measure is what is left of the norms.
+-- Assumes nothing.
+use Rattle.plain.specs.Norming.{norming-starts, norming-next, norming-ends}
+use Rattle.plain.proofs.norms.Goals as goal
+
+pub loop-i-init : goal.loop-i-init
+loop-i-init c = norming-starts
+
+pub loop-i-preserved : goal.loop-i-preserved
+loop-i-preserved c =
+    norming-next c.requires c.loop-i-test.true
+    c.loop-i.invariant
+    c.row_entry-p.ensures c.product_by.ensures
+    c.row_entry-r.ensures c.negative.ensures c.product_by-signed.ensures
+
+pub shape_of-output : goal.shape_of-output
+shape_of-output c = c.loop-i.invariant.written.same_length
+
+pub returns : goal.returns
+returns c = norming-ends c.requires c.loop-i-test.false c.loop-i.invariant

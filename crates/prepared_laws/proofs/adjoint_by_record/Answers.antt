@@ -1,0 +1,19 @@
+-- `adjoint_by_record` keeps its promise: where an append refuses nothing is touched; else the record is that of the family, and the operation on it
+-- keeps the promise of the call on the lists, by each way. Assumes nothing.
+use mathlib.Core.Path.{refl}
+use Rattle.definitions.specs.Conversion.{adjoint}
+use Rattle.prepared_laws.specs.Settled.{rows-refused, plain-settled, tree-settled}
+use Rattle.prepared_laws.proofs.adjoint_by_record.Goals as goal
+
+pub returns-in_default : goal.returns-in_default
+returns-in_default c = rows-refused _ _ _ _ _ _ c.by_appends-made.ensures _ _ _ c.in_default.is (refl, refl)
+
+pub returns-in-Plain : goal.returns-in-Plain
+returns-in-Plain c =
+    rw c.in-Plain.is (plain-settled _ _ _ _ _ _ c.by_appends-made.ensures c.in-Finished.is
+    _ _ _ _ _ adjoint _ c.plain_adjoint.ensures)
+
+pub returns-in-Tree : goal.returns-in-Tree
+returns-in-Tree c =
+    rw c.in-Tree.is (tree-settled _ _ _ _ _ _ c.by_appends-made.ensures c.in-Finished.is
+    _ _ _ _ _ adjoint _ _ c.tree_adjoint.ensures)

@@ -1,0 +1,13 @@
+-- `by_appends` keeps its promise. The loop's invariant: the record is that of the rows appended so far, and these are accepted. The measure
+-- is how many are left. Assumes nothing.
+use Prim.Native.Nat.{◌-◌}
+use lib.ListN.{length}
+use Rattle.prepared.specs.Held.{held}
+use Rattle.prepared_laws.specs.Growing.{Grown}
+use Rattle.prepared_laws.proofs.by_appends.Given as goal
+
+abbrev pub invariant-loop-i : goal.invariant-loop-i
+invariant-loop-i l = Grown l.m l.a l.b l.c l.i (held l.family)
+
+abbrev pub decreases-loop-i : goal.decreases-loop-i
+decreases-loop-i l = length l.a - l.i

@@ -1,0 +1,19 @@
+-- `decompose_by_record` keeps its promise: where an append refuses nothing is touched; else the record is that of the family, and the operation on it
+-- keeps the promise of the call on the lists, by each way. Assumes nothing.
+use mathlib.Core.Path.{refl}
+use Rattle.definitions.specs.Conversion.{decompose}
+use Rattle.prepared_laws.specs.Settled.{rows-refused, plain-settled, tree-settled}
+use Rattle.prepared_laws.proofs.decompose_by_record.Goals as goal
+
+pub returns-in_default : goal.returns-in_default
+returns-in_default c = rows-refused _ _ _ _ _ _ c.by_appends-made.ensures _ _ _ c.in_default.is (refl, refl)
+
+pub returns-in-Plain : goal.returns-in-Plain
+returns-in-Plain c =
+    rw c.in-Plain.is (plain-settled _ _ _ _ _ _ c.by_appends-made.ensures c.in-Finished.is
+    _ _ _ _ _ decompose _ c.plain_decompose.ensures)
+
+pub returns-in-Tree : goal.returns-in-Tree
+returns-in-Tree c =
+    rw c.in-Tree.is (tree-settled _ _ _ _ _ _ c.by_appends-made.ensures c.in-Finished.is
+    _ _ _ _ _ decompose _ _ c.tree_decompose.ensures)

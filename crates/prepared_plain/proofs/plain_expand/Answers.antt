@@ -1,0 +1,16 @@
+-- `plain_expand` meets its promise: it answers the verdict of its tests, and its core writes the definition's list. Assumes nothing.
+use Rattle.definitions.specs.Conversion.{expand}
+use Rattle.acceptance.specs.Promises.{tests-refuse}
+use Rattle.prepared_plain.specs.RecordCore.{plain-core, plain-made}
+use Rattle.prepared_plain.proofs.plain_expand.Goals as goal
+
+pub returns-in_default : goal.returns-in_default
+returns-in_default c = tests-refuse _ _ c.plain_verdict-tested.ensures _ c.in_default.is
+
+pub expand-requires : goal.expand-requires
+expand-requires c =
+    plain-core _ _ _ c.plain_verdict-tested.ensures c.in-Finished.is
+
+pub returns : goal.returns
+returns c =
+    plain-made _ _ _ c.plain_verdict-tested.ensures c.in-Finished.is expand c.expand.ensures

@@ -1,0 +1,16 @@
+-- `tree_adjoint` meets its promise: it answers the verdict of its tests, and its core, whose list is the tree model's, writes the
+-- definition's list and leaves the working list clear. Assumes nothing.
+use Rattle.acceptance.specs.Promises.{both-kept}
+use Rattle.prepared_tree.specs.RecordTree.{tree-core, adjoint-made}
+use Rattle.prepared_tree.proofs.tree_adjoint.Goals as goal
+
+pub returns-in_default : goal.returns-in_default
+returns-in_default c = both-kept c.tree_verdict-tested.ensures c.in_default.is
+
+pub adjoint-requires : goal.adjoint-requires
+adjoint-requires c =
+    tree-core _ _ _ _ c.tree_verdict-tested.ensures c.in-Finished.is
+
+pub returns : goal.returns
+returns c =
+    adjoint-made _ _ _ _ c.tree_verdict-tested.ensures c.in-Finished.is c.adjoint.ensures

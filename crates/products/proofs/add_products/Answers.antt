@@ -1,0 +1,34 @@
+-- `products::add_products` meets its contract: the loop's invariant is that k coefficients stand from place target on (`Writing`)
+-- and the rest is as it was; zeros that end both lists of a pair change none of them. The measure is what is left of them. Assumes
+-- nothing.
+use Rattle.numbers.specs.Regions.{writing-starts}
+use Rattle.products.specs.Places.{product-sources, product-next, product-ends}
+use Rattle.products.proofs.add_products.Goals as goal
+
+pub reciprocal-reciprocal-requires : goal.reciprocal-reciprocal-requires
+reciprocal-reciprocal-requires c = c.requires.least
+
+pub used_length-used-requires : goal.used_length-used-requires
+used_length-used-requires c = (c.requires.p_aside.source.inside, c.requires.r_aside.source.inside)
+
+pub used_length-held-requires : goal.used_length-held-requires
+used_length-held-requires c =
+    (c.requires.q_aside.source.inside, c.requires.s_aside.source.inside)
+
+pub loop-k-init : goal.loop-k-init
+loop-k-init c = writing-starts _ _ _ _ c.requires.room
+
+pub coefficient_or_start-v-requires : goal.coefficient_or_start-v-requires
+coefficient_or_start-v-requires c =
+    product-sources _ _ _ _ _ _ _ _ _ _ _ _ c.requires _ _ c.loop-k-test.true
+    c.loop-k.invariant c.used_length-used.ensures.used c.used_length-held.ensures.used c.reciprocal-reciprocal.ensures
+    _ c.entry-start.ensures
+
+pub loop-k-preserved : goal.loop-k-preserved
+loop-k-preserved c =
+    product-next _ _ _ _ _ _ _ _ _ _ _ _ c.requires _ _
+    c.loop-k-test.true c.loop-k.invariant c.used_length-used.ensures.used
+    c.used_length-held.ensures.used _ _ c.entry-start.ensures c.coefficient_or_start-v.ensures
+
+pub returns : goal.returns
+returns c = product-ends _ _ _ _ _ _ _ _ _ _ _ _ _ _ c.loop-k-test.false c.loop-k.invariant

@@ -1,0 +1,31 @@
+-- `products::transposed` meets its contract: the loop's invariant is that i terms stand from place target on (`Writing`) and the rest is
+-- as it was; zeros that end both multipliers or both lists change none of them. The measure is what is left of them. Assumes nothing.
+use Rattle.numbers.specs.Regions.{writing-starts}
+use Rattle.products.specs.Places.{transposed-term, transposed-next, transposed-ends}
+use Rattle.products.proofs.transposed.Goals as goal
+
+pub reciprocal-reciprocal-requires : goal.reciprocal-reciprocal-requires
+reciprocal-reciprocal-requires c = c.requires.least
+
+pub used_length-used-requires : goal.used_length-used-requires
+used_length-used-requires c = (c.requires.p_aside.source.inside, c.requires.q_aside.source.inside)
+
+pub used_length-held-requires : goal.used_length-held-requires
+used_length-held-requires c =
+    (c.requires.v_aside.source.inside, c.requires.u_aside.source.inside)
+
+pub loop-i-init : goal.loop-i-init
+loop-i-init c = writing-starts _ _ _ _ c.requires.room
+
+pub term-x-requires : goal.term-x-requires
+term-x-requires c =
+    transposed-term _ _ _ _ _ _ _ _ _ _ c.requires _ _ c.loop-i-test.true c.loop-i.invariant
+    c.used_length-used.ensures.used c.used_length-held.ensures.used c.reciprocal-reciprocal.ensures
+
+pub loop-i-preserved : goal.loop-i-preserved
+loop-i-preserved c =
+    transposed-next _ _ _ _ _ _ _ _ _ _ c.requires _ _ c.loop-i-test.true c.loop-i.invariant
+    c.used_length-used.ensures.used c.used_length-held.ensures.used _ c.term-x.ensures
+
+pub returns : goal.returns
+returns c = transposed-ends _ _ _ _ _ _ _ _ _ _ _ _ c.loop-i-test.false c.loop-i.invariant

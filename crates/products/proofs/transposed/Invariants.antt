@@ -1,0 +1,12 @@
+-- `products::transposed` meets its contract: the loop's invariant is that i terms stand from place target on (`Writing`) and the rest is
+-- as it was; zeros that end both multipliers or both lists change none of them. The measure is what is left of them. Assumes nothing.
+use Prim.Native.Nat.{◌-◌}
+use Rattle.numbers.specs.Regions.{Writing}
+use Rattle.products.specs.Places.{transposed_entry}
+use Rattle.products.proofs.transposed.Given as goal
+
+abbrev pub invariant-loop-i : goal.invariant-loop-i
+invariant-loop-i l = Writing l.initial.w l.target l.n (transposed_entry l.m l.initial.w l.p l.q l.pn l.v l.u l.vn) l.w l.i
+
+abbrev pub decreases-loop-i : goal.decreases-loop-i
+decreases-loop-i l = l.n - l.i

@@ -1,0 +1,12 @@
+-- `has_key` says whether a key stands at a place. The loop's invariant: the bytes passed are those of the key.
+-- Assumes nothing.
+use Prim.Native.Nat.{◌-◌}
+use lib.ListN.{length}
+use Rattle.reader.specs.Keys.{Compared}
+use Rattle.reader.proofs.has_key.Given as goal
+
+abbrev pub invariant-loop-k : goal.invariant-loop-k
+invariant-loop-k l = Compared l.text l.at l.key l.k
+
+abbrev pub decreases-loop-k : goal.decreases-loop-k
+decreases-loop-k l = length l.key - l.k

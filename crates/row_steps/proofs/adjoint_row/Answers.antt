@@ -1,0 +1,32 @@
+-- `adjoint_row` meets its contract: the laws of `AdjointRow` at the loop. The measure is what is left of the count.
+-- Assumes nothing.
+use native.Mathlib.Omega.{arith}
+use Rattle.row_steps.specs.AdjointRow.{adjoint-row-starts, adjoint-row-summands, adjoint-row-next, adjoint-row-ends}
+use Rattle.row_steps.proofs.adjoint_row.Goals as goal
+
+pub reciprocal-reciprocal-requires : goal.reciprocal-reciprocal-requires
+reciprocal-reciprocal-requires c = omega (arith, c.requires.0.x_below)
+
+pub loop-i-init : goal.loop-i-init
+loop-i-init c = adjoint-row-starts _ _ _ _ _ _ _ c.requires.0
+
+pub combine-v-requires : goal.combine-v-requires
+combine-v-requires c = (
+  adjoint-row-summands _ _ _ _ _ _ _ c.requires.0 _ _ _
+      c.loop-i-test.true c.loop-i.invariant,
+  c.reciprocal-reciprocal.ensures,
+)
+
+pub loop-i-preserved : goal.loop-i-preserved
+loop-i-preserved c =
+    adjoint-row-next _ _ _ _ _ _ _ c.requires.0 _ _ _
+    c.loop-i-test.true c.loop-i.invariant _ c.combine-v.ensures
+
+pub shape_of-current : goal.shape_of-current
+shape_of-current c = c.loop-i.invariant.current_filling.same_length
+
+pub shape_of-older : goal.shape_of-older
+shape_of-older c = c.loop-i.invariant.older_filling.same_length
+
+pub returns : goal.returns
+returns c = adjoint-row-ends _ _ _ _ _ _ _ _ _ _ c.loop-i-test.false c.loop-i.invariant

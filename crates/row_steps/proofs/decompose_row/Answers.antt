@@ -1,0 +1,31 @@
+-- `decompose_row` meets its contract: the laws of `DecomposeRow` at the loop. The measure is what is left of the count.
+-- Assumes nothing.
+use native.Mathlib.Omega.{arith}
+use Rattle.row_steps.specs.DecomposeRow.{multiplying-starts, multiplying-summands, multiplying-next, multiplying-ends}
+use Rattle.row_steps.proofs.decompose_row.Goals as goal
+
+pub reciprocal-reciprocal-requires : goal.reciprocal-reciprocal-requires
+reciprocal-reciprocal-requires c = omega (arith, c.requires.p_below)
+
+pub loop-i-init : goal.loop-i-init
+loop-i-init c = multiplying-starts _ _ _ _ _ _ _ c.requires
+
+pub combine-v-requires : goal.combine-v-requires
+combine-v-requires c = (
+  multiplying-summands _ _ _ _ _ _ _ c.requires _ _ _ _ _
+      c.loop-i-test.true c.loop-i.invariant _ _
+      c.entry-above.ensures c.entry-next.ensures,
+  c.reciprocal-reciprocal.ensures,
+)
+
+pub loop-i-preserved : goal.loop-i-preserved
+loop-i-preserved c =
+    multiplying-next _ _ _ _ _ _ _ c.requires _ _ _ _ _
+    c.loop-i-test.true c.loop-i.invariant _ _
+    c.entry-above.ensures c.entry-next.ensures _ c.combine-v.ensures
+
+pub shape_of-current : goal.shape_of-current
+shape_of-current c = c.loop-i.invariant.filling.same_length
+
+pub returns : goal.returns
+returns c = multiplying-ends _ _ _ _ _ _ _ _ _ _ _ _ c.loop-i-test.false c.loop-i.invariant

@@ -1,0 +1,12 @@
+-- `decompose_row` meets its contract: the laws of `DecomposeRow` at the loop. The measure is what is left of the count.
+-- Assumes nothing.
+use Prim.Native.Nat.{◌-◌}
+use Rattle.row_steps.specs.DecomposeRow.{Multiplying}
+use Rattle.row_steps.proofs.decompose_row.Given as goal
+
+abbrev pub invariant-loop-i : goal.invariant-loop-i
+invariant-loop-i l =
+    Multiplying l.m l.p l.rise l.stay l.fall l.initial.current l.count l.current l.constant l.lead l.previous l.i
+
+abbrev pub decreases-loop-i : goal.decreases-loop-i
+decreases-loop-i l = l.count - l.i

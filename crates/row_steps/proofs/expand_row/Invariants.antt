@@ -1,0 +1,12 @@
+-- `expand_row` meets its contract: the laws of `ExpandRow` at the loop. The measure is what is left of the count.
+-- Assumes nothing.
+use Prim.Native.Nat.{◌-◌}
+use Rattle.row_steps.specs.ExpandRow.{ExpandingRow}
+use Rattle.row_steps.proofs.expand_row.Given as goal
+
+abbrev pub invariant-loop-i : goal.invariant-loop-i
+invariant-loop-i l =
+    ExpandingRow l.m l.x l.a l.b l.c l.initial.current l.initial.older l.count l.current l.older l.constant l.previous l.i
+
+abbrev pub decreases-loop-i : goal.decreases-loop-i
+decreases-loop-i l = l.count - l.i

@@ -1,0 +1,33 @@
+-- `subproduct::build` meets its contract: the measure is the number of pairs of rows. The halves are stored side by side, and what is
+-- joined of them behind (`build-stored`). Assumes nothing.
+use mathlib.Core.Path.{◌∙◌}
+use native.Mathlib.Omega.{arith}
+use Rattle.subproduct.specs.Build.{build-one, build-one-stored, build-left, build-right, build-join, build-stored}
+use Rattle.subproduct.proofs.+build.Goals as goal
+
+pub build_leaf-requires : goal.build_leaf-requires
+build_leaf-requires t c = build-one c.requires c.if-pairs-eq1.true
+
+pub returns-then-pairs-eq1 : goal.returns-then-pairs-eq1
+returns-then-pairs-eq1 t c =
+    build-one-stored c.requires c.if-pairs-eq1.true c.build_leaf.ensures
+
+pub build-requires : goal.build-requires
+build-requires t c =
+    (omega arith, build-left c.requires c.half_size-size.ensures)
+
+pub build-requires-2 : goal.build-requires-2
+build-requires-2 t c =
+    (omega arith, build-right c.requires c.half_size-size.ensures c.build.ensures)
+
+pub join-requires : goal.join-requires
+join-requires t c =
+    build-join c.requires c.half_size-size.ensures c.build.ensures c.build-2.ensures
+
+pub shape_of-w : goal.shape_of-w
+shape_of-w t c =
+    c.join.auto.w ∙ c.build-2.auto.w ∙ c.build.auto.w
+
+pub returns : goal.returns
+returns t c =
+    build-stored c.requires c.half_size-size.ensures c.build.ensures c.build-2.ensures c.join.ensures

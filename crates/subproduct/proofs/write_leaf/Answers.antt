@@ -1,0 +1,19 @@
+-- `subproduct::write_leaf` meets its contract: four lists of three side by side are the leaf's. Assumes nothing.
+use native.Mathlib.Omega.{arith}
+use Rattle.subproduct.specs.Leaf.{leaf-written}
+use Rattle.subproduct.proofs.write_leaf.Goals as goal
+
+pub overflow_add-at-2 : goal.overflow_add-at-2
+overflow_add-at-2 c =
+    omega (arith, c.requires.room, c.well_formed)
+
+pub overflow_add-at-3 : goal.overflow_add-at-3
+overflow_add-at-3 c =
+    omega (arith, c.requires.room, c.well_formed)
+
+pub returns : goal.returns
+returns c =
+    leaf-written c.requires
+    c.combine-b0.ensures c.combine-b1.ensures
+    c.combine-c0.ensures c.combine-c1.ensures c.combine-c2.ensures
+    c.store_three.ensures c.store_three-2.ensures c.store_three-3.ensures c.store_three-4.ensures

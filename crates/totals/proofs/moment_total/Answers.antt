@@ -1,0 +1,23 @@
+-- `moment_total` meets its contract: a loop that adds one row's total a turn, and `row_totals-moment_total` at its end. The measure is
+-- what is left of n.
+-- Assumes nothing.
+use mathlib.Core.Path.{◌∙◌}
+use native.Mathlib.Omega.{arith}
+use Rattle.totals.specs.Totals.{totalling-starts, totalling-next, totalling-ends, row_totals-moment_total}
+use Rattle.totals.proofs.moment_total.Goals as goal
+
+pub loop-i-init : goal.loop-i-init
+loop-i-init c = totalling-starts
+
+pub row_total-requires : goal.row_total-requires
+row_total-requires c = record { positive = omega arith; t_long = omega arith; moment_long = omega arith }
+
+pub loop-i-preserved : goal.loop-i-preserved
+loop-i-preserved c =
+    totalling-next c.loop-i.invariant c.loop-i-test.true
+    (rw (← c.row_total.ensures) c.product.ensures) c.sum-total.ensures
+
+pub returns : goal.returns
+returns c =
+    totalling-ends c.loop-i.invariant c.loop-i-test.false
+    ∙ row_totals-moment_total _ _ _ _ _ c.requires.positive c.requires.least

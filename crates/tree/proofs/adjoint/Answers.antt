@@ -1,0 +1,13 @@
+-- `tree::adjoint` meets its contract: with one entry there is no tree; otherwise the tree's answer stands, and the working list is cleared
+-- behind it. Assumes nothing.
+use mathlib.Core.Path.{refl}
+use Rattle.tree.specs.Core.{alone-adjoint, wiped-output}
+use Rattle.tree.proofs.adjoint.Goals as goal
+
+pub returns-then-n-eq1 : goal.returns-then-n-eq1
+returns-then-n-eq1 c =
+    alone-adjoint c.requires c.if-n-eq1.true refl c.clear.ensures
+
+pub returns : goal.returns
+returns c = wiped-output c.adjoint_tree.ensures
+    c.clear-2.ensures

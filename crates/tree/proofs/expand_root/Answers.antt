@@ -1,0 +1,26 @@
+-- `tree::expand_root` meets its contract: its loop fills the output from the front. The measure is what is left of the coefficients.
+-- Assumes nothing.
+use native.Mathlib.Omega.{arith}
+use Rattle.numbers.specs.Lists.{filling-start, filling-next}
+use Rattle.tree.specs.Root.{root-coefficient, root_ends}
+use Rattle.tree.proofs.expand_root.Goals as goal
+
+pub reciprocal-reciprocal-requires : goal.reciprocal-reciprocal-requires
+reciprocal-reciprocal-requires c = omega (arith, c.requires.modulus.least)
+
+pub loop-k-init : goal.loop-k-init
+loop-k-init c = (omega arith, filling-start)
+
+pub root_coefficient-requires : goal.root_coefficient-requires
+root_coefficient-requires c =
+    root-coefficient c.requires c.reciprocal-reciprocal.ensures c.loop-k-test.true
+
+pub loop-k-preserved : goal.loop-k-preserved
+loop-k-preserved c =
+    (omega arith, filling-next c.loop-k.invariant.1 (omega arith) c.root_coefficient.ensures)
+
+pub shape_of-output : goal.shape_of-output
+shape_of-output c = c.loop-k.invariant.1.same_length
+
+pub returns : goal.returns
+returns c = root_ends c.requires (omega arith) c.loop-k.invariant.1

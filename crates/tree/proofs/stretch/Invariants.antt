@@ -1,0 +1,12 @@
+-- `tree::stretch` meets its contract: the loop's invariant is that i entries stand from place at on (`Writing`) and the rest is as it was;
+-- the measure is what is left of them. Assumes nothing.
+use Prim.Native.Nat.{◌+◌, ◌-◌}
+use lib.ListN.{get_or, take}
+use Rattle.numbers.specs.Regions.{Writing}
+use Rattle.tree.proofs.stretch.Given as goal
+
+abbrev pub invariant-loop-i : goal.invariant-loop-i
+invariant-loop-i l = Writing l.initial.w l.at l.span (λ k. get_or (take l.n l.curve) (l.first + k) 0) l.w l.i
+
+abbrev pub decreases-loop-i : goal.decreases-loop-i
+decreases-loop-i l = l.span - l.i

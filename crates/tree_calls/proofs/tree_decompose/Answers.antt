@@ -1,0 +1,34 @@
+-- `tree_decompose` meets its promise: it answers the verdict of its tests, and its core, lent the inverses of the a and of the c, writes
+-- the definition's list and leaves the working list clear. Assumes nothing.
+use mathlib.Core.Path.{refl}
+use Rattle.definitions.specs.Conversion.{decompose}
+use Rattle.tree_calls.specs.MomentCore.{decompose-input}
+use Rattle.inverses.specs.InverseArray.{a-room, c-room, array-is}
+use Rattle.acceptance.specs.Promises.{both-kept}
+use Rattle.tree_calls.specs.TreeCore.{tree-input, tree-made}
+use Rattle.tree_calls.proofs.tree_decompose.Goals as goal
+
+pub returns-in_default : goal.returns-in_default
+returns-in_default c = both-kept c.tree-tested.ensures c.in_default.is
+
+pub of_list-requires : goal.of_list-requires
+of_list-requires c =
+    let input = tree-input c.tree-tested.ensures c.in-Finished.is in
+    a-room input.plain.accepted c.zeros-a_inverses.ensures
+
+pub of_list-requires-2 : goal.of_list-requires-2
+of_list-requires-2 c =
+    let input = tree-input c.tree-tested.ensures c.in-Finished.is in
+    c-room input.plain.accepted c.zeros-c_inverses.ensures
+
+pub decompose-requires : goal.decompose-requires
+decompose-requires c =
+    let input = tree-input c.tree-tested.ensures c.in-Finished.is in
+    decompose-input input.plain.accepted
+    (array-is input.plain.accepted c.zeros-a_inverses.ensures c.of_list.ensures)
+    (array-is input.plain.accepted c.zeros-c_inverses.ensures c.of_list-2.ensures) input
+
+pub returns : goal.returns
+returns c =
+    tree-made (tree-input c.tree-tested.ensures c.in-Finished.is) decompose decompose refl c.tree-tested.ensures c.in-Finished.is
+    c.decompose.ensures

@@ -1,0 +1,12 @@
+-- `put_bytes` copies bytes into an output. The loop's invariant: those passed are put, and nothing else has changed.
+-- Assumes nothing.
+use Prim.Native.Nat.{◌-◌}
+use lib.ListN.{length}
+use Rattle.writer.specs.Putting.{Copying}
+use Rattle.writer.proofs.put_bytes.Given as goal
+
+abbrev pub invariant-loop-k : goal.invariant-loop-k
+invariant-loop-k l = Copying l.initial.out l.at l.bytes l.out l.k
+
+abbrev pub decreases-loop-k : goal.decreases-loop-k
+decreases-loop-k l = length l.bytes - l.k

@@ -1,0 +1,12 @@
+-- `put_numbers` puts a list of numbers. The loop's invariant: those passed are put, with at most 11 bytes for each.
+-- Assumes nothing.
+use Prim.Native.Nat.{◌-◌}
+use lib.ListN.{length}
+use Rattle.writer.specs.Entries.{Listing}
+use Rattle.writer.proofs.put_numbers.Given as goal
+
+abbrev pub invariant-loop-k : goal.invariant-loop-k
+invariant-loop-k l = Listing l.initial.out l.at l.list l.out l.next l.k
+
+abbrev pub decreases-loop-k : goal.decreases-loop-k
+decreases-loop-k l = length l.list - l.k

@@ -1,0 +1,17 @@
+-- `zahupnik_write_job` returns 2 if its number names no operation; otherwise it writes the length and returns 0, or returns the refusal's
+-- number, and what the call that writes a job leaves stays. Assumes nothing.
+use Rattle.zahupnik.specs.Returning.{nothing-returned, length-returned, job-refusal-returned}
+use Rattle.zahupnik.proofs.zahupnik_write_job.Goals as goal
+
+pub returns-in_default : goal.returns-in_default
+returns-in_default c = nothing-returned _ _ _ _ _ c.choose-choice.ensures c.in_default.is
+
+pub returns-in-Value : goal.returns-in-Value
+returns-in-Value c =
+    length-returned _ _ _ _ _ _ c.choose-choice.ensures c.in-Named.is
+    _ _ c.write_job.ensures _ c.in-Value.is
+
+pub returns-in-Refused : goal.returns-in-Refused
+returns-in-Refused c =
+    job-refusal-returned _ _ _ _ _ _ c.choose-choice.ensures c.in-Named.is
+    _ _ c.write_job.ensures _ c.in-Refused.is
