@@ -116,8 +116,9 @@ module _ (f : Family) (all : (i : ℕ) → i < size f → HasInverse f.m (row_at
             (family_shape f ++ (between ++ ((entries_test f ∷ a_zero_test f ∷ a_inverse_test f ∷ s ∷ t ∷ []) ++ after))) values)
             (zeros-from-any-row (omega arith) first later) (c-from-any-row (omega arith) first later)
 
-  pub verdict-from-any-row : (ts : List Test) (call : CallOf f ts) (first : ℕ) (values : List ℕ)
-      → verdict (call_from first f call.before call.between call.after) values ≡ verdict ts values
-  verdict-from-any-row ts call first values =
-      verdict-behind call.before _ _ values (from-any-row call.between call.after values first first_c)
-      ∙ ap (λ ts. verdict ts values) (sym call.tests)
+pub verdict-from-any-row : (f : Family) (all : (i : ℕ) → i < size f → HasInverse f.m (row_at f i).c)
+    → (ts : List Test) (call : CallOf f ts) (first : ℕ) (values : List ℕ)
+    → verdict (call_from first f call.before call.between call.after) values ≡ verdict ts values
+verdict-from-any-row f all ts call first values =
+    verdict-behind call.before _ _ values (from-any-row f all call.between call.after values first first_c)
+    ∙ ap (λ ts. verdict ts values) (sym call.tests)

@@ -16,11 +16,13 @@ use Rattle.joining.specs.Whole.{remainder, in_range, joined, joined_list}
 use Rattle.joining.specs.Expanding.{Signed, coefficient, reduced_list, reduced, reduced_expand}
 use Rattle.joining.specs.Calls.{wholes_after, JoinCall, ExpandJoinCall}
 use Rattle.wholes.specs.Accepting.{Apart, JoinInput, ExpandJoinInput, join-finished, expand-join-finished}
-use Rattle.wholes.specs.Expanding.{coefficient-remainder, reduced-expand-length, reduced-expand-below, joined-true}
-use Rattle.wholes.specs.Joined.{joined-exact, same-modulo-both}
+use Rattle.wholes.specs.Expanding.{coefficient-remainder, reduced-expand-length, reduced-expand-below}
+use Rattle.wholes.proofs.Expanding.{joined-true}
+use Rattle.wholes.proofs.Joined.{joined-exact, same-modulo-both}
 use Rattle.wholes.specs.Reduction.{remainders-below}
-use Rattle.wholes.specs.Lists.{joined-list-entry, joined-list-range, joined-list-joins, joined-list-only, joined-list-first}
-use Rattle.wholes.specs.Lists.{joined-list-second}
+use Rattle.wholes.specs.Lists.{joined-list-entry}
+use Rattle.wholes.proofs.Lists.{joined-list-range, joined-list-joins, joined-list-only, joined-list-first}
+use Rattle.wholes.proofs.Lists.{joined-list-second}
 use Rattle.join_laws.specs.Laws.{JoinHolds, JoinLaw, ExpandJoinHolds, ExpandJoinLaw}
 use Rattle.join_laws.specs.Laws.{Lists, remainders, ChannelsInput, ChannelsHold, ChannelsLaw}
 

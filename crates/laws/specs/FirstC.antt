@@ -13,7 +13,8 @@ use Rattle.definitions.specs.Refusals.{Verdict, some_row, lowest_row, test, no_i
 use Rattle.definitions.specs.Refusals.{entries_test, a_zero_test, a_inverse_test, c_zero_test, c_inverse_test}
 use Rattle.definitions.specs.Refusals.{row_inverses, family_rows, value_tests, plain_tests, tree_tests, moments_tests, norms_tests}
 use Rattle.acceptance.specs.Verdicts.{not_below-false, some_from-equal, lowest-equal}
-use Rattle.theory.specs.FirstC.{begun, moments-first, norms-first}
+use Rattle.theory.specs.FirstC.{begun}
+use Rattle.theory.proofs.FirstC.{moments-first, norms-first}
 
 module _ (m : ℕ) (a b c : List ℕ) (close : Row) (x y : ℕ) (x_below : x < m) (y_below : y < m) where
   abbrev f : Family

@@ -4,5 +4,4 @@ pub mod ByWay
 pub mod RoundTrips
 pub mod Ways
 pub mod HandedOut
-pub mod Totalled
 pub mod FirstC

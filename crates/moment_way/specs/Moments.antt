@@ -14,7 +14,7 @@ use Rattle.std.proofs.Math.Seq.{length-take-le}
 use Rattle.definitions.specs.Family.{Family, Row, row_at, F, G}
 use Rattle.definitions.specs.Number.{table}
 use Rattle.definitions.specs.Orthogonality.{reversal, quotient, moments}
-use Rattle.tree_model.specs.Extended.{F-below, G-below}
+use Rattle.tree_model.proofs.Extended.{F-below, G-below}
 use Rattle.numbers.specs.Lists.{filled, filled-length, filled-below, filled-from}
 use Rattle.theory.specs.NormInverse.{leading-inverse}
 use Rattle.numbers.specs.RunningProduct.{running_product, running-below}

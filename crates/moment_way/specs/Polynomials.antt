@@ -15,7 +15,8 @@ use Rattle.definitions.specs.Family.{Family, Row, ones, size, F, G}
 use Rattle.definitions.specs.Number.{table}
 use Rattle.definitions.specs.Refusals.{work_length}
 use Rattle.theory.specs.Closing.{EqualLengths, closed_by}
-use Rattle.tree_model.specs.Extended.{extended, from_second, last_unit, tree-F, tree-G}
+use Rattle.tree_model.specs.Extended.{extended, from_second, last_unit}
+use Rattle.tree_model.proofs.Extended.{tree-F, tree-G}
 use Rattle.numbers.specs.Lists.{filled, filled-length, table-length, table-unique, snoc-entry, snoc-last}
 use Rattle.tree_model.specs.Tree.{with_tree, tree_expand}
 use Rattle.lists.specs.Entries.{cleared-length, cleared-twice}

@@ -1,3 +1,2 @@
 -- The laws over the calls that put a list in another order, and why they hold. Assumes nothing.
 pub mod Laws
-pub mod Holding

@@ -2,4 +2,3 @@
 pub mod PreparedLaws
 pub mod Growing
 pub mod RecordLaws
-pub mod Settled

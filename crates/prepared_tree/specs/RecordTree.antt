@@ -23,8 +23,8 @@ use Rattle.prepared_model.specs.Lending.{right-size, right-lent, right-curve, ri
 use Rattle.prepared_model.specs.Rightness.{right-long}
 use Rattle.tree.specs.Input.{Input, accepted-input}
 use Rattle.tree_model.specs.Tree.{tree_expand, tree_adjoint}
-use Rattle.tree_model.specs.TreeAdjoint.{tree-adjoint-accepted}
-use Rattle.tree_model.specs.TreeExpand.{tree-expand-accepted}
+use Rattle.tree_model.proofs.TreeAdjoint.{tree-adjoint-accepted}
+use Rattle.tree_model.proofs.TreeExpand.{tree-expand-accepted}
 
 -- ---- the conversions
 module _ (p : Prepared) (u output work : List ℕ) {r : Answer}

@@ -9,7 +9,8 @@ use Rattle.std.proofs.Math.Path.{sym, ap}
 use native.Mathlib.Omega.{arith}
 use Rattle.lines.specs.Determining.{alone}
 use Rattle.lines.specs.Lines.{lines_of, joined}
-use Rattle.lines.specs.Pieces.{kept, ended, unended, handed, ended-append, unended-append, ended-text, handed-lines}
+use Rattle.lines.specs.Pieces.{kept, ended, unended, handed, ended-append, unended-append}
+use Rattle.lines.proofs.Pieces.{ended-text, handed-lines}
 use Rattle.lines.specs.Walking.{Open}
 use Rattle.storing.specs.Printing.{printed_line, printed_input}
 use Rattle.store_lines.specs.Answering.{printed_lines, printed-append, printed-snoc, put-after, PieceAnswered}

@@ -14,7 +14,7 @@ use Rattle.numbers.specs.Regions.{part, written, part_left, part_right, part-res
 use Rattle.products.specs.Places.{Aside}
 use Rattle.tree_model.specs.Level.{span, span-zero, span-suc}
 use Rattle.tree_model.specs.Tree.{padded, leaf, join, node}
-use Rattle.tree_model.specs.TreeBelow.{node-below}
+use Rattle.tree_model.proofs.TreeBelow.{node-below}
 use Rattle.subproduct.specs.Layout.{Level, Halved, tree_size, tree_list, matrix_list, matrix_at, node_before, level-one, tree_list-length}
 use Rattle.subproduct.specs.Layout.{node_list-length, half-node, half-matrix, matrix_list-below}
 use Rattle.subproduct.specs.Leaf.{LeafInput}

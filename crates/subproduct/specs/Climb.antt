@@ -17,7 +17,8 @@ use Rattle.numbers.specs.Regions.{written-kept, kept_then, kept-part, kept-resid
 use Rattle.numbers.specs.Products.{Below}
 use Rattle.tree_model.specs.Tree.{Pair, expand_pair, up}
 use Rattle.tree_model.specs.TreeLengths.{PairLength, expand_pair-length}
-use Rattle.tree_model.specs.TreeBelow.{PairBelow, expand_pair-below, up-below}
+use Rattle.tree_model.specs.TreeBelow.{PairBelow}
+use Rattle.tree_model.proofs.TreeBelow.{expand_pair-below, up-below}
 use Rattle.products.specs.Places.{Aside}
 use Rattle.subproduct.specs.Layout.{Level, Halved, tree_size, tree_list, node_place, node_before, pair_list, matrix_at, pair_at, level-one}
 use Rattle.subproduct.specs.Layout.{tree_size-suc, tree_size-node, pair_list-length, pair_reads, tree-left, tree-right, tree-matrix}

@@ -19,7 +19,7 @@ use Rattle.numbers.specs.Regions.{part-written}
 use Rattle.numbers.specs.Regions.{written_one, written-more, written-kept, kept_then, kept-part, kept-residues}
 use Rattle.tree_model.specs.Tree.{Pair, node, first_terms, adjoint_pair, down}
 use Rattle.tree_model.specs.TreeLengths.{PairLength, adjoint_pair-length}
-use Rattle.tree_model.specs.TreeBelow.{adjoint_pair-below}
+use Rattle.tree_model.proofs.TreeBelow.{adjoint_pair-below}
 use Rattle.products.specs.Places.{Aside}
 use Rattle.subproduct.specs.Layout.{Level, Halved, tree_size, tree_list, node_place, node_before, pair_list, matrix_at, pair_at, lists_at}
 use Rattle.subproduct.specs.Layout.{level-one}

@@ -21,7 +21,8 @@ use Rattle.numbers.specs.Regions.{part, Apart, KeptOutside, part_left, part_righ
 use Rattle.numbers.specs.Products.{Below}
 use Rattle.tree_model.specs.Tree.{Matrix, Pair, node}
 use Rattle.tree_model.specs.TreeLengths.{MatrixLength, PairLength, node-length}
-use Rattle.tree_model.specs.TreeBelow.{MatrixBelow, PairBelow, append-below, node-below}
+use Rattle.tree_model.specs.TreeBelow.{MatrixBelow, PairBelow}
+use Rattle.tree_model.proofs.TreeBelow.{append-below, node-below}
 use Rattle.products.specs.Places.{Aside, aside-within, aside-kept}
 
 unfoldable pub tree_size : ℕ → ℕ

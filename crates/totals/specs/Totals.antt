@@ -7,18 +7,14 @@
 -- Proved: how such a loop starts, goes on and ends, and that the rows' totals weighed with s are the uncut product of s and t
 -- weighed with the moments.
 -- Assumes nothing.
+-- Theorems that go on from others stand in Totals of proofs/.
 use Rattle.std.specs.Prelude.{◌≡◌, List, ℕ, ◌+◌, ◌*◌, ◌-◌, ◌%◌, ◌<◌, ◌≤◌, length}
 use Rattle.std.proofs.Math.Path.{sym, ap, ap₂}
-use Rattle.std.proofs.Common.{◌∙◌, mod-lt, add-one, arith}
+use Rattle.std.proofs.Common.{◌∙◌, add-one, arith}
 use Rattle.std.proofs.Math.Nat.{zero-mod, mod-add-mod, add-mod-mod}
 use Rattle.std.proofs.Math.ListN.{get_or}
-use Rattle.algebra.specs.Residues.{Zmod, res, res-mod, res-mul, res-injective, mod-mul-mod}
+use Rattle.algebra.specs.Residues.{mod-mul-mod}
 use Rattle.definitions.specs.Number.{sum}
-use Rattle.definitions.specs.Orthogonality.{moment_total}
-use Rattle.numbers.specs.Residue.{residue-sum}
-use Rattle.theory.specs.Bridge.{entries}
-use Rattle.theory.specs.BilinearForm.{form, form-rows}
-use Rattle.theory.specs.ProductLaw.{res-moment_total}
 
 unfoldable pub row_total : ℕ → ℕ → List ℕ → List ℕ → ℕ → ℕ
 row_total m n t moment i = sum n (λ j. get_or t j 0 * get_or moment (i + j) 0) % m
@@ -66,17 +62,3 @@ module _ {m n : ℕ} {f : ℕ → ℕ} where
 -- ---- the terms of the norms' total
 pub product-of-three : (m x y z : ℕ) {p q : ℕ} → p ≡ x * y % m → q ≡ p * z % m → q ≡ x * y * z % m
 product-of-three m x y z d e = e ∙ ap (λ p. p * z % m) d ∙ mod-mul-mod (x * y) z m
-
--- ---- the moments' total by rows
-module _ (m n : ℕ) (s t moment : List ℕ) (pos : 0 < m) where
-  res-row_totals : res m pos (sum n (λ i. get_or s i 0 * row_total m n t moment i) % m)
-      ≡ form (Zmod m pos) n (entries m pos moment) (entries m pos s) (entries m pos t)
-  unfolding row_total
-  res-row_totals = simp (res-mod m pos, residue-sum m pos, res-mul m pos)
-      (sym (form-rows (Zmod m pos) n (entries m pos moment) (entries m pos s) (entries m pos t)))
-
-  pub row_totals-moment_total : 0 < n → sum n (λ i. get_or s i 0 * row_total m n t moment i) % m ≡ moment_total m n s t moment
-  unfolding moment_total
-  row_totals-moment_total h = res-injective m pos (sum n (λ i. get_or s i 0 * row_total m n t moment i) % m) (moment_total m n s t moment)
-      (mod-lt _ pos) (mod-lt _ pos)
-      (res-row_totals ∙ sym (res-moment_total m pos n s t moment h))

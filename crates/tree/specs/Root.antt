@@ -11,7 +11,8 @@ use Rattle.std.specs.Int.Count.{count_leading_zeros}
 use Rattle.std.proofs.lemmas.Nat.{leading_top}
 use Rattle.std.proofs.Math.ListN.{get_or}
 use Rattle.definitions.specs.Family.{Modulus}
-use Rattle.tree_model.specs.Level.{span, span-power, span-two, span-mono, level_for, level-covers, level-least, level-most, level-unique}
+use Rattle.tree_model.specs.Level.{span, span-power, span-two, span-mono, level_for}
+use Rattle.tree_model.proofs.Level.{level-covers, level-least, level-most, level-unique}
 use Rattle.numbers.specs.Lists.{Filling, filled, filling-stop}
 use Rattle.numbers.specs.Regions.{part, ResiduesIn}
 use Rattle.numbers.specs.Products.{Below, product_at, plus_product}

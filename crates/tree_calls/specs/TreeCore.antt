@@ -14,8 +14,8 @@ use Rattle.acceptance.specs.Stages.{stage-none}
 use Rattle.lists.specs.Held.{Output}
 use Rattle.lists.specs.Lent.{lent}
 use Rattle.tree_model.specs.Tree.{tree_expand, tree_adjoint}
-use Rattle.tree_model.specs.TreeExpand.{tree-expand-accepted}
-use Rattle.tree_model.specs.TreeAdjoint.{tree-adjoint-accepted}
+use Rattle.tree_model.proofs.TreeExpand.{tree-expand-accepted}
+use Rattle.tree_model.proofs.TreeAdjoint.{tree-adjoint-accepted}
 use Rattle.tree.specs.Input.{Input, accepted-input}
 use Rattle.lists.specs.Whole.{accepted-long, accepted-lent, lent-family, curve-held, output-whole}
 

@@ -2,6 +2,7 @@
 -- Proved: the remainders of the true coefficients are the list of Expand modulo m, on every signed family and curve (whole-reduced); where
 -- every true coefficient lies in the range of m m', the joined values of both lists are the true coefficients (joined-true).
 -- By one map of rings, from the whole numbers to the residues. Assumes nothing.
+-- Theorems that go on from others stand in Expanding of proofs/.
 use Rattle.std.specs.Prelude.{true, ℤ, pos, ◌+ℤ◌, ◌*ℤ◌}
 use mathlib.Core.List.{List, [], ◌∷◌, map}
 use Rattle.std.proofs.Math.Path.{◌≡◌, refl, ap, fun_ext}
@@ -15,16 +16,14 @@ use Rattle.algebra.specs.Ring.{CommRing}
 use Rattle.algebra.specs.Sum.{sum}
 use Rattle.algebra.specs.Variable.{shift}
 use Rattle.definitions.specs.Family.{size, row_at}
-use Rattle.definitions.specs.Number.{HasInverse, table}
+use Rattle.definitions.specs.Number.{table}
 use Rattle.numbers.specs.Lists.{get_or-default, table-length, table-entry}
 use Rattle.theory.specs.Bridge.{entries, rows_of, entries-expand, expand-curve}
 use Rattle.theory.specs.Recurrence.{Rows, term}
-use Rattle.joining.specs.Whole.{remainder, in_range, joined, joined_list}
+use Rattle.joining.specs.Whole.{remainder}
 use Rattle.joining.specs.Expanding.{Signed, signed_row, whole_times_x, whole_term, whole_sum, coefficient, whole_expand}
 use Rattle.joining.specs.Expanding.{reduced_list, reduced, reduced_expand}
 use Rattle.wholes.specs.Integers.{whole}
-use Rattle.wholes.specs.Joined.{joined-exact}
-use Rattle.wholes.specs.Lists.{joined-list-is}
 use Rattle.wholes.specs.Mapped.{map_rows, map-term}
 use Rattle.wholes.specs.Reduction.{remainder-lt, reduction, remainder-image}
 
@@ -137,15 +136,3 @@ module _ (m : ℕ) (two : 2 ≤ m) (s : Signed) (u : List ℤ) where
       let l : i ≤ length s.a = omega (arith, length-map (whole_expand s u) (remainder m), whole-expand-length s u) in
       get_or-map (remainder m) (whole_expand s u) i (pos 0) ∙ ap (remainder m) (whole-expand-entry s u i (pos 0) l) ∙ coefficient-remainder i l
       ∙ get_or-default (reduced_expand m s u) i 0 (remainder m (pos 0)) (omega (arith, reduced-expand-length)))
-
--- ---- on both moduli
-pub joined-true : (m m' : ℕ) → 2 ≤ m → 2 ≤ m' → HasInverse m' m → (s : Signed) (u : List ℤ)
-    → ((i : ℕ) → i ≤ length s.a → in_range (m * m') (coefficient s u i) ≡ true)
-    → joined_list m m' (reduced_expand m s u) (reduced_expand m' s u) ≡ whole_expand s u
-joined-true m m' two two' apart s u small =
-    sym (joined-list-is m m' (reduced_expand m s u) (reduced_expand m' s u) (whole_expand s u)
-    (reduced-expand-length m' two' s u ∙ sym (reduced-expand-length m two s u)) (whole-expand-length s u ∙ sym (reduced-expand-length m two s u))
-    (λ i h.
-    let l : i ≤ length s.a = omega (arith, reduced-expand-length m two s u) in
-    whole-expand-entry s u i (pos 0) l ∙ sym (ap₂ (joined m m') (sym (coefficient-remainder m two s u i l)) (sym (coefficient-remainder m' two' s u i l))
-    ∙ joined-exact m m' (omega arith) (omega arith) apart (coefficient s u i) (small i l))))

@@ -2,4 +2,3 @@
 pub mod Returned
 pub mod Choices
 pub mod Positive
-pub mod Returning

@@ -1,8 +1,8 @@
 -- `convolution::products_at` meets its contract: the loop's invariant is that the first t terms are in (`Multiplying`), and its measure is
 -- what is left of them. Assumes nothing.
 use Rattle.std.proofs.Common.{arith}
-use Rattle.convolution.specs.Coefficients.{multiplying-starts, multiplying-small, multiplying-plus, multiplying-next}
-use Rattle.convolution.specs.Coefficients.{multiplying-ends}
+use Rattle.convolution.proofs.Coefficients.{multiplying-starts, multiplying-small, multiplying-plus, multiplying-next}
+use Rattle.convolution.proofs.Coefficients.{multiplying-ends}
 use Rattle.convolution.proofs.products_at.Goals as goal
 
 pub loop-t-init : goal.loop-t-init

@@ -1,7 +1,7 @@
 -- `convolution::with_singles` meets its contract: the loop's invariant is that the terms before j are in (`Totalling`), and its measure is
 -- what is left of them. Assumes nothing.
 use Rattle.std.proofs.Common.{arith}
-use Rattle.convolution.specs.Steps.{singles-start, single-small, singles-plus, singles-next, singles-end}
+use Rattle.convolution.proofs.Steps.{singles-start, single-small, singles-plus, singles-next, singles-end}
 use Rattle.convolution.proofs.with_singles.Goals as goal
 
 pub loop-j-init : goal.loop-j-init

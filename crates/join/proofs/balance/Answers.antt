@@ -1,5 +1,5 @@
 -- `balance` answers the number of the range: its size is the lesser of u and what u lacks, negated above the half. Assumes nothing.
-use Rattle.join.specs.Joining.{size_fits, negated_fits, balance-negated, balance-kept}
+use Rattle.join.proofs.Joining.{size_fits, negated_fits, balance-negated, balance-kept}
 use Rattle.join.proofs.balance.Goals as goal
 
 pub overflow_cast-size : goal.overflow_cast-size

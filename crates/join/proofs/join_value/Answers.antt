@@ -2,7 +2,7 @@
 use mathlib.Core.Path.{◌∙◌}
 use mir.Syntax.{w64}
 use mir.ValLaws.{to_z-of_z}
-use Rattle.join.specs.Joining.{gap-fits, whole-fits, step_fits, lift-fits, lift-balances, joined_is}
+use Rattle.join.proofs.Joining.{gap-fits, whole-fits, step_fits, lift-fits, lift-balances, joined_is}
 use Rattle.join.proofs.join_value.Goals as goal
 
 pub overflow_mul-gap : goal.overflow_mul-gap

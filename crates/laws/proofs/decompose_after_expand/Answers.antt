@@ -1,5 +1,6 @@
 -- `decompose_after_expand` meets its law: Decompose undoes Expand on the lists that the calls hand out. Assumes nothing.
-use Rattle.laws.specs.RoundTrips.{first-refused, both-made, decompose-undoes-expand}
+use Rattle.laws.specs.RoundTrips.{decompose-undoes-expand}
+use Rattle.laws.proofs.RoundTrips.{first-refused, both-made}
 use Rattle.laws.proofs.decompose_after_expand.Goals as goal
 
 pub returns-in_default : goal.returns-in_default

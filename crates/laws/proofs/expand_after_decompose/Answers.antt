@@ -1,5 +1,6 @@
 -- `expand_after_decompose` meets its law: Expand undoes Decompose on the lists that the calls hand out. Assumes nothing.
-use Rattle.laws.specs.RoundTrips.{first-refused, both-made, expand-undoes-decompose}
+use Rattle.laws.specs.RoundTrips.{expand-undoes-decompose}
+use Rattle.laws.proofs.RoundTrips.{first-refused, both-made}
 use Rattle.laws.proofs.expand_after_decompose.Goals as goal
 
 pub returns-in_default : goal.returns-in_default

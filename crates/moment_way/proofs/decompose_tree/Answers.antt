@@ -7,7 +7,7 @@ use lib.ListN.{take}
 use Rattle.definitions.specs.Family.{row_of}
 use Rattle.definitions.specs.Orthogonality.{moments}
 use Rattle.lists.specs.Lent.{lent}
-use Rattle.moment_way.specs.Decompose.{decompose-moments, decompose-hankel, decompose-adjoint, decompose-divide, decompose-is}
+use Rattle.moment_way.proofs.DecomposeByMoments.{decompose-moments, decompose-hankel, decompose-adjoint, decompose-divide, decompose-is}
 use Rattle.moment_way.specs.Hankel.{Weighed, halves, first-long, hankel-copy, second-long, hankel-used, hankel-places}
 use Rattle.moment_way.specs.Hankel.{hankel-weighed}
 use Rattle.moment_way.proofs.decompose_tree.Goals as goal

@@ -1,5 +1,5 @@
 -- `back_after_first` meets its law: Even back of what Even first hands out returns the list. Assumes nothing.
-use Rattle.order_laws.specs.Holding.{trip-refused, trip-made}
+use Rattle.order_laws.proofs.Holding.{trip-refused, trip-made}
 use Rattle.order_laws.proofs.back_after_first.Goals as goal
 
 pub returns-in_default : goal.returns-in_default

@@ -1,5 +1,5 @@
 -- `expanded_even_first` meets its law of zeros. Assumes nothing.
-use Rattle.order_laws.specs.Holding.{expand-refused, expand-made}
+use Rattle.order_laws.proofs.Holding.{expand-refused, expand-made}
 use Rattle.order_laws.proofs.expanded_even_first.Goals as goal
 
 pub returns-in_default : goal.returns-in_default

@@ -1,5 +1,5 @@
 -- `first_after_back` meets its law: Even first of what Even back hands out returns the list. Assumes nothing.
-use Rattle.order_laws.specs.Holding.{trip-refused, trip-made}
+use Rattle.order_laws.proofs.Holding.{trip-refused, trip-made}
 use Rattle.order_laws.proofs.first_after_back.Goals as goal
 
 pub returns-in_default : goal.returns-in_default

@@ -4,7 +4,7 @@ use mathlib.Core.Path.{ap}
 use native.Mathlib.Omega.{arith}
 use lib.ListN.{length}
 use Rattle.plain.specs.Decomposing.{tables-filled, decomposing-starts}
-use Rattle.plain.specs.Decomposing.{decompose-step-input, decompose-step, decompose-ends}
+use Rattle.plain.proofs.Decomposing.{decompose-step-input, decompose-step, decompose-ends}
 use Rattle.plain.proofs.decompose.Goals as goal
 
 pub returns-then-n-gt128 : goal.returns-then-n-gt128

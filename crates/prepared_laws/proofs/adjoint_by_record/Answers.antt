@@ -2,7 +2,7 @@
 -- keeps the promise of the call on the lists, by each way. Assumes nothing.
 use mathlib.Core.Path.{refl}
 use Rattle.definitions.specs.Conversion.{adjoint}
-use Rattle.prepared_laws.specs.Settled.{rows-refused, plain-settled, tree-settled}
+use Rattle.prepared_laws.proofs.Settled.{rows-refused, plain-settled, tree-settled}
 use Rattle.prepared_laws.proofs.adjoint_by_record.Goals as goal
 
 pub returns-in_default : goal.returns-in_default

@@ -2,7 +2,7 @@
 -- keeps the promise of the call on the lists, by each way. Assumes nothing.
 use mathlib.Core.Path.{refl}
 use Rattle.definitions.specs.Conversion.{decompose}
-use Rattle.prepared_laws.specs.Settled.{rows-refused, plain-settled, tree-settled}
+use Rattle.prepared_laws.proofs.Settled.{rows-refused, plain-settled, tree-settled}
 use Rattle.prepared_laws.proofs.decompose_by_record.Goals as goal
 
 pub returns-in_default : goal.returns-in_default

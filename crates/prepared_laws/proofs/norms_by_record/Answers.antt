@@ -1,7 +1,7 @@
 -- `norms_by_record` keeps its promise: where an append refuses nothing is touched; else the record is that of the family, and the operation on it
 -- keeps the promise of the call on the lists. Assumes nothing.
 use mathlib.Core.Path.{refl}
-use Rattle.prepared_laws.specs.Settled.{rows-refused, norms-settled}
+use Rattle.prepared_laws.proofs.Settled.{rows-refused, norms-settled}
 use Rattle.prepared_laws.proofs.norms_by_record.Goals as goal
 
 pub returns-in_default : goal.returns-in_default

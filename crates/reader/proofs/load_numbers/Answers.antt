@@ -2,8 +2,8 @@
 -- loaded before it, is reading from where the list began. Assumes nothing.
 use native.Mathlib.Omega.{arith}
 use Rattle.reader.specs.Places.{number-found, number-missed}
-use Rattle.reader.specs.Loading.{list-past, list-empty, loading-starts}
-use Rattle.reader.specs.Loading.{loading-none, loading-past, loading-open, loading-next, loading-ends, loading-other}
+use Rattle.reader.proofs.Loading.{list-past, list-empty, loading-starts}
+use Rattle.reader.proofs.Loading.{loading-none, loading-past, loading-open, loading-next, loading-ends, loading-other}
 use Rattle.reader.proofs.load_numbers.Goals as goal
 
 pub returns-then-text-at : goal.returns-then-text-at

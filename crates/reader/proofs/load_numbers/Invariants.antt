@@ -2,7 +2,7 @@
 -- loaded before it, is reading from where the list began. Assumes nothing.
 use Prim.Native.Nat.{◌-◌}
 use lib.ListN.{length}
-use Rattle.reader.specs.Loading.{Loading}
+use Rattle.reader.proofs.Loading.{Loading}
 use Rattle.reader.proofs.load_numbers.Given as goal
 
 abbrev pub invariant-loop-i : goal.invariant-loop-i

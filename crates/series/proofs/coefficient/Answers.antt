@@ -1,7 +1,7 @@
 -- `coefficient` meets its contract: the laws of one coefficient in `Division`.
 -- Assumes nothing.
 use native.Mathlib.Omega.{arith}
-use Rattle.series.specs.Division.{coefficient-input, coefficient-fits, coefficient-is}
+use Rattle.series.proofs.Division.{coefficient-input, coefficient-fits, coefficient-is}
 use Rattle.series.proofs.coefficient.Goals as goal
 
 pub sum_at-sum-requires : goal.sum_at-sum-requires

@@ -2,7 +2,7 @@
 use mathlib.Core.Path.{refl, sym}
 use mathlib.Core.List.{[]}
 use lib.Seq.{length-take-le}
-use Rattle.text_laws.specs.Answered.{write-refused, text-inside, write-answered}
+use Rattle.text_laws.proofs.Answered.{write-refused, text-inside, write-answered}
 use Rattle.text_laws.proofs.write_and_answer.Goals as goal
 
 pub returns-in_default : goal.returns-in_default

@@ -3,7 +3,8 @@
 -- Assumes nothing.
 use mathlib.Core.Path.{◌∙◌}
 use native.Mathlib.Omega.{arith}
-use Rattle.totals.specs.Totals.{totalling-starts, totalling-next, totalling-ends, row_totals-moment_total}
+use Rattle.totals.specs.Totals.{totalling-starts, totalling-next, totalling-ends}
+use Rattle.totals.proofs.Totals.{row_totals-moment_total}
 use Rattle.totals.proofs.moment_total.Goals as goal
 
 pub loop-i-init : goal.loop-i-init

@@ -1,7 +1,8 @@
 -- `tree::adjoint` meets its contract: with one entry there is no tree; otherwise the tree's answer stands, and the working list is cleared
 -- behind it. Assumes nothing.
 use mathlib.Core.Path.{refl}
-use Rattle.tree.specs.Core.{alone-adjoint, wiped-output}
+use Rattle.tree.specs.Core.{wiped-output}
+use Rattle.tree.proofs.Core.{alone-adjoint}
 use Rattle.tree.proofs.adjoint.Goals as goal
 
 pub returns-then-n-eq1 : goal.returns-then-n-eq1

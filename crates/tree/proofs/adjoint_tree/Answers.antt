@@ -1,6 +1,6 @@
 -- `tree::adjoint_tree` meets its contract: each step is handed what it requires, and the last leaves the model's list (`core-adjoint`).
 -- Assumes nothing.
-use Rattle.tree.specs.Core.{core-build, core-pair, core-descend, core-room, core-copy, core-adjoint}
+use Rattle.tree.proofs.Core.{core-build, core-pair, core-descend, core-room, core-copy, core-adjoint}
 use native.Mathlib.Omega.{arith}
 use Rattle.tree.proofs.adjoint_tree.Goals as goal
 

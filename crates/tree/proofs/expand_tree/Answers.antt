@@ -1,6 +1,6 @@
 -- `tree::expand_tree` meets its contract: each step is handed what it requires, and the last leaves the model's list (`core-expand`).
 -- Assumes nothing.
-use Rattle.tree.specs.Core.{core-build, core-climb, core-root, core-expand}
+use Rattle.tree.proofs.Core.{core-build, core-climb, core-root, core-expand}
 use Rattle.tree.proofs.expand_tree.Goals as goal
 
 pub build-requires : goal.build-requires

@@ -2,7 +2,7 @@
 use mathlib.Core.Path.{sym, ap}
 use native.Mathlib.Omega.{arith}
 use Rattle.zahupnik.specs.Returned.{choice_of, choice}
-use Rattle.zahupnik.specs.Returning.{choice-past}
+use Rattle.zahupnik.proofs.Returning.{choice-past}
 use Rattle.zahupnik.proofs.choose.Goals as goal
 
 pub returns-in-0 : goal.returns-in-0

@@ -3,7 +3,7 @@ use mathlib.Core.Path.{sym, ◌∙◌, ap}
 use Rattle.definitions.specs.Answers.{valued}
 use Rattle.zahupnik.specs.Returned.{number}
 use Rattle.zahupnik.specs.Positive.{text-positive}
-use Rattle.zahupnik.specs.Returning.{value-returned, refusal-returned, text-returned}
+use Rattle.zahupnik.proofs.Returning.{value-returned, refusal-returned, text-returned}
 use Rattle.zahupnik.proofs.zahupnik_convert_text.Goals as goal
 
 pub returns-in-Value : goal.returns-in-Value

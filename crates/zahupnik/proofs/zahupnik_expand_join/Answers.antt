@@ -1,6 +1,6 @@
 -- `zahupnik_expand_join` returns the number of the answer of `expand_join::expand_join`, and leaves what that call leaves. Assumes nothing.
 use Rattle.zahupnik.specs.Positive.{expand-join-positive}
-use Rattle.zahupnik.specs.Returning.{wholes-returned}
+use Rattle.zahupnik.proofs.Returning.{wholes-returned}
 use Rattle.zahupnik.proofs.zahupnik_expand_join.Goals as goal
 
 pub returns : goal.returns

@@ -1,6 +1,6 @@
 -- `zahupnik_invert` writes the inverse and the factor and returns 0, or writes the factor alone and returns 13, or writes nothing and returns the
 -- number of another refusal. Assumes nothing.
-use Rattle.zahupnik.specs.Returning.{found-returned, without-returned, early-returned}
+use Rattle.zahupnik.proofs.Returning.{found-returned, without-returned, early-returned}
 use Rattle.zahupnik.proofs.zahupnik_invert.Goals as goal
 
 pub returns-in-Found : goal.returns-in-Found

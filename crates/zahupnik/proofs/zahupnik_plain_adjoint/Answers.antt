@@ -1,6 +1,6 @@
 -- `zahupnik_plain_adjoint` returns the number of the answer of `plain_calls::plain_adjoint`, and leaves what that call leaves. Assumes nothing.
 use Rattle.zahupnik.specs.Positive.{plain-positive}
-use Rattle.zahupnik.specs.Returning.{list-returned}
+use Rattle.zahupnik.proofs.Returning.{list-returned}
 use Rattle.zahupnik.proofs.zahupnik_plain_adjoint.Goals as goal
 
 pub returns : goal.returns

@@ -1,6 +1,6 @@
 -- `zahupnik_plain_expand` returns the number of the answer of `plain_calls::plain_expand`, and leaves what that call leaves. Assumes nothing.
 use Rattle.zahupnik.specs.Positive.{plain-positive}
-use Rattle.zahupnik.specs.Returning.{list-returned}
+use Rattle.zahupnik.proofs.Returning.{list-returned}
 use Rattle.zahupnik.proofs.zahupnik_plain_expand.Goals as goal
 
 pub returns : goal.returns

@@ -1,6 +1,6 @@
 -- `zahupnik_prepared_append` returns the number of the answer of `Prepared::append`, and the record that it hands out. Assumes nothing.
 use Rattle.zahupnik.specs.Positive.{append-positive}
-use Rattle.zahupnik.specs.Returning.{change-returned}
+use Rattle.zahupnik.proofs.Returning.{change-returned}
 use Rattle.zahupnik.proofs.zahupnik_prepared_append.Goals as goal
 
 pub returns : goal.returns

@@ -1,6 +1,6 @@
 -- `zahupnik_prepared_drop_last` returns the number of the answer of `Prepared::drop_last`, and the record that it hands out. Assumes nothing.
 use Rattle.zahupnik.specs.Positive.{drop-positive}
-use Rattle.zahupnik.specs.Returning.{change-returned}
+use Rattle.zahupnik.proofs.Returning.{change-returned}
 use Rattle.zahupnik.proofs.zahupnik_prepared_drop_last.Goals as goal
 
 pub returns : goal.returns

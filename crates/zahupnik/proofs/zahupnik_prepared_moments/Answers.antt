@@ -1,6 +1,6 @@
 -- `zahupnik_prepared_moments` returns the number of the answer of `prepared_tree::moments`, and leaves what that call leaves. Assumes nothing.
 use Rattle.zahupnik.specs.Positive.{prepared-moments-positive}
-use Rattle.zahupnik.specs.Returning.{list-returned-in}
+use Rattle.zahupnik.proofs.Returning.{list-returned-in}
 use Rattle.zahupnik.proofs.zahupnik_prepared_moments.Goals as goal
 
 pub returns : goal.returns

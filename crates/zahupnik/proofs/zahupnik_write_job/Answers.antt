@@ -1,6 +1,6 @@
 -- `zahupnik_write_job` returns 2 if its number names no operation; otherwise it writes the length and returns 0, or returns the refusal's
 -- number, and what the call that writes a job leaves stays. Assumes nothing.
-use Rattle.zahupnik.specs.Returning.{nothing-returned, length-returned, job-refusal-returned}
+use Rattle.zahupnik.proofs.Returning.{nothing-returned, length-returned, job-refusal-returned}
 use Rattle.zahupnik.proofs.zahupnik_write_job.Goals as goal
 
 pub returns-in_default : goal.returns-in_default

@@ -21,13 +21,14 @@ use Rattle.theory.specs.Bridge.{entries, entries-past, rows_of, entries-expand, 
 use Rattle.theory.specs.Closing.{EqualLengths, accepted-lengths, expand-close}
 use Rattle.theory.specs.Curves.{curves-equal-residues}
 use Rattle.theory.specs.Recurrence.{term, co-poly, poly-one}
-use Rattle.tree_model.specs.Level.{span, level_for, level-covers}
+use Rattle.tree_model.specs.Level.{span, level_for}
+use Rattle.tree_model.proofs.Level.{level-covers}
 use Rattle.tree_model.specs.ListSeries.{series, series-one-zero, series-plus_products, co-plus_product}
 use Rattle.tree_model.specs.Tree.{padded, F₁, Matrix, Pair, node, expand_pair, up, expand_at, tree_expand}
-use Rattle.tree_model.specs.TreeBelow.{expand_at-below}
+use Rattle.tree_model.proofs.TreeBelow.{expand_at-below}
 use Rattle.tree_model.specs.TreeClauses.{with_tree-cases}
 use Rattle.tree_model.specs.TreeLengths.{MatrixLength, PairLength, node-length, up-length, expand_at-length}
-use Rattle.tree_model.specs.TreeNodes.{F as series-F, Transition, node-transition, second-series}
+use Rattle.tree_model.proofs.TreeNodes.{F as series-F, Transition, node-transition, second-series}
 
 module _ (f : Family) (pos : 0 < f.m) (u : List ℕ) where
   abbrev Q : CommRing

@@ -23,16 +23,17 @@ use Rattle.theory.specs.Bridge.{entries, entries-past, rows_of, entries-adjoint,
 use Rattle.theory.specs.Closing.{EqualLengths, accepted-lengths, adjoint-close}
 use Rattle.theory.specs.Curves.{curves-equal-residues}
 use Rattle.theory.specs.Recurrence.{co-poly}
-use Rattle.tree_model.specs.Level.{span, level_for, level-covers}
+use Rattle.tree_model.specs.Level.{span, level_for}
+use Rattle.tree_model.proofs.Level.{level-covers}
 use Rattle.tree_model.specs.ListPairing.{transposed-pairing, transposed_sum-pairing}
 use Rattle.tree_model.specs.ListSeries.{series}
 use Rattle.tree_model.specs.Pairing.{pairing, pairing-here, pairing-one}
 use Rattle.tree_model.specs.Tree.{padded, F₀, F₁, Matrix, Pair, node, first_terms, adjoint_pair}
 use Rattle.tree_model.specs.Tree.{left_pair, right_pair, down, root_pair, adjoint_at, tree_adjoint}
-use Rattle.tree_model.specs.TreeBelow.{adjoint_at-below}
+use Rattle.tree_model.proofs.TreeBelow.{adjoint_at-below}
 use Rattle.tree_model.specs.TreeClauses.{with_tree-cases}
 use Rattle.tree_model.specs.TreeLengths.{MatrixLength, node-length, down-length, adjoint_at-length}
-use Rattle.tree_model.specs.TreeNodes.{F as series-F, Transition, node-transition, first-series, second-series}
+use Rattle.tree_model.proofs.TreeNodes.{F as series-F, Transition, node-transition, first-series, second-series}
 
 module _ (f : Family) (pos : 0 < f.m) (u : List ℕ) (long : length u ≡ size f) where
   abbrev Q : CommRing

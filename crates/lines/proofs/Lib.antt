@@ -1,0 +1,3 @@
+-- Theorems that go on from others: what stands beside the definitions of a module of specs/ has that module's name here. Assumes nothing.
+pub mod Determining
+pub mod Pieces

@@ -1,0 +1,7 @@
+-- Theorems that go on from others: what stands beside the definitions of a module of specs/ has that module's name here. Assumes nothing.
+pub mod Level
+pub mod TreeBelow
+pub mod TreeNodes
+pub mod TreeExpand
+pub mod TreeAdjoint
+pub mod Extended
