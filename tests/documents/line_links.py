@@ -16,6 +16,9 @@ LINKED = ROOT / "docs" / "THEOREMS.md"
 NOTE = "<!-- Where the names above are defined: the lines are written by `tests/documents/run --write`. -->"
 LINK = re.compile(r"\[`([^`]+)`\](?:\[([^\]]+)\])?(?!\()")
 TARGET = re.compile(r"^\[([^\]]+)\]: (\S+?)(?:#L(\d+))?$", flags=re.M)
+# The files that define what a document names: specifications, the lemmas in proofs/, and the code. A folder in proofs/ has
+# the proof of one function, which no document names.
+DEFINING = ("crates/*/specs/**/*.antt", "crates/*/proofs/*.antt", "crates/*/src/**/*.rt")
 DEFINED = {
     ".antt": re.compile(r"^ *(?:(?:abbrev|unfoldable|pub) )*(?:(?:record|data) (\S+)|([^\s(){}:;]+)(?: \{[^}]*\})* :)(?=\s|$)"),
     ".rt": re.compile(r'^ *(?:pub )?(?:extern "C" )?(?:fn|struct|enum|const) (\w+)'),
@@ -23,9 +26,9 @@ DEFINED = {
 
 
 def index():
-    """For every name that a contract, a specification or the code defines, its places: pairs of file and line."""
+    """For every name that a specification, a lemma or the code defines, its places: pairs of file and line."""
     places = {}
-    for path in sorted([*ROOT.glob("crates/*/specs/**/*.antt"), *ROOT.glob("crates/*/src/**/*.rt")]):
+    for path in sorted(path for files in DEFINING for path in ROOT.glob(files)):
         for number, line in enumerate(path.read_text(encoding="utf-8").splitlines(), 1):
             if match := DEFINED[path.suffix].match(line):
                 places.setdefault(next(filter(None, match.groups())), []).append((path, number))
