@@ -5,9 +5,8 @@
 --   Stands w at xs       the list xs stands in w from place at on
 --   TreeOutput     what they leave before the working list is cleared: the answer in the output, and in the working list the tree from
 --                  place 0 on and the way's vectors from place 9,212 on
--- Proved: each step is handed what it requires, the model's list comes out, and the tree and the vectors still stand at the end. For
--- n = 1 there is no tree, and the answer is that of F_0. Assumes nothing.
--- Theorems that go on from others stand in Core of proofs/.
+-- Proved: with one entry the output holds its remainder (alone-output); a working list that is wiped holds zeros (wiped-output). The steps
+-- from the lent lists to the answer stand in Core of proofs/. Assumes nothing.
 use Rattle.std.specs.Prelude.{◌≡◌, List, [], ◌∷◌, ◌++◌, ℕ, ◌+◌, ◌-◌, ◌%◌, ◌≤◌, length, get_or, set, replicate}
 use Rattle.std.proofs.Math.Path.{sym, ap, ap₂}
 use Rattle.std.proofs.Common.{◌∙◌, arith}
