@@ -1,6 +1,7 @@
 // Reads one job text from standard input and prints its answer text, or `refused=`, the number and byte 10, by one write. It reads no
 // further than the first byte that makes a text too long. What cannot be read or printed is said on standard error, and then standard
-// output holds no answer or a part of one, and the program ends with 1.
+// output holds no answer or a part of one, and the program ends with 1. Where nobody reads its output any more, it ends as by the signal for
+// that, with 141, and says nothing.
 #![tactic(auto)]
 
 ghost use Rattle.std.specs.Prelude.{◌≡◌, length};

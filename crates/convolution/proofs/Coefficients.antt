@@ -1,4 +1,6 @@
--- Theorems that go on from others: the head of Coefficients in specs/ says what is proved. Assumes nothing.
+-- The sum of a coefficient of two products, as its loop takes it.
+-- Proved of Multiplying: it begins with no term; the two products of a step fit 64 bits; a step puts one more term in; at the end the
+-- remainder of the sum is the coefficient of start + p q + r s. These rest on Totals of proofs/. Assumes nothing.
 use Rattle.std.specs.Prelude.{◌≡◌, ℕ, suc, ◌+◌, ◌-◌, ◌*◌, ◌%◌, ◌<◌, ◌≤◌, List, length, slice_index}
 use Rattle.std.proofs.Math.Path.{sym, ap}
 use Rattle.std.proofs.Common.{◌∙◌, ap₂, add_assoc, add-zero, arith}

@@ -1,4 +1,7 @@
--- Theorems that go on from others: the head of Steps in specs/ says what is proved. Assumes nothing.
+-- The steps of a transposed sum, as its loops take them.
+-- Proved: of one product a step, how the loop begins, goes on and ends; of both products, the same for the first pair where the count is
+-- odd and for the others, two pairs a step; the pairs of both and what is beside them make up the whole sum. These rest on TwoPairs, which
+-- an edit of specs/ changes, and on Totals of proofs/. Assumes nothing.
 use Rattle.std.specs.Prelude.{◌≡◌, ℕ, ◌+◌, ◌-◌, ◌*◌, ◌%◌, ◌<◌, ◌≤◌, List, length, slice_index, refl}
 use Rattle.std.proofs.Math.Path.{sym, ap}
 use Rattle.std.proofs.Common.{◌∙◌, add-zero, arith}

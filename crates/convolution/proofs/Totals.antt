@@ -1,4 +1,7 @@
--- Theorems that go on from others: the head of Totals in specs/ says what is proved. Assumes nothing.
+-- How a sum that wraps begins, goes on and ends.
+-- Proved of Totalling: it begins with nothing added; a step that adds the next terms keeps it; at the last place all terms are in. A sum
+-- that goes on from another has Added what its own terms come to. These rest on the field `whole` of Totalling, which an edit of specs/ changes.
+-- Assumes nothing.
 use Rattle.std.specs.Prelude.{◌≡◌, ℕ, ◌+◌, ◌-◌, ◌<◌, ◌≤◌}
 use Rattle.std.proofs.Math.Path.{sym}
 use Rattle.std.proofs.Common.{◌∙◌, ap, ap₂, add_assoc}

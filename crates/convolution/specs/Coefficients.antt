@@ -1,10 +1,9 @@
 -- The sum of the coefficient of x^k in start + p q + r s.
 --   ProductsInput   what it is taken of: residues, and lists of equal lengths side by side
 --   Multiplying     the sum in progress: of the terms i from first to end - 1, where p_i and q_{k-i} both reach, the first t
--- Proved: how it begins, that two products fit, how it goes on, and that it ends with the coefficient; where a product has no term, and
--- that its entries settle it.
+-- Proved: where a product has no term; the entries of two lists settle a coefficient of their product; the product with the polynomial 1;
+-- that two products fit 64 bits. How the sum begins, goes on and ends with the coefficient stands in Coefficients of proofs/.
 -- Assumes nothing.
--- Theorems that go on from others stand in Coefficients of proofs/.
 use Rattle.std.specs.Prelude.{◌≡◌, ℕ, zero, suc, ◌+◌, ◌-◌, ◌*◌, ◌<◌, ◌≤◌, List, [], ◌∷◌, length, slice_index, refl}
 use Rattle.std.proofs.Math.Path.{ap}
 use Rattle.std.proofs.Common.{◌∙◌, ap₂, mul-one, mul-zero, zero-add, zero-mul, arith}

@@ -4,8 +4,8 @@
 --   Reach p v i end            all p_j v_{i+j} with j below end lie within both lists, and fit
 --   SinglesInput, PairsInput   what a part of the sum is taken of: of one of the two products, of both side by side
 --   Pairs                      the sum of both in progress, two pairs a step from the first on where their count is odd
--- Proved: how each part begins, goes on and ends. Assumes nothing.
--- Theorems that go on from others stand in Steps of proofs/.
+-- Proved: two pairs fit 64 bits, and their sum is TwoPairs; the first pair is added where the count is odd, and nothing where it is even.
+-- How each part begins, goes on and ends stands in Steps of proofs/. Assumes nothing.
 use Rattle.std.specs.Prelude.{◌≡◌, ℕ, ◌+◌, ◌-◌, ◌*◌, ◌%◌, ◌<◌, ◌≤◌, List, length, slice_index}
 use Rattle.std.proofs.Math.Path.{sym, ap}
 use Rattle.std.proofs.Common.{◌∙◌, ap₂, add_assoc, add-zero, zero-add, arith}

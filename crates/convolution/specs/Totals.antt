@@ -5,8 +5,8 @@
 --   PlusInput             of a number that is added: it fits 64 bits, as the low bits do, and the wraps are few
 --   Added                 a sum to which so much was added, in so many steps at most
 --   Totalling             a sum in progress: it began with start and at most before wraps, and the terms of f from first to i - 1 are in
--- Proved: how a sum begins, goes on and ends. Assumes nothing.
--- Theorems that go on from others stand in Totals of proofs/.
+-- Proved: two products of such numbers fit 64 bits, and so do two pairs of them; a number added with its wrap is Added; what was added twice
+-- is Added as one. How a sum begins, goes on and ends stands in Totals of proofs/. Assumes nothing.
 use Rattle.std.specs.Prelude.{◌≡◌, ℕ, ◌+◌, ◌-◌, ◌*◌, ◌%◌, ◌<◌, ◌≤◌}
 use Rattle.std.proofs.Math.Path.{sym}
 use Rattle.std.proofs.Common.{◌∙◌, ap, add_assoc, zero-add, mul-le-mul}

@@ -1,6 +1,6 @@
 // The scope paper's figures through the public calls, one line each: the figure, the answer, and what the output then holds. Each
-// output is lent full of fours, so that a refusal is seen to leave it. A figure is a function of its own: the more lists a function makes, the longer its
-// proof is sought.
+// output is lent full of fours, so that a refusal is seen to leave it. A figure is a function of its own: the more lists a function makes,
+// the longer its proof is sought.
 #![tactic(auto)]
 
 use definitions::{Answer, InverseAnswer};

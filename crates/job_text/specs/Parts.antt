@@ -1,8 +1,8 @@
 -- The job text in the parts in which it is put into an output.
---   row_lines a b c rest     the lines of the rows, and then what follows;  rows_room  the most bytes of the lines
+--   row_lines a b c rest       the lines of the rows, and then what follows;  rows_room  the most bytes of the lines
 --   family_lines m a b c rest  the line of the modulus before these;  family_room  the most bytes of the four
---   request_lines op u      the lines of the operation and of the curve;  request_room  the most bytes of them
---   JobRoom out a b c u     the output has the 8,192 bytes that a job is lent, the lists at most 127 and 128 numbers
+--   request_lines op u         the lines of the operation and of the curve;  request_room  the most bytes of them
+--   JobRoom out a b c u        the output has the 8,192 bytes that a job is lent, the lists at most 127 and 128 numbers
 --   TextWritten w r old new r is the length of the job text, at most 8,192, and new is that text and then what old held
 -- Proved: the rows from their three lines, the family from these and its first, what is asked from its two, and the whole text from its
 -- parts. Assumes nothing.

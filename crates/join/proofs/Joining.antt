@@ -1,4 +1,7 @@
--- Theorems that go on from others: the head of Joining in specs/ says what is proved. Assumes nothing.
+-- What each step of joining comes to by words of 64 bits.
+-- Proved: the number of a range is found from its size, and fits; of two prepared moduli no product and no sum is too large; the sum that is
+-- made is below m m' and is balanced to the joined value. These rest on Prepared and Balancing, which edits of specs/ change.
+-- Assumes nothing.
 use Rattle.std.specs.Prelude.{◌≡◌, ℕ, suc, ◌+◌, ◌*◌, ◌-◌, ◌%◌, ◌≤◌, ◌<◌, ℤ, pos, negsuc, neg_ℤ, ◌-ℤ◌}
 use Rattle.std.proofs.Common.{sym, ◌∙◌, mul-le-mul, arith}
 use Rattle.std.proofs.Common.{Fits, SFits, to_z, of_z}

@@ -1,2 +1,4 @@
--- Theorems that go on from others: what stands beside the definitions of a module of specs/ has that module's name here. Assumes nothing.
+-- Lemmas stand here and not in specs/, so that an edit of a definition is refused by a proof.
+--   Joining   what each step of joining comes to, and that it fits
+-- Assumes nothing.
 pub mod Joining

@@ -4,8 +4,8 @@
 --   Remainders m m' xs ys l two lists of l entries at least, of which the first l are below m and below m'
 --   Balancing w u           u is below w, and w is a product of two moduli at most
 --   Joined                  a pass over two lists in progress: the first i places of the output are joined
--- Proved: no product and no sum is too large, what each step comes to, and how a pass begins, goes on and ends. Assumes nothing.
--- Theorems that go on from others stand in Joining of proofs/.
+-- Proved: what is found once for two moduli is Prepared; how a pass over two lists begins, goes on and ends. That no product and no sum is too
+-- large, and what each step comes to, stands in Joining of proofs/. Assumes nothing.
 use Rattle.std.specs.Prelude.{List, ◌≡◌, refl, ℕ, suc, ◌+◌, ◌*◌, ◌-◌, ◌/◌, ◌%◌, ◌≤◌, ◌<◌, ℤ, pos, length, get_or, set}
 use Rattle.std.specs.Prelude.{take}
 use Rattle.std.proofs.Common.{sym, ◌∙◌, ap₂, mod-lt, mul-suc, arith, below_more, length-set, get_or-set_same, get_or-set_other}

@@ -18,7 +18,7 @@ use Rattle.joining.specs.Expanding.{Signed, coefficient, whole_expand, reduced_l
 use Rattle.joining.specs.Calls.{JoinCall, ExpandJoinCall}
 use Rattle.wholes.specs.Accepting.{JoinInput, ExpandJoinInput}
 
--- v: what the answer says; a prime on a list marks it at exit, and m' is the second modulus
+-- v: what the answer says; a prime on a list marks it as the calls leave it, and m' is the second modulus
 pub record JoinHolds (m m' : ℕ) (xs ys : List ℕ) (v : Verdict) (output' : List ℤ) : Type 0 where
   pub finishes : v ≡ finished []
   pub each : (i : ℕ) → i < length xs → joins m m' (get_or xs i 0) (get_or ys i 0) (get_or output' i (pos 0)) ≡ true

@@ -1,8 +1,8 @@
 -- Whole numbers with a sign, and the joined value of two remainders. The kit's ℤ has pos n for n and negsuc n for -(n + 1).
---   remainder m v        from m = 1 on the number below m that v leaves modulo m: it differs from v by a multiple of m
---   in_range w v         2v is greater than -w and at most w
---   joins m m' x y v     v is in the range of m m', and leaves x modulo m and y modulo m'
---   joined m m' x y      the joined value: the whole number that joins, found by search, and 0 where there is none
+--   remainder m v           from m = 1 on the number below m that v leaves modulo m: it differs from v by a multiple of m
+--   in_range w v            2v is greater than -w and at most w
+--   joins m m' x y v        v is in the range of m m', and leaves x modulo m and y modulo m'
+--   joined m m' x y         the joined value: the whole number that joins, found by search, and 0 where there is none
 --   joined_list m m' xs ys  the joined values of two lists, place by place
 -- m and m' are the two moduli (the paper's channel numbers). Item 6 of the change requests. Assumes nothing.
 use Rattle.std.specs.Prelude.{Bool, true, false, ◌&&◌, List, [], ◌∷◌, ℕ, zero, suc, ◌*◌, ◌%◌, eqb, ℤ, pos, negsuc, neg_ℤ, ◌*ℤ◌}

@@ -1,3 +1,2 @@
-#![tactic(auto)]
-
 // Two channels, as definitions: it has no code, only what specs/ says.
+#![tactic(auto)]

@@ -1,4 +1,7 @@
--- Theorems that go on from others: the head of RoundTrips in specs/ says what is proved. Assumes nothing.
+-- Two calls, one there and one back, come to ThereAndBack.
+-- Proved: where the first call refuses, the answer is its number and the other lists stay; where it finishes, the second is made of the list
+-- that it handed out, and on an accepted family hands out the first list again. These rest on the law of RoundTripHolds, which an edit
+-- of specs/ changes. Assumes nothing.
 use Rattle.std.specs.Prelude.{◌≡◌, List, [], ◌++◌, ℕ, length}
 use Rattle.std.proofs.Common.{sym, ◌∙◌, ap}
 use Rattle.definitions.specs.Answers.{answered, after}

@@ -1,7 +1,7 @@
 -- The totals of the product law, taken of the lists that the calls handed out.
 -- Proved: on any two curves of an accepted family, with lists as long as their calls ask, the calls finish and the product law holds of the
 -- lists as they then are; where every call finished, the lists are as long as the totals ask; the totals, or the refusal, come to
--- Weighed. Assumes nothing.
+-- Weighed. These rest on the laws of specs/, which edits change. Assumes nothing.
 use Rattle.std.specs.Prelude.{◌≡◌, List, [], ◌∷◌, ℕ, suc, ◌+◌, ◌*◌, ◌-◌, ◌<◌, ◌≤◌, length}
 use Rattle.std.proofs.Common.{sym, ◌∙◌, ap, ap₂, arith}
 use Rattle.definitions.specs.Answers.{answered, cleared}

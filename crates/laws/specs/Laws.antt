@@ -64,7 +64,7 @@ pub record ProductLawHolds (f : Family) (u v : List ℕ) (r : Totals) (lent hand
   pub law : ProductLaw f u v handed.s handed.t handed.moment handed.norm
 
 -- ---- demand 2: the round trips, and both ways
--- one and two are the outputs of the two conversions; primes mark a list at exit
+-- one and two are the outputs of the two conversions; primes mark a list as the calls leave it
 pub record TwoCallsInput (f : Family) (u one two work : List ℕ) : Type 0 where
   pub accepted : Accepted f
   pub curve : Curve f u

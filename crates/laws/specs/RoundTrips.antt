@@ -1,8 +1,7 @@
 -- The round trips over the lists that the calls hand out, by either way each.
 --   Undoes there back   on an accepted family, `there` hands out a curve, and `back` makes of it the curve that it came from
--- Proved: Expand and Decompose undo one another; two calls, each with its own promise, come to ThereAndBack, whichever refuses.
--- Assumes nothing.
--- Theorems that go on from others stand in RoundTrips of proofs/.
+-- Proved: Expand and Decompose undo one another. That two calls, each with its own promise, come to ThereAndBack stands in RoundTrips of
+-- proofs/. Assumes nothing.
 use Rattle.std.specs.Prelude.{◌≡◌, List, ℕ, ◌<◌, ◌≤◌}
 use Rattle.std.proofs.Common.{arith}
 use Rattle.definitions.specs.Conversion.{expand, decompose}

@@ -1,4 +1,6 @@
--- Theorems that go on from others: the head of Determining in specs/ says what is proved. Assumes nothing.
+-- The lines of a text, one after the other, are the text (joined-lines). Bytes without a byte 10 are one line, or none (line-open).
+-- Both rest on lines_of and begun, which edits of specs/ change.
+-- Assumes nothing.
 use Rattle.std.specs.Prelude.{Bool, true, false, List, [], ◌∷◌, ◌≡◌, refl, ℕ, eqb}
 use Rattle.std.proofs.Common.{◌∙◌, ap}
 use Rattle.definitions.specs.Reading.{pick}

@@ -1,3 +1,6 @@
--- Theorems that go on from others: what stands beside the definitions of a module of specs/ has that module's name here. Assumes nothing.
+-- Lemmas stand here and not in specs/, so that an edit of a definition is refused by a proof.
+--   Determining   the lines one after the other are the text
+--   Pieces        of the pieces joined the same is kept as of the text
+-- Assumes nothing.
 pub mod Determining
 pub mod Pieces

@@ -1,4 +1,7 @@
--- Theorems that go on from others: the head of Pieces in specs/ says what is proved. Assumes nothing.
+-- However a text is cut into pieces, the same is kept of its lines.
+-- Proved: what is kept of the lines that end in a text, and of the one that it leaves open, is what is kept of its lines (ended-text); pieces
+-- keep the same as they do joined, and so the same as the lines of the whole text (handed-lines). These rest on lines_of, which edits of
+-- specs/ change. Assumes nothing.
 use Rattle.std.specs.Prelude.{Bool, true, false, List, [], ◌∷◌, ◌++◌, map, ◌≡◌, ℕ, zero, suc, ◌<◌, eqb, take}
 use Rattle.std.proofs.Common.{append_assoc, sym, ◌∙◌, ap, ap₂, arith}
 use Rattle.std.proofs.Math.Path.{refl}

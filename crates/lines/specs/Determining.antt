@@ -1,7 +1,6 @@
 -- What determines the lines of a text.
--- Proved: one after the other, they are the text (joined-lines); bytes without a byte 10, and then one, are the first line of what they begin
--- (line_first); bytes without one are one line, or none (line-open). Assumes nothing.
--- Theorems that go on from others stand in Determining of proofs/.
+-- Proved: bytes without a byte 10, and then one, are the first line of what they begin (line_first). In Determining of proofs/: the lines
+-- one after the other are the text (joined-lines); bytes without a byte 10 are one line, or none (line-open). Assumes nothing.
 use Rattle.std.specs.Prelude.{false, List, [], ◌∷◌, ◌++◌, ◌≡◌, refl, ℕ, eqb}
 use Rattle.definitions.specs.Text.{newline}
 use Rattle.lines.specs.Lines.{begun, lines_of}

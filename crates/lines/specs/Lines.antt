@@ -1,6 +1,6 @@
 -- The lines of a text. A line is counted with its byte 10; the bytes after the last byte 10, if there are any, are a line too.
---   lines_of t    the lines of t
---   joined ls    lists one after the other
+--   lines_of t  the lines of t
+--   joined ls   lists one after the other
 -- Item 7 of the change requests. Assumes nothing.
 use Rattle.std.specs.Prelude.{List, [], ◌∷◌, ◌++◌, ℕ, eqb}
 use Rattle.definitions.specs.Reading.{pick}

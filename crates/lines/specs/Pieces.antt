@@ -4,9 +4,8 @@
 --   ended room h t     what is kept of each line that ends in the piece t, which goes on with a line of which h is kept
 --   unended room h t   what is kept of the line that t leaves open
 --   handed room h ps   what is kept of every line of the pieces ps, of the one that the last leaves open too
--- Proved: each over two pieces, one after the other (ended-append, unended-append); of the lines of the pieces joined the same is kept, however a
--- text was cut into pieces (handed-lines); what is open of a line has no byte 10 (unended-unbroken). Assumes nothing.
--- Theorems that go on from others stand in Pieces of proofs/.
+-- Proved: each over two pieces, one after the other (ended-append, unended-append); what is open of a line has no byte 10 (unended-unbroken).
+-- That the same is kept of a text however it is cut (handed-lines) stands in Pieces of proofs/. Assumes nothing.
 use Rattle.std.specs.Prelude.{Bool, true, false, List, [], ◌∷◌, ◌++◌, ◌≡◌, ℕ, zero, suc, eqb, take}
 use Rattle.std.proofs.Common.{ap}
 use Rattle.std.proofs.Math.Path.{refl}

@@ -1,4 +1,7 @@
--- Theorems that go on from others: the head of Decompose in specs/ says what is proved. Assumes nothing.
+-- Decompose by the moments, step by step: the moments, the product with their Hankel matrix, Adjoint, and a division by the norms.
+-- Proved: each step is handed what it requires; the product that divides entry i is the inverse of norm i, so that the last step leaves
+-- Decompose; with one coefficient its remainder is the answer. These rest on `divided` and Weighed, which edits of specs/ change.
+-- Assumes nothing.
 use Rattle.std.specs.Prelude.{◌≡◌, refl, ℕ, suc, ◌+◌, ◌*◌, ◌-◌, ◌%◌, ◌≤◌, ◌<◌, length, take, drop, set, replicate}
 use Rattle.std.proofs.Math.Path.{sym, ap, ap₂}
 use Rattle.std.proofs.Common.{◌∙◌, arith, length-append, length-take-le, get_or-take}

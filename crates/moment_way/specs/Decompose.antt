@@ -2,9 +2,8 @@
 --   divided      entry i times the inverse of norm i, from the a and the inverses of the c
 --   DivideInput  what the loop over the entries is lent
 --   Dividing     that loop in progress: i entries are divided, and the product of the inverses of the c is up to there
--- Proved: how the loop begins, goes on and ends; what each step of Decompose is handed; the last leaves Decompose. With one coefficient
--- its remainder is the answer. Assumes nothing.
--- Theorems that go on from others stand in DecomposeByMoments of proofs/.
+-- Proved: how the loop begins, goes on and ends. What each step of Decompose is handed, and that the last leaves Decompose, stands in
+-- DecomposeByMoments of proofs/. Assumes nothing.
 use Rattle.std.specs.Prelude.{◌≡◌, refl, ℕ, ◌+◌, ◌*◌, ◌-◌, ◌%◌, ◌≤◌, ◌<◌, length, take, set}
 use Rattle.std.proofs.Common.{◌∙◌, add-one, arith}
 use mathlib.Core.List.{List}

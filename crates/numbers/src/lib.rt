@@ -1,3 +1,2 @@
-#![tactic(auto)]
-
 // Lists of numbers and numbers modulo m: no code, only the laws of specs/.
+#![tactic(auto)]

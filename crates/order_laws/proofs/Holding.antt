@@ -1,5 +1,7 @@
 -- Why the laws over the calls that put a list in another order hold: each list handed out is its definition, and so is what holds of the
--- definitions. Assumes nothing.
+-- definitions.
+-- Proved: a call and then the other come to OrderTrip, and Expand and then Even first to EvenExpanded, whichever call refuses. These rest on
+-- the laws of specs/, which edits change. Assumes nothing.
 use Rattle.std.specs.Prelude.{List, [], ◌++◌, ◌≡◌, ℕ, ◌*◌, ◌%◌, ◌≤◌, get_or}
 use Rattle.std.proofs.Common.{sym, ◌∙◌, arith}
 use Rattle.std.proofs.Math.Path.{ap}

@@ -20,7 +20,7 @@ use Rattle.storing.specs.Order.{half, even_first, arranged, opposite}
 use Rattle.storing.specs.Parity.{NoB, OnlyEven, OnlyOdd, even_part, odd_part}
 use Rattle.storing.specs.declared.Direction.{Direction}
 
--- ---- either after the other; one and two are the outputs of the two calls, and primes mark a list at exit
+-- ---- either after the other; one and two are the outputs of the two calls, and primes mark a list as the calls leave it
 pub record TripHolds (d : Direction) (xs : List ℕ) (v : Verdict) (one' two' : List ℕ) : Type 0 where
   pub finishes : v ≡ finished []
   pub first_is : one' ≡ arranged d xs

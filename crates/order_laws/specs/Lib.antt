@@ -1,2 +1,2 @@
--- The laws over the calls that put a list in another order, and why they hold. Assumes nothing.
+-- The laws over the calls that put a list in another order. Why they hold stands in Holding of proofs/. Assumes nothing.
 pub mod Laws

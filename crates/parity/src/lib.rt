@@ -1,3 +1,2 @@
-#![tactic(auto)]
-
 // Even powers first, as facts: it has no code, only what specs/ proves.
+#![tactic(auto)]

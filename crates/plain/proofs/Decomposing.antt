@@ -1,4 +1,7 @@
--- Theorems that go on from others: the head of Decomposing in specs/ says what is proved. Assumes nothing.
+-- Decompose in local arrays, step by step against the plain model.
+-- Proved: the arrays are what the model needs; what a step is lent; a step of the array is a step of the model; at the end the array holds
+-- Decompose. These rest on negative_product, which an edit of specs/ changes.
+-- Assumes nothing.
 use Rattle.std.specs.Prelude.{◌≡◌, List, ◌++◌, ℕ, suc, ◌+◌, ◌*◌, ◌-◌, ◌%◌, ◌≤◌, ◌<◌, take}
 use Rattle.std.proofs.Math.Path.{sym, ap}
 use Rattle.std.proofs.Common.{◌∙◌, mod-lt, mul-zero, add-one, arith, length-take-le}

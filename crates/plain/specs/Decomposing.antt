@@ -3,10 +3,8 @@
 --   negative_product m xs ys i               - xs_i ys_i, modulo m
 --   Tables m n v b c rise stay fall          the arrays of multiplication by x in the basis; v holds the inverses of the a
 --   Decomposing m n v b c p current i        the array matches the model's state after i steps
--- Proved: the arrays are what the model needs; how the loop starts, what its step is lent, how it goes on, and that it ends with
--- Decompose.
--- Assumes nothing.
--- Theorems that go on from others stand in Decomposing of proofs/.
+-- Proved: how the arrays are filled, and how the loop starts. What its step is lent, how it goes on, and that it ends with Decompose stands in
+-- Decomposing of proofs/. Assumes nothing.
 use Rattle.std.specs.Prelude.{◌≡◌, List, ℕ, ◌*◌, ◌-◌, ◌%◌, ◌≤◌, take}
 use Rattle.std.proofs.Math.Path.{sym, ap}
 use Rattle.std.proofs.Common.{◌∙◌, arith}

@@ -1,5 +1,6 @@
-// The public calls by the plain way, Norms, and Inverse. Each makes every test itself, ends on every input, and either converts or refuses with the scope
-// paper's number and touches nothing: none has a 'requires', and each has one 'ensures' that settles answer and output on every input.
+// The public calls by the plain way, Norms, and Inverse. Each makes every test itself, ends on every input, and either converts or refuses
+// with the scope paper's number and touches nothing: none has a 'requires', and each has one 'ensures' that settles answer and output on
+// every input.
 #![tactic(auto)]
 
 ghost use Rattle.std.specs.Prelude.{[]};

@@ -1,3 +1,2 @@
-#![tactic(auto)]
-
 // The plain ways as models on lists: no code, only the models and laws of specs/.
+#![tactic(auto)]

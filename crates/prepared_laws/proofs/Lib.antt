@@ -1,2 +1,4 @@
--- Theorems that go on from others: what stands beside the definitions of a module of specs/ has that module's name here. Assumes nothing.
+-- Lemmas stand here and not in specs/, so that an edit of a definition is refused by a proof.
+--   Settled   from the record made by appends to the promise of the call on the lists
+-- Assumes nothing.
 pub mod Settled

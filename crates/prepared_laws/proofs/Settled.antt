@@ -1,6 +1,7 @@
 -- From the record that was made by appends to the promise of the call on the lists.
 -- Proved: where an append refuses, the family is not accepted and the lists stay; where all finish, the family is accepted, its record is what
--- was made, and each operation on it keeps the promise of the call on the lists. Assumes nothing.
+-- was made, and each operation on it keeps the promise of the call on the lists. These rest on the laws of specs/, which edits change.
+-- Assumes nothing.
 use Rattle.std.specs.Prelude.{◌≡◌, List, [], ℕ}
 use Rattle.std.proofs.Common.{sym, ◌∙◌, ap, subst}
 use Rattle.definitions.specs.Answers.{answered, NormsCall, MomentsCall}

@@ -1,3 +1,2 @@
-#![tactic(auto)]
-
 // What is true of a prepared family: no code, only the facts of specs/.
+#![tactic(auto)]

@@ -1,2 +1,4 @@
--- Theorems that go on from others: what stands beside the definitions of a module of specs/ has that module's name here. Assumes nothing.
+-- Lemmas stand here and not in specs/, so that an edit of a definition is refused by a proof.
+--   Loading   one step of loading the numbers of a line
+-- Assumes nothing.
 pub mod Loading

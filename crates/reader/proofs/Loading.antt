@@ -1,7 +1,7 @@
 -- One step of loading the numbers of a line.
 --   onto done f               the answer f, with the numbers done before those that were read
 --   Loading t at old out k i  k numbers of the list that begins at place at are read and put into out, and the next begins at place i
--- Proved: how loading begins, goes on and ends. Assumes nothing.
+-- Proved: how loading begins, goes on and ends. These rest on `kept` of Storing, which an edit of specs/ changes. Assumes nothing.
 use Rattle.std.specs.Prelude.{◌≡◌, Bool, ℕ, zero, suc, ◌+◌, ◌-◌, ◌<◌, ◌≤◌, drop, set}
 use Rattle.std.proofs.Math.Path.{refl, sym, ap}
 use Rattle.std.proofs.Common.{◌∙◌, arith, length-drop}

@@ -3,7 +3,7 @@
 --   WrapsAfter wraps low x r     r is wraps, and one more where low is less than x, the last summand
 --   Unwrapped sum last spare r   r is sum, and spare more where sum is less than the last summand
 --   Shortened m wraps r          r has 32 bits and leaves the remainder of wraps
---   spare_of m v                  what 2^64 leaves beside the multiple v m
+--   spare_of m v                 what 2^64 leaves beside the multiple v m
 -- Proved: a sum and its count go on together (`wraps-next`), and both settle the remainder of the whole (`settled`).
 -- Assumes nothing.
 use Rattle.std.specs.Prelude.{◌≡◌, ℕ, ◌+◌, ◌-◌, ◌*◌, ◌/◌, ◌%◌, ◌<◌, ◌≤◌}

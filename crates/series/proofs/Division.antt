@@ -1,4 +1,7 @@
--- Theorems that go on from others: the head of Division in specs/ says what is proved. Assumes nothing.
+-- One coefficient of the quotient of two reversed polynomials.
+-- Proved: the products with the coefficients that stand are a transposed product with the polynomial as it lies, so that the sum is lent what
+-- it requires (coefficient-input); what is taken from the top coefficient fits 32 bits; what comes out is the coefficient of the definition
+-- (coefficient-is). These rest on Divides, which an edit of specs/ changes. Assumes nothing.
 use Rattle.std.specs.Prelude.{◌≡◌, List, ℕ, suc, ◌+◌, ◌*◌, ◌-◌, ◌%◌, ◌≤◌, ◌<◌, length, take}
 use Rattle.std.proofs.Math.Path.{sym, ap}
 use Rattle.std.proofs.Common.{◌∙◌, ap₂, mul-zero, zero-mul, mod-eq_of_lt}

@@ -4,10 +4,8 @@
 --   CoefficientInput   of coefficient k: the k coefficients before it
 --   QuotientInput      of all of them, with room for the answer
 --   Dividing           a quotient in progress: k coefficients stand
--- Proved: entries of a reversal; the products with the coefficients that stand are a transposed product with the polynomial as it
--- lies; how the loop begins, goes on and ends.
--- Assumes nothing.
--- Theorems that go on from others stand in Division of proofs/.
+-- Proved: entries of a reversal; how the loop begins, goes on and ends. What one coefficient is taken of, and that it is the definition's,
+-- stands in Division of proofs/. Assumes nothing.
 use Rattle.std.specs.Prelude.{◌≡◌, refl, List, ◌++◌, ℕ, zero, suc, ◌+◌, ◌*◌, ◌-◌, ◌%◌, ◌≤◌, ◌<◌, length, set}
 use Rattle.std.proofs.Math.Path.{sym, ap}
 use Rattle.std.proofs.Common.{◌∙◌, le_of_suc-le-suc}

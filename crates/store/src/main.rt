@@ -1,8 +1,9 @@
 // Answers each line of standard input by one line, as it comes: a list in the order that the line asks for, or `refused=` and a number. The
 // input may have any length, and its lines too: 4,096 bytes of it are held, and 8,193 of an open line. The lines that end in what a read brings
-// are answered before the next read. What cannot be read or written is said on standard error, and the program ends with 1; where nobody
-// reads its output any more, it ends as by the signal for that, with 141. In either case the line that is open and those after it have no answer, and the last answer that
-// was written may be a part of one. Where it ends with 0, every line was answered.
+// are answered before the next read.
+// What cannot be read or written is said on standard error, and the program ends with 1. Where nobody reads its output any more, it ends as by
+// the signal for that, with 141, and says nothing. In either case the line that is open and those after it have no answer, and the last answer
+// that was written may be a part of one. Where it ends with 0, every line was answered.
 // A proved loop has to end, and nothing that is known of a read says that an input does. So the loop over the reads has as many turns as no run
 // uses up: each brings a byte at least, or is the last.
 #![tactic(auto)]

@@ -19,7 +19,7 @@ use Rattle.definitions.specs.declared.Valued.{Valued}
 abbrev pub answer_to : WrittenJob → List ℕ
 answer_to w = answer_text w.operation (result (meant w))
 
--- text: the output for the job text; output: that for the answer text; primes mark a list at exit
+-- text: the output for the job text; output: that for the answer text; primes mark a list as the calls leave it
 pub record CarriedOutInput (w : WrittenJob) (text output work : List ℕ) : Type 0 where
   pub job : AcceptedJob (meant w)
   pub text_long : job_output_length ≤ length text

@@ -1,3 +1,2 @@
-#![tactic(auto)]
-
 // Writing and reading texts: no code, only the laws of specs/.
+#![tactic(auto)]

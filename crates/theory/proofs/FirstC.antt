@@ -1,4 +1,7 @@
--- Theorems that go on from others: the head of FirstC in specs/ says what is proved. Assumes nothing.
+-- c_1 shows in no list.
+-- Proved: Expand, Adjoint, Decompose, Moments and Norms are the same for every c_1, whether it has an inverse or not. So a family whose c_1
+-- is 0 has the lists of the one whose c_1 is 1. These rest on `begun`, which an edit of specs/ changes. Item 2 of the change requests.
+-- Assumes nothing.
 use Rattle.std.specs.Prelude.{◌≡◌, List, ◌∷◌}
 use Rattle.std.proofs.Math.Path.{refl, fun_ext}
 use Prim.Native.Nat.{ℕ, zero, suc, ◌<◌}

@@ -1,7 +1,7 @@
 -- The definitions, read as residues modulo m, are those of the ring of residues.
 --   entries m pos u      a list as a sequence of residues, zero past its end
 --   ring_rows m pos row  rows of numbers as rows of residues
---   rows_of f pos         the rows of a family, the closing row from row n on
+--   rows_of f pos        the rows of a family, the closing row from row n on
 -- Proves that the residues of F_j and G_j are the terms of the recurrence over the ring (term-further is the one over numbers), that
 -- the entries of Expand and Adjoint are sums in it, and that these lists are curves, which their residues settle.
 -- pos, that m is not zero, is all that is needed: no inverse, and nothing of the rows or of the curve. Assumes nothing.

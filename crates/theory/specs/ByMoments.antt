@@ -1,5 +1,5 @@
 -- Decompose by the moments, as the tree way works it.
---   hankel_product f p  p times the matrix whose entry (i, k) is moment i + k
+--   hankel_product f p     p times the matrix whose entry (i, k) is moment i + k
 --   moments_decompose f p  Adjoint of that, each entry divided by its norm
 -- Proves that this is Decompose, for every convertible family and every curve: F^t H F = D read as F^{-1} = D^{-1} F^t H.
 -- The report, Figure 3. Assumes nothing.

@@ -1,7 +1,7 @@
 -- The determinant of the reversals F*_i = rev(F_i, i + 1) and G*_i = rev(G_i, i + 1), over any commutative ring.
---   power R k            x^k
+--   power R k             x^k
 --   signed_product R ρ i  (-1)^i c_2 .. c_{i+1}
---   determinant R ρ i    F*_i G*_i - F*_{i+1} G*_{i-1}
+--   determinant R ρ i     F*_i G*_i - F*_{i+1} G*_{i-1}
 -- Proves that the determinant is (-1)^i c_2 .. c_{i+1} x^{2i}: each row multiplies it by - c x^2.
 -- The report, Section 3, equation (7) times F*_i F*_{i+1}. Assumes nothing.
 use Rattle.std.specs.Prelude.{◌≡◌, [], ◌∷◌}

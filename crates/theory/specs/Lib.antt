@@ -5,7 +5,7 @@
 --   round trips, linearity, the transposed identity: RoundTrip, Linear, TransposedIdentity
 --   moments, norms and the product law (demand 3): Reversal, Determinant, Favard, BilinearForm, Orthogonal, Quotient, Moments,
 --   ProductLaw, ByMoments, NormInverse
--- docs/THEOREMS.md leads from the demands to the statements. Assumes nothing.
+-- That c_1 shows in no list stands in FirstC of proofs/. docs/THEOREMS.md leads from the demands to the statements. Assumes nothing.
 pub mod Recurrence
 pub mod Operator
 pub mod Combination

@@ -1,3 +1,2 @@
-#![tactic(auto)]
-
 // What is true of the definitions: it has no code, only the laws of specs/.
+#![tactic(auto)]

@@ -4,10 +4,8 @@
 --   MomentTotalInput          what the moments' total assumes
 --   NormTotalInput            what the norms' total assumes
 --   Totalling m n f total k   total is the sum of the k first terms f modulo m, and k has not passed n
--- Proved: how such a loop starts, goes on and ends, and that the rows' totals weighed with s are the uncut product of s and t
--- weighed with the moments.
--- Assumes nothing.
--- Theorems that go on from others stand in Totals of proofs/.
+-- Proved: how such a loop starts, goes on and ends; two products modulo m are the product of three numbers. That the rows' totals come to the
+-- moments' total stands in Totals of proofs/. Assumes nothing.
 use Rattle.std.specs.Prelude.{◌≡◌, List, ℕ, ◌+◌, ◌*◌, ◌-◌, ◌%◌, ◌<◌, ◌≤◌, length}
 use Rattle.std.proofs.Math.Path.{sym, ap, ap₂}
 use Rattle.std.proofs.Common.{◌∙◌, add-one, arith}

@@ -1,4 +1,7 @@
--- Theorems that go on from others: the head of Core in specs/ says what is proved. Assumes nothing.
+-- Expand and Adjoint by the tree, step by step.
+-- Proved: each step is handed what it requires, by what the steps before it left; the last leaves the tree model's list, the tree and the
+-- vectors (core-expand, core-adjoint). For n = 1 there is no tree, and the answer is that of F_0 (alone-expand, alone-adjoint). These rest on
+-- PairOutput of RootPair, which an edit of specs/ changes. Assumes nothing.
 use Rattle.std.specs.Prelude.{◌≡◌, refl, List, [], ◌∷◌, ◌++◌, ℕ, zero, suc, ◌+◌, ◌*◌, ◌-◌, ◌%◌, ◌≤◌, ◌<◌, length, get_or, set}
 use Rattle.std.proofs.Math.Path.{sym, ap, ap₂, subst}
 use Rattle.std.proofs.Common.{◌∙◌, inl, arith, length-take, length-drop, length-take-le}

@@ -1,13 +1,12 @@
 -- Expand and Adjoint by the tree, from the lent lists to the answer.
---   stored_tree f  the least subproduct tree that covers the family, as it is stored
+--   stored_tree f        the least subproduct tree that covers the family, as it is stored
 --   expand_vectors f u   the pair of the root to which Expand has climbed
 --   adjoint_vectors f u  the pair of the root from which Adjoint descends, and behind it the entries to which it has come
 --   Stands w at xs       the list xs stands in w from place at on
---   TreeOutput     what they leave before the working list is cleared: the answer in the output, and in the working list the tree from
---                  place 0 on and the way's vectors from place 9,212 on
--- Proved: each step is handed what it requires, the model's list comes out, and the tree and the vectors still stand at the end. For
--- n = 1 there is no tree, and the answer is that of F_0. Assumes nothing.
--- Theorems that go on from others stand in Core of proofs/.
+--   TreeOutput           what they leave before the working list is cleared: the answer in the output, and in the working list the tree from
+--                        place 0 on and the way's vectors from place 9,212 on
+-- Proved: with one entry the answer is its remainder (alone-output); TreeOutput, with the working list wiped, is the Output of the answer
+-- (wiped-output). The steps from the lent lists to the answer stand in Core of proofs/. Assumes nothing.
 use Rattle.std.specs.Prelude.{◌≡◌, List, [], ◌∷◌, ◌++◌, ℕ, ◌+◌, ◌-◌, ◌%◌, ◌≤◌, length, get_or, set, replicate}
 use Rattle.std.proofs.Math.Path.{sym, ap, ap₂}
 use Rattle.std.proofs.Common.{◌∙◌, arith}

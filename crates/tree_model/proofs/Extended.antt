@@ -1,4 +1,7 @@
--- Theorems that go on from others: the head of Extended in specs/ says what is proved. Assumes nothing.
+-- F_n and G_{n-1} are Expand of 0 .. 0 1.
+-- Proved: neither a row more at the end nor a row less at the front changes what a row further on reads; Expand of 0 .. 0 1 gives F_n on
+-- `extended f` and G_{n-1} on `from_second (extended f)`, and so does the tree. Their coefficients are below m. These rest on the definitions
+-- of specs/, which edits change. The report, Figure 3. Assumes nothing.
 use Rattle.std.specs.Prelude.{◌≡◌, refl, List, [], ◌∷◌, ◌++◌, ℕ, zero, suc, ◌*◌, ◌%◌, ◌<◌, ◌≤◌, length, get_or, drop, replicate}
 use Rattle.std.proofs.Common.{sym, ◌∙◌, ap, subst, mod-lt, mod-eq_of_lt, one-mul, zero-mul, arith}
 use Rattle.std.proofs.Math.Path.{fun_ext}

@@ -1,4 +1,7 @@
--- Theorems that go on from others: the head of Level in specs/ says what is proved. Assumes nothing.
+-- The least level that covers n.
+-- Proved for every n: the level of n covers it and is the least that does; a level whose span is n or more and less than 2 n is that one;
+-- up to n = 256 the span is 256 at most. These rest on level_from, which an edit of specs/ changes.
+-- Assumes nothing.
 use Rattle.std.specs.Prelude.{◌≡◌, refl, Bool, true, false, ℕ, zero, suc, ◌+◌, ◌*◌, ◌<◌, ◌≤◌, leb}
 use Rattle.std.proofs.Common.{add-zero, add-suc, suc-add, zero-add, le_of_suc-le-suc, leb-true}
 use Rattle.std.proofs.Common.{leb-false}

@@ -2,8 +2,8 @@
 --   Terms f pos u n k xs    the n first numbers of xs are those of u against F_k, x F_k, x^2 F_k, ..
 --   Values f pos u n t v    the two lists of the pair v are such terms for F_t and F_{t+1}
 -- Proved: the root's pair has such terms, as many as the tree has rows; with 2 n of them at a node the left half has n by cutting
--- and the right half n by transposed products; at the leaves the first of them are Adjoint's entries. No inverse is needed.
--- The report, Figure 2, with the length of v_1 repaired. Assumes nothing.
+-- and the right half n by transposed products; at the leaves the first of them are Adjoint's entries. No inverse is needed. These rest on
+-- TreeNodes of proofs/. The report, Figure 2, with the length of v_1 repaired. Assumes nothing.
 use Rattle.std.specs.Prelude.{◌≡◌, List, [], ◌∷◌, ◌++◌, length, get_or}
 use Rattle.std.proofs.Common.{sym, ◌∙◌, add-one, arith, get_or-append-add, get_or-take}
 use Rattle.std.proofs.Math.Path.{ap}

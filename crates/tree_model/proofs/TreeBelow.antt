@@ -1,4 +1,7 @@
--- Theorems that go on from others: the head of TreeBelow in specs/ says what is proved. Assumes nothing.
+-- The entries of the tree's lists are below m.
+-- Proved: of the matrices, where the rows are below m; of the pairs on the way up, where the curve is; of Expand's answer; of the pairs on the
+-- way down and of Adjoint's answer. These rest on the model in Tree of specs/, which edits change.
+-- Assumes nothing.
 use Rattle.std.specs.Prelude.{List, [], ◌∷◌, ◌++◌, ℕ, zero, suc, ◌+◌, ◌<◌, take}
 use Rattle.std.proofs.Common.{mod-lt, arith}
 use Rattle.definitions.specs.Family.{Family, Row, size, row_at, RowBelow}

@@ -1,8 +1,8 @@
 -- The tree's Expand is Expand, for every modulus but 0, every family of equally long lists and every list of n numbers.
 --   Combination f pos u n t v   v_0 F_t + v_1 F_{t+1} is the sum of u_j F_j over the n places from t on
 -- Proved: the pairs that `up` makes are such combinations, the root's among them, so that v_0 F_0 + v_1 F_1 is the sum of all; the
--- padding adds nothing, since the curve is zero there. No inverse is needed. The report, Figure 1 and equation (4).
--- Assumes nothing.
+-- padding adds nothing, since the curve is zero there. No inverse is needed. These rest on TreeNodes of proofs/. The report, Figure 1 and
+-- equation (4). Assumes nothing.
 use Rattle.std.specs.Prelude.{◌≡◌, List, [], ◌∷◌, length, get_or}
 use Rattle.std.proofs.Math.Path.{sym, ap, ap₂}
 use Rattle.std.proofs.Common.{◌∙◌, add_assoc, add-zero, zero-add, add-one, arith}

@@ -1,8 +1,8 @@
 -- What the matrices of the tree are.
 --   Transition f pos n t x   the matrix x takes F_t, F_{t+1} to F_{t+n}, F_{t+n+1}, over the residues modulo m
 -- Proved: the leaf over a pair of rows does with n = 2; if the left half does and then the right half does, so does the right half
--- times the left half; hence every node does with the number of its rows. The report, section 2, before Figure 1: the matrices
--- M^(i,j) and their associativity. Assumes nothing.
+-- times the left half; hence every node does with the number of its rows. These rest on `node` of Tree, which edits of specs/ change. The
+-- report, section 2, before Figure 1: the matrices M^(i,j) and their associativity. Assumes nothing.
 use Rattle.std.specs.Prelude.{◌≡◌, List, [], ◌∷◌, length}
 use Rattle.std.proofs.Common.{sym, ◌∙◌, ap₂}
 use Rattle.std.proofs.Math.Path.{ap}

@@ -2,10 +2,8 @@
 --   extended f     f with its closing row as one row more: r + 1 rows
 --   from_second f  the family that begins with row 2 of f
 --   last_unit r    the list 0 .. 0 1 of r + 1 numbers
--- Proved: neither changes what a row further on reads, so that Expand of 0 .. 0 1 gives F_n (n + 1 coefficients) on `extended f` and
--- G_{n-1} (n coefficients) on `from_second (extended f)`; the tree gives the same. The polynomials' coefficients are below m.
--- The report, Figure 3. Assumes nothing.
--- Theorems that go on from others stand in Extended of proofs/.
+-- Expand of 0 .. 0 1 gives F_n (n + 1 coefficients) on `extended f` and G_{n-1} (n coefficients) on `from_second (extended f)`, and so does
+-- the tree: Extended of proofs/ proves it. The report, Figure 3. Assumes nothing.
 use Rattle.std.specs.Prelude.{List, [], ◌∷◌, ◌++◌, ℕ, drop, replicate}
 use Rattle.definitions.specs.Family.{Family}
 

@@ -1,11 +1,10 @@
 -- How many rows a tree covers: the least power of two, from 2 on, that is not below n.
 --   span l       the rows under a node of level l, 2 times 2^l: 2, 4, 8, ..
 --   level_for n  the least level whose span is n or more
--- Proved for every n: the level covers n and is the least that does; a level whose span is n or more and less than 2 n is that one,
--- which is what code shows of the leading zeros of n - 1. Up to n = 256 the span is 256 at most, and it covers the
--- n + 1 = 129 coefficients of F_n at 127 rows. The report, section 2; the scope paper, 'The tree covers the least power of two'.
--- Assumes nothing.
--- Theorems that go on from others stand in Level of proofs/.
+-- Proved: a span is a power of two, a higher level has at least twice the span. In Level of proofs/, for every n: the level covers n and is the
+-- least that does; a level whose span is n or more and less than 2 n is that one, which is what code shows of the leading zeros of n - 1. Up
+-- to n = 256 the span is 256 at most, and it covers the n + 1 = 129 coefficients of F_n at 127 rows. The report, section 2; the scope paper,
+-- 'The tree covers the least power of two'. Assumes nothing.
 use Rattle.std.specs.Prelude.{◌≡◌, refl, true, false, ◌⊎◌, ℕ, zero, suc, ◌+◌, ◌*◌, ◌^◌, ◌<◌, ◌≤◌, leb}
 use Rattle.std.proofs.Common.{ap, inl, inr, eq-or-lt_of_le, le_refl, le_of_suc-le-suc}
 use native.Mathlib.Omega.{arith}

@@ -4,7 +4,7 @@
 --   that it is Expand, by lists as power series: ListSeries, and in proofs/ TreeNodes, TreeExpand
 --   that it is Adjoint, by transposed products as values of a linear form: Pairing, ListPairing, and in proofs/ TreeAdjoint
 --   F_n and G_{n-1} by it: Extended
--- Assumes nothing.
+-- The theorems on Level, TreeBelow and Extended stand under the same names in proofs/. Assumes nothing.
 pub mod Level
 pub mod Tree
 pub mod TreeClauses

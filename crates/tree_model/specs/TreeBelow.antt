@@ -1,9 +1,7 @@
 -- The entries of the tree's lists are below m.
 --   MatrixBelow m x, PairBelow m v   the entries of the matrix x, of the pair v, are below m
 -- Most entries are remainders. A leaf copies entries of a row, the pair of a leaf copies entries of the curve and `down` those of
--- its pair, so these must be below m to begin with.
--- Assumes nothing.
--- Theorems that go on from others stand in TreeBelow of proofs/.
+-- its pair, so these must be below m to begin with. That all are stands in TreeBelow of proofs/. Assumes nothing.
 use Rattle.std.specs.Prelude.{ℕ}
 use Rattle.numbers.specs.Products.{Below}
 use Rattle.tree_model.specs.Tree.{Matrix, Pair}

@@ -1,4 +1,6 @@
--- Theorems that go on from others: the head of Expanding in specs/ says what is proved. Assumes nothing.
+-- Expand over the whole numbers, joined on two moduli, is exact.
+-- Proved: where every true coefficient lies in the range of m m', the joined values of the lists modulo m and modulo m' are the true
+-- coefficients (joined-true). It rests on Joined of proofs/. Assumes nothing.
 use Rattle.std.specs.Prelude.{true, ℤ, pos}
 use mathlib.Core.List.{List}
 use Rattle.std.proofs.Math.Path.{◌≡◌}

@@ -1,4 +1,8 @@
--- Theorems that go on from others: the head of Joined in specs/ says what is proved. Assumes nothing.
+-- The joined value: there is one, there is no other, and which it is.
+-- Proved, for moduli without a common factor and remainders below them: joined-joins, the joined value is in the range and leaves both;
+-- joined-only, no other whole number does; joined-exact, a whole number in the range is joined from its own remainders; joined-lift, it is
+-- the balanced lift; same-modulo-both, what two whole numbers leave modulo both settles what they leave modulo m m'. These rest on `balanced`
+-- and Whole, which edits of specs/ change. Assumes nothing.
 use Rattle.std.specs.Prelude.{Bool, [], ◌∷◌, ◌≡◌, refl, ltb, ℤ}
 use Rattle.std.proofs.Math.Bool.{true, false}
 use Rattle.std.proofs.Common.{true≢false, ◌∙◌, subst, mul_comm, div-lt_iff_lt-mul, ltb-true, ltb-false}

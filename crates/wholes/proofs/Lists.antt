@@ -1,4 +1,7 @@
--- Theorems that go on from others: the head of Lists in specs/ says what is proved. Assumes nothing.
+-- The joined values of two lists of one length.
+-- Proved: each joins, and nothing else does at its place (joined-list-joins, joined-list-only); each lies in the range of m m'
+-- (joined-list-range), and their remainders are the two lists (joined-list-first, joined-list-second). These rest on Joined of proofs/.
+-- Assumes nothing.
 use Rattle.std.specs.Prelude.{true, List, map, ◌≡◌, refl, ℕ, ◌*◌, ◌<◌, ℤ, pos, length, get_or}
 use Rattle.std.proofs.Common.{sym, ◌∙◌, ap, arith, ext_get_or}
 use Rattle.std.proofs.lemmas.List.{length-map}

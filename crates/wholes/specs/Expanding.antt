@@ -1,8 +1,7 @@
--- Expand over the whole numbers: reduced modulo m it is Expand modulo m, and joined on two moduli it is exact.
--- Proved: the remainders of the true coefficients are the list of Expand modulo m, on every signed family and curve (whole-reduced); where
--- every true coefficient lies in the range of m m', the joined values of both lists are the true coefficients (joined-true).
--- By one map of rings, from the whole numbers to the residues. Assumes nothing.
--- Theorems that go on from others stand in Expanding of proofs/.
+-- Expand over the whole numbers: reduced modulo m it is Expand modulo m.
+-- Proved: the remainders of the true coefficients are the list of Expand modulo m, on every signed family and curve (whole-reduced), by a
+-- map of rings from the whole numbers to the residues. That two such lists joined are exact (joined-true) stands in Expanding of proofs/.
+-- Assumes nothing.
 use Rattle.std.specs.Prelude.{true, ℤ, pos, ◌+ℤ◌, ◌*ℤ◌}
 use mathlib.Core.List.{List, [], ◌∷◌, map}
 use Rattle.std.proofs.Math.Path.{◌≡◌, refl, ap, fun_ext}

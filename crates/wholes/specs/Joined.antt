@@ -3,12 +3,8 @@
 --   balanced w u             of a number u below w, the number in the range of w that differs from it by 0 or w
 --   Whole m m' k big         k times m leaves 1 modulo m', and big is a multiple of m' not below m: what is found once for a list
 --   lift m m' k big x y      the number below m m' that leaves x modulo m and y modulo m'
--- Proved, for moduli without a common factor and remainders below them: joined-joins, the joined value is in the range and leaves both;
--- joined-only, no other whole number does; joined-exact, a whole number in the range is joined from its own remainders; joined-lift, it is
--- the balanced lift; same-modulo-both, what two whole numbers leave modulo both settles what they leave modulo m m'. What is in the range of
--- two moduli of 31 bits fits 64 bits with a sign (range-fits).
--- Assumes nothing.
--- Theorems that go on from others stand in Joined of proofs/.
+-- Proved: in_range and joins as plain facts (range-law, joins-law); what is in the range of two moduli of 31 bits fits 64 bits with a sign
+-- (range-fits). That there is one joined value, no other, and which it is, stands in Joined of proofs/. Assumes nothing.
 use Rattle.std.specs.Prelude.{◌↔◌, ◌≡◌, ltb, ℤ, neg_ℤ, ◌*ℤ◌}
 use Rattle.std.proofs.Math.Bool.{true, false}
 use Rattle.std.proofs.Common.{mul-le-mul, eqb-true, eq-eqb}

@@ -1,8 +1,6 @@
 -- The joined values of two lists of one length.
--- Proved: there are as many, and each is that of its place (joined-list-entry); a list of these is theirs (joined-list-is); each joins, and
--- nothing else does at its place (joined-list-joins, joined-list-only); each lies in the range of m m' (joined-list-range), and their
--- remainders are the two lists (joined-list-first, joined-list-second). Assumes nothing.
--- Theorems that go on from others stand in Lists of proofs/.
+-- Proved: there are as many, and each is that of its place (joined-list-entry); a list of these is theirs (joined-list-is). What they leave
+-- stands in Lists of proofs/. Assumes nothing.
 use Rattle.std.specs.Prelude.{List, [], ◌∷◌, ◌≡◌, refl, ℕ, zero, suc, ◌<◌, ℤ, pos, length, get_or}
 use Rattle.std.proofs.Common.{sym, ◌∙◌, ap, arith, ext_get_or}
 use Rattle.joining.specs.Whole.{joined, joined_list}

@@ -1,2 +1,4 @@
--- Theorems that go on from others: what stands beside the definitions of a module of specs/ has that module's name here. Assumes nothing.
+-- Lemmas stand here and not in specs/, so that an edit of a definition is refused by a proof.
+--   Returning   from the answer of a public call to what its exported function returns and leaves
+-- Assumes nothing.
 pub mod Returning

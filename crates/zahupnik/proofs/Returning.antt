@@ -1,8 +1,10 @@
 -- From the answer of a public call to what its exported function returns and leaves.
--- Proved: the number of a verdict says what the verdict does, where no test has the number 0 (returned-is); so a call that writes a list
--- keeps its promise when its answer is turned into a number, with a working list or without, and so do a call that writes whole numbers, a change of a record, Inverse, whether
--- it finishes, finds no inverse or refuses before that, the text call, and the call that writes a job, whether its number names an operation
--- or not. Assumes nothing.
+-- Proved: the number of a verdict says what the verdict does, where no test has the number 0 (returned-is). So a call keeps its promise when
+-- its answer is turned into a number:
+--   a call that writes a list, with a working list or without, or whole numbers; a change of a record
+--   Inverse, whether it finishes, finds no inverse or refuses before that
+--   the text call, and the call that writes a job, whether its number names an operation or not
+-- These rest on `returned`, which an edit of specs/ changes. Assumes nothing.
 use Rattle.std.specs.Prelude.{◌≡◌, Bool, true, false, List, [], ◌∷◌, ◌++◌, ℕ, zero, suc, ◌<◌, ◌≤◌, eqb, ℤ, length, drop}
 use Rattle.std.proofs.Math.Path.{refl}
 use Rattle.std.proofs.Common.{sym, ◌∙◌, ap, subst, arith}

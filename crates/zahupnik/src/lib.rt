@@ -1,5 +1,6 @@
 // The public calls for C, as include/zahupnik.h declares them: numbers, lent lists and records by value, and each returns 0 or the
-// refusal number, a change with the record after it. None has a 'requires', and each has one 'ensures' that settles the number and what is lent on every input.
+// refusal number, a change with the record after it. None has a 'requires', and each has one 'ensures' that settles the number and what is
+// lent on every input.
 #![tactic(auto)]
 
 ghost use Rattle.std.specs.Prelude.{◌≡◌, [], ◌∷◌};

@@ -1,4 +1,4 @@
--- `read_input` is safe and ends: the place is within the list, whose length stays. Assumes nothing.
+-- The loop of `read_input`: the place is within the list, whose length stays. The measure is what is left of the list. Assumes nothing.
 use Rattle.std.proofs.Common.{length, ◌-◌, ◌≡◌, ◌≤◌}
 use Rattle.channel.proofs.read_input.Given as goal
 

@@ -1,5 +1,4 @@
--- `all_below` meets its contract: the loop's invariant is that none of the entries that were passed is outside, if it still says so.
--- Assumes nothing.
+-- `all_below` meets its contract: at the end none of the entries is outside, if the loop still says so. Assumes nothing.
 use mathlib.Core.Path.{sym, ◌∙◌}
 use mathlib.Core.Bool.{true≢false}
 use borrow.Author.Tests.{lt-leb}

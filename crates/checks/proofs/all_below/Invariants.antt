@@ -1,4 +1,4 @@
--- `all_below` meets its contract: the loop's invariant is that none of the entries that were passed is outside, if it still says so.
+-- The loop of `all_below`: none of the entries that were passed is outside, if it still says so. The measure is what is left of the list.
 -- Assumes nothing.
 use mathlib.Core.Path.{◌≡◌}
 use mathlib.Core.Bool.{true}

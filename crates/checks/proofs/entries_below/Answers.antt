@@ -1,5 +1,4 @@
--- `entries_below` finds the first entry that is not below m, if there is one. The loop's invariant: none of those passed is such an entry.
--- Assumes nothing.
+-- `entries_below` finds the first entry that is not below m, if there is one. Assumes nothing.
 use borrow.Author.Tests.{le-leb, lt-leb}
 use Rattle.definitions.specs.Refusals.{not_below}
 use Rattle.checks.specs.Passes.{passed-starts, passed-next, passed_first, passed-ends}

@@ -1,5 +1,4 @@
--- `entries_below` finds the first entry that is not below m, if there is one. The loop's invariant: none of those passed is such an entry.
--- Assumes nothing.
+-- The loop of `entries_below`: each of the entries that were passed is below m. The measure is what is left of the list. Assumes nothing.
 use Prim.Native.Nat.{◌-◌}
 use lib.ListN.{length}
 use Rattle.definitions.specs.Refusals.{not_below}

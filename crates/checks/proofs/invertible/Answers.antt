@@ -1,5 +1,5 @@
 -- `invertible` finds the first entry without an inverse, and whether it is zero or shares a factor with m, or that there is none: at once
--- if the product of all has an inverse. The loop's invariant: each of those passed has one. Assumes nothing.
+-- if the product of all has an inverse. Assumes nothing.
 use mathlib.Core.Path.{subst}
 use Rattle.definitions.specs.Number.{HasInverse}
 use Rattle.residue.specs.Inversion.{inverted-found, inverted-absent, found-has, found-passes, absent-fails}

@@ -1,5 +1,4 @@
--- `invertible` finds the first entry without an inverse, and whether it is zero or shares a factor with m, or that there is none: at once
--- if the product of all has an inverse. The loop's invariant: each of those passed has one. Assumes nothing.
+-- The loop of `invertible`: each of the entries that were passed has an inverse. The measure is what is left of the list. Assumes nothing.
 use Prim.Native.Nat.{◌-◌}
 use lib.ListN.{length}
 use Rattle.definitions.specs.Refusals.{no_inverse}

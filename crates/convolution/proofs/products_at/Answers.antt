@@ -1,5 +1,4 @@
--- `convolution::products_at` meets its contract: the loop's invariant is that the first t terms are in (`Multiplying`), and its measure is
--- what is left of them. Assumes nothing.
+-- `convolution::products_at` meets its contract: the laws of `Multiplying` at the loop. Assumes nothing.
 use Rattle.std.proofs.Common.{arith}
 use Rattle.convolution.proofs.Coefficients.{multiplying-starts, multiplying-small, multiplying-plus, multiplying-next}
 use Rattle.convolution.proofs.Coefficients.{multiplying-ends}

@@ -1,5 +1,4 @@
--- `convolution::products_at` meets its contract: the loop's invariant is that the first t terms are in (`Multiplying`), and its measure is
--- what is left of them. Assumes nothing.
+-- The loop of `convolution::products_at`: the first t terms are in (`Multiplying`). The measure is what is left of them. Assumes nothing.
 use Rattle.std.proofs.Common.{◌-◌}
 use Rattle.convolution.specs.Coefficients.{Multiplying}
 use Rattle.convolution.proofs.products_at.Given as goal

@@ -1,5 +1,4 @@
--- `convolution::with_pairs` meets its contract: the loop's invariant is that the pairs before j are in and that what is left is even
--- (`Pairs`), and its measure is what is left of them. Assumes nothing.
+-- `convolution::with_pairs` meets its contract: the laws of `Pairs` at the loop. Assumes nothing.
 use Rattle.std.proofs.Common.{arith}
 use Rattle.convolution.proofs.Steps.{pairs_first, pairs_start, pairs-reach, pairs-plus, pairs_next, pairs_end}
 use Rattle.convolution.proofs.with_pairs.Goals as goal

@@ -1,5 +1,5 @@
--- `convolution::with_pairs` meets its contract: the loop's invariant is that the pairs before j are in and that what is left is even
--- (`Pairs`), and its measure is what is left of them. Assumes nothing.
+-- The loop of `convolution::with_pairs`: the pairs before j are in, and what is left is even (`Pairs`). The measure is what is left of
+-- them. Assumes nothing.
 use Rattle.std.proofs.Common.{◌-◌}
 use Rattle.convolution.specs.Steps.{Pairs}
 use Rattle.convolution.proofs.with_pairs.Given as goal

@@ -1,5 +1,4 @@
--- `convolution::with_singles` meets its contract: the loop's invariant is that the terms before j are in (`Totalling`), and its measure is
--- what is left of them. Assumes nothing.
+-- `convolution::with_singles` meets its contract: the laws of one product a step at the loop (`singles-next`). Assumes nothing.
 use Rattle.std.proofs.Common.{arith}
 use Rattle.convolution.proofs.Steps.{singles-start, single-small, singles-plus, singles-next, singles-end}
 use Rattle.convolution.proofs.with_singles.Goals as goal

@@ -1,5 +1,4 @@
--- `convolution::with_singles` meets its contract: the loop's invariant is that the terms before j are in (`Totalling`), and its measure is
--- what is left of them. Assumes nothing.
+-- The loop of `convolution::with_singles`: the terms before j are in (`Totalling`). The measure is what is left of them. Assumes nothing.
 use Rattle.std.proofs.Common.{◌-◌}
 use Rattle.convolution.specs.Totals.{Totalling, amount}
 use Rattle.convolution.specs.Steps.{transposed_term}

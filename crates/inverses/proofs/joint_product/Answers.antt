@@ -1,5 +1,4 @@
--- `joint_product` meets its contract: the loop's invariant is that the four products settle the entries that were passed (`Shared`); the
--- measure is what is left of the pairs. Assumes nothing.
+-- `joint_product` meets its contract: what the four products settle is every entry of the two lists at the end. Assumes nothing.
 use native.Mathlib.Omega.{arith}
 use Rattle.inverses.specs.Joint.{shared-starts, shared-next, shared-ends, joint-of}
 use Rattle.inverses.proofs.joint_product.Goals as goal

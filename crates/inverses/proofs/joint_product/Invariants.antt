@@ -1,5 +1,5 @@
--- `joint_product` meets its contract: the loop's invariant is that the four products settle the entries that were passed (`Shared`); the
--- measure is what is left of the pairs. Assumes nothing.
+-- The loop of `joint_product`: the four products settle the entries that were passed (`Shared`). The measure is what is left of the pairs.
+-- Assumes nothing.
 use Prim.Native.Nat.{◌-◌, ◌≤◌}
 use Rattle.inverses.specs.Joint.{Shared}
 use Rattle.inverses.proofs.joint_product.Given as goal

@@ -1,5 +1,5 @@
--- `of_list` meets its contract: its loop writes the zeros before the place where the inverses begin, and those are written behind it.
--- The measure is what is left of the zeros. Assumes nothing.
+-- `of_list` meets its contract: the zeros stand before the place where the inverses begin, and those are written behind them. Assumes
+-- nothing.
 use mathlib.Core.Path.{refl}
 use native.Mathlib.Omega.{arith}
 use Rattle.numbers.specs.Lists.{filling-start, filling-next, filling-stop}

@@ -1,5 +1,4 @@
--- `of_list` meets its contract: its loop writes the zeros before the place where the inverses begin, and those are written behind it.
--- The measure is what is left of the zeros. Assumes nothing.
+-- The loop of `of_list`: it fills the output with zeros from the front. The measure is what is left of the zeros. Assumes nothing.
 use Prim.Native.Nat.{◌-◌, ◌≤◌}
 use Rattle.numbers.specs.Lists.{Filling}
 use Rattle.inverses.proofs.of_list.Given as goal

@@ -1,5 +1,4 @@
--- `one_by_one` meets its contract: its loop fills the output from the front. The measure is what is left of the count.
--- Assumes nothing.
+-- `one_by_one` meets its contract: each entry that is written is the definition's inverse, or 0. Assumes nothing.
 use native.Mathlib.Omega.{arith}
 use Rattle.numbers.specs.Lists.{filling-start, filling-next, filling-stop}
 use Rattle.inverses.proofs.one_by_one.Goals as goal

@@ -1,5 +1,4 @@
--- `one_by_one` meets its contract: its loop fills the output from the front. The measure is what is left of the count.
--- Assumes nothing.
+-- The loop of `one_by_one`: it fills the output with inverses from the front. The measure is what is left of the count. Assumes nothing.
 use Prim.Native.Nat.{◌-◌, ◌≤◌}
 use lib.ListN.{get_or}
 use Rattle.definitions.specs.Number.{inverse}

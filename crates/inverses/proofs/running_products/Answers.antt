@@ -1,5 +1,4 @@
--- `running_products` meets its contract: its loop fills the output from the front, with the product of the entries so far. The measure is
--- what is left of the count. Assumes nothing.
+-- `running_products` meets its contract: each entry that is written is the product of the entries before its place. Assumes nothing.
 use mathlib.Core.Path.{◌∙◌, ap}
 use native.Mathlib.Omega.{arith}
 use Rattle.numbers.specs.Lists.{filling-start, filling-next, filling-stop}

@@ -1,5 +1,5 @@
--- `running_products` meets its contract: its loop fills the output from the front, with the product of the entries so far. The measure is
--- what is left of the count. Assumes nothing.
+-- The loop of `running_products`: it fills the output from the front, and keeps the product of the entries so far. The measure is what is
+-- left of the count. Assumes nothing.
 use mathlib.Core.Path.{◌≡◌}
 use Prim.Native.Nat.{◌-◌, ◌≤◌}
 use lib.ListN.{get_or}

@@ -1,4 +1,4 @@
--- `share_inverse` meets its contract: its loop goes from the last entry down, and its measure is the place. Assumes what Sharable says.
+-- `share_inverse` meets its contract: the laws of `Sharing` at the loop. Assumes what Sharable says.
 use native.Mathlib.Omega.{arith}
 use Rattle.inverses.specs.Sharing.{sharing-starts, sharing-next, sharing-ends}
 use Rattle.inverses.proofs.share_inverse.Goals as goal

@@ -1,4 +1,4 @@
--- `share_inverse` meets its contract: its loop goes from the last entry down, and its measure is the place. Assumes what Sharable says.
+-- The loop of `share_inverse`: it goes from the last entry down (`Sharing`). The measure is the place. Assumes nothing.
 use lib.ListN.{get_or}
 use Rattle.inverses.specs.Sharing.{Sharing}
 use Rattle.inverses.proofs.share_inverse.Given as goal

@@ -1,4 +1,4 @@
--- `join_lists` joins place by place. The loop's invariant: the places passed are joined. Assumes nothing.
+-- `join_lists` joins place by place: the laws of `Joined` at the loop. Assumes nothing.
 use mathlib.Core.Path.{◌∙◌}
 use native.Mathlib.Omega.{arith}
 use mir.Syntax.{w64}

@@ -1,4 +1,4 @@
--- `join_lists` joins place by place. The loop's invariant: the places passed are joined. Assumes nothing.
+-- The loop of `join_lists`: the places passed are joined (`Joined`). The measure is what is left of the output. Assumes nothing.
 use Prim.Native.Nat.{◌-◌}
 use lib.ListN.{length}
 use Rattle.join.specs.Joining.{Joined}

@@ -1,4 +1,4 @@
--- `reduce_list` reduces place by place. The loop's invariant: the places passed are reduced, the others as they were. Assumes nothing.
+-- `reduce_list` reduces place by place: the laws of `Reducing` at the loop. Assumes nothing.
 use mathlib.Core.Path.{◌∙◌, ap}
 use native.Mathlib.Omega.{arith}
 use mir.Syntax.{w32}

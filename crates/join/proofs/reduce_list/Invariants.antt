@@ -1,4 +1,5 @@
--- `reduce_list` reduces place by place. The loop's invariant: the places passed are reduced, the others as they were. Assumes nothing.
+-- The loop of `reduce_list`: the places passed are reduced, the others as they were (`Reducing`). The measure is what is left of the list.
+-- Assumes nothing.
 use Prim.Native.Nat.{◌-◌}
 use lib.ListN.{length}
 use Rattle.join.specs.Reducing.{Reducing}

@@ -1,5 +1,4 @@
--- `take_line` takes one line. The loop's invariant: going on from where it is gives what going on from the start does. The measure is what is
--- left of the piece. Assumes nothing.
+-- `take_line` takes one line: the laws of `Taking` at the loop. Assumes nothing.
 use native.Mathlib.Omega.{arith}
 use borrow.Author.Tests.{eq-eqb, ne_eqb}
 use Rattle.lines.specs.Taking.{taking-starts, taking-past, taking-ends, taking-on}

@@ -1,5 +1,5 @@
--- `take_line` takes one line. The loop's invariant: going on from where it is gives what going on from the start does. The measure is what is
--- left of the piece. Assumes nothing.
+-- The loop of `take_line`: going on from where it is gives what going on from the start does (`Taking`). The measure is what is left of the
+-- piece. Assumes nothing.
 use Prim.Native.Nat.{◌-◌}
 use lib.ListN.{length}
 use Rattle.lines.specs.Taking.{Taking}

@@ -1,5 +1,4 @@
--- `clear` meets its contract: its loop fills the working list with zeros from the front. The measure is what is left of them.
--- Assumes nothing.
+-- `clear` meets its contract: a working list filled with zeros as far as it goes is the cleared one. Assumes nothing.
 use mathlib.Core.Path.{refl, ◌∙◌}
 use native.Mathlib.Omega.{arith}
 use Rattle.definitions.specs.Refusals.{work_length}

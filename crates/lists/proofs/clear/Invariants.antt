@@ -1,5 +1,4 @@
--- `clear` meets its contract: its loop fills the working list with zeros from the front. The measure is what is left of them.
--- Assumes nothing.
+-- The loop of `clear`: it fills the working list with zeros from the front. The measure is what is left of them. Assumes nothing.
 use Prim.Native.Nat.{◌-◌, ◌≤◌}
 use Rattle.definitions.specs.Refusals.{work_length}
 use Rattle.numbers.specs.Lists.{Filling}

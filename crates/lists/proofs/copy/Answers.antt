@@ -1,5 +1,4 @@
--- `copy` meets its contract: its loop fills to from the front. The measure is what is left of the count.
--- Assumes nothing.
+-- `copy` meets its contract: each entry that is written is the entry of `from` at its place. Assumes nothing.
 use mathlib.Core.Path.{refl}
 use native.Mathlib.Omega.{arith}
 use Rattle.numbers.specs.Lists.{filling-start, filling-next, filling-stop}

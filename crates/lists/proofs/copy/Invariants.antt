@@ -1,5 +1,4 @@
--- `copy` meets its contract: its loop fills to from the front. The measure is what is left of the count.
--- Assumes nothing.
+-- The loop of `copy`: it fills `to` from the front. The measure is what is left of the count. Assumes nothing.
 use Prim.Native.Nat.{◌-◌, ◌≤◌}
 use lib.ListN.{get_or}
 use Rattle.numbers.specs.Lists.{Filling}

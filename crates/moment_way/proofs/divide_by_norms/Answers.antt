@@ -1,5 +1,4 @@
--- `divide_by_norms` meets its contract: the laws of `Dividing` at the loop. The measure is what is left of the entries.
--- Assumes nothing.
+-- `divide_by_norms` meets its contract: the laws of `Dividing` at the loop. Assumes nothing.
 use Rattle.moment_way.specs.Decompose.{dividing-starts, dividing-next, dividing-ends}
 use Rattle.moment_way.proofs.divide_by_norms.Goals as goal
 

@@ -1,5 +1,5 @@
--- `divide_by_norms` meets its contract: the laws of `Dividing` at the loop. The measure is what is left of the entries.
--- Assumes nothing.
+-- The loop of `divide_by_norms`: i entries are divided by their norms (`Dividing`). The measure is what is left of the entries. Assumes
+-- nothing.
 use Prim.Native.Nat.{◌-◌}
 use Rattle.moment_way.specs.Decompose.{Dividing}
 use Rattle.moment_way.proofs.divide_by_norms.Given as goal

@@ -1,5 +1,4 @@
--- `leading_inverse` meets its contract: the laws of `Multiplied` at the loop. The measure is what is left of the rows.
--- Assumes nothing.
+-- `leading_inverse` meets its contract: the laws of `Multiplied` at the loop. Assumes nothing.
 use Rattle.moment_way.specs.Moments.{multiplied-starts, multiplied-next, multiplied-ends}
 use Rattle.moment_way.proofs.leading_inverse.Goals as goal
 

@@ -1,5 +1,5 @@
--- `leading_inverse` meets its contract: the laws of `Multiplied` at the loop. The measure is what is left of the rows.
--- Assumes nothing.
+-- The loop of `leading_inverse`: the inverses of i rows are multiplied (`Multiplied`). The measure is what is left of the rows. Assumes
+-- nothing.
 use Prim.Native.Nat.{◌-◌}
 use Rattle.moment_way.specs.Moments.{Multiplied}
 use Rattle.moment_way.proofs.leading_inverse.Given as goal

@@ -1,5 +1,4 @@
--- `write_arranged` writes the list in its order: its loop fills the output from the front. The measure is what is left of the list.
--- Assumes nothing.
+-- `write_arranged` writes the list in its order: the laws of `Arranging` at the loop. Assumes nothing.
 use native.Mathlib.Omega.{arith}
 use Rattle.numbers.specs.Lists.{filling-start}
 use Rattle.order_calls.specs.Arranging.{arranging-next, arranging-done}

@@ -1,5 +1,4 @@
--- `write_arranged` writes the list in its order: its loop fills the output from the front. The measure is what is left of the list.
--- Assumes nothing.
+-- The loop of `write_arranged`: it fills the output from the front (`Arranging`). The measure is what is left of the list. Assumes nothing.
 use Prim.Native.Nat.{◌-◌, ◌≤◌}
 use Rattle.order_calls.specs.Arranging.{Arranging}
 use Rattle.order_calls.proofs.write_arranged.Given as goal

@@ -1,5 +1,4 @@
--- `adjoint` meets its contract: the laws of `Adjoining` at the loop. The measure is what is left of the rows.
--- Assumes nothing.
+-- `adjoint` meets its contract: the laws of `Adjoining` at the loop. Assumes nothing.
 use mathlib.Core.Path.{ap}
 use native.Mathlib.Omega.{arith}
 use lib.ListN.{length}

@@ -1,5 +1,5 @@
--- `adjoint` meets its contract: the laws of `Adjoining` at the loop. The measure is what is left of the rows.
--- Assumes nothing.
+-- The loop of `adjoint`: after j rows the arrays agree with the model (`Adjoining`). The measure is what is left of the rows. Assumes
+-- nothing.
 use Prim.Native.Nat.{◌-◌}
 use lib.ListN.{take}
 use Rattle.definitions.specs.Family.{ones}

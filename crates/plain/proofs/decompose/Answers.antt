@@ -1,5 +1,4 @@
--- `decompose` meets its contract: the laws of `Decomposing` at the loop. The measure is what is left of the steps.
--- Assumes nothing.
+-- `decompose` meets its contract: the laws of `Decomposing` at the loop. Assumes nothing.
 use mathlib.Core.Path.{ap}
 use native.Mathlib.Omega.{arith}
 use lib.ListN.{length}

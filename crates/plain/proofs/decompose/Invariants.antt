@@ -1,5 +1,5 @@
--- `decompose` meets its contract: the laws of `Decomposing` at the loop. The measure is what is left of the steps.
--- Assumes nothing.
+-- The loop of `decompose`: after i steps the array matches the model (`Decomposing`). The measure is what is left of the steps. Assumes
+-- nothing.
 use Prim.Native.Nat.{◌-◌}
 use Rattle.plain.specs.Decomposing.{Tables, Decomposing}
 use Rattle.plain.proofs.decompose.Given as goal

@@ -1,5 +1,4 @@
--- `expand` meets its contract: the laws of `Expanding` at the loop. The measure is what is left of the steps.
--- Assumes nothing.
+-- `expand` meets its contract: the laws of `Expanding` at the loop. Assumes nothing.
 use Rattle.plain.specs.Expanding.{expanding-starts, expand-step-input, expand-step, expand-ends}
 use Rattle.plain.proofs.expand.Goals as goal
 

@@ -1,5 +1,4 @@
--- `expand` meets its contract: the laws of `Expanding` at the loop. The measure is what is left of the steps.
--- Assumes nothing.
+-- The loop of `expand`: after i steps the arrays match the model (`Expanding`). The measure is what is left of the steps. Assumes nothing.
 use Prim.Native.Nat.{◌-◌}
 use lib.ListN.{take}
 use Rattle.definitions.specs.Family.{ones}

@@ -1,5 +1,4 @@
--- `negative_products` meets its contract: its loop fills the output from the front. The measure is what is left of the count.
--- Assumes nothing.
+-- `negative_products` meets its contract: each entry that is written is the negative product at its place. Assumes nothing.
 use mathlib.Core.Path.{◌∙◌, ap}
 use Prim.Native.Nat.{◌*◌, ◌%◌}
 use native.Mathlib.Omega.{arith}

@@ -1,5 +1,4 @@
--- `negative_products` meets its contract: its loop fills the output from the front. The measure is what is left of the count.
--- Assumes nothing.
+-- The loop of `negative_products`: it fills the output from the front. The measure is what is left of the count. Assumes nothing.
 use Prim.Native.Nat.{◌-◌, ◌≤◌}
 use Rattle.numbers.specs.Lists.{Filling}
 use Rattle.plain.specs.Decomposing.{negative_product}

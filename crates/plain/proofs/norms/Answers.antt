@@ -1,5 +1,4 @@
--- `norms` meets its contract: the laws of `Norming` at the loop. The measure is what is left of the norms.
--- Assumes nothing.
+-- `norms` meets its contract: the laws of `Norming` at the loop. Assumes nothing.
 use Rattle.plain.specs.Norming.{norming-starts, norming-next, norming-ends}
 use Rattle.plain.proofs.norms.Goals as goal
 

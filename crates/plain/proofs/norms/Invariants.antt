@@ -1,5 +1,4 @@
--- `norms` meets its contract: the laws of `Norming` at the loop. The measure is what is left of the norms.
--- Assumes nothing.
+-- The loop of `norms`: i norms are written (`Norming`). The measure is what is left of the norms. Assumes nothing.
 use Prim.Native.Nat.{◌-◌}
 use Rattle.plain.specs.Norming.{Norming}
 use Rattle.plain.proofs.norms.Given as goal

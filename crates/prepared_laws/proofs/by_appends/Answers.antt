@@ -1,5 +1,4 @@
--- `by_appends` keeps its promise. The loop's invariant: the record is that of the rows appended so far, and these are accepted. The measure
--- is how many are left. Assumes nothing.
+-- `by_appends` keeps its promise: the laws of `Grown` at the loop, and at a refused append. Assumes nothing.
 use mathlib.Core.Path.{ap}
 use native.Mathlib.Omega.{arith}
 use Rattle.definitions.specs.Answers.{answered}

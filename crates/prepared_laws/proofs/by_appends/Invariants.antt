@@ -1,5 +1,5 @@
--- `by_appends` keeps its promise. The loop's invariant: the record is that of the rows appended so far, and these are accepted. The measure
--- is how many are left. Assumes nothing.
+-- The loop of `by_appends`: the record is that of the rows appended so far, and these are accepted (`Grown`). The measure is how many are
+-- left. Assumes nothing.
 use Prim.Native.Nat.{◌-◌}
 use lib.ListN.{length}
 use Rattle.prepared.specs.Held.{held}

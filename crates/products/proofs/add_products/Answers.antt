@@ -1,6 +1,5 @@
--- `products::add_products` meets its contract: the loop's invariant is that k coefficients stand from place target on (`Writing`)
--- and the rest is as it was; zeros that end both lists of a pair change none of them. The measure is what is left of them. Assumes
--- nothing.
+-- `products::add_products` meets its contract: zeros that end both lists of a pair change none of the coefficients, and each is written at
+-- its place. Assumes nothing.
 use Rattle.numbers.specs.Regions.{writing-starts}
 use Rattle.products.specs.Places.{product-sources, product-next, product-ends}
 use Rattle.products.proofs.add_products.Goals as goal

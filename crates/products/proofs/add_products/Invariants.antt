@@ -1,6 +1,5 @@
--- `products::add_products` meets its contract: the loop's invariant is that k coefficients stand from place target on (`Writing`)
--- and the rest is as it was; zeros that end both lists of a pair change none of them. The measure is what is left of them. Assumes
--- nothing.
+-- The loop of `products::add_products`: k coefficients stand from place target on, and the rest is as it was (`Writing`). The measure is
+-- what is left of them. Assumes nothing.
 use Prim.Native.Nat.{◌-◌}
 use Rattle.numbers.specs.Regions.{Writing}
 use Rattle.products.specs.Places.{product_entry}

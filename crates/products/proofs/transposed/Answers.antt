@@ -1,5 +1,5 @@
--- `products::transposed` meets its contract: the loop's invariant is that i terms stand from place target on (`Writing`) and the rest is
--- as it was; zeros that end both multipliers or both lists change none of them. The measure is what is left of them. Assumes nothing.
+-- `products::transposed` meets its contract: zeros that end both multipliers or both lists change none of the terms, and each is written at
+-- its place. Assumes nothing.
 use Rattle.numbers.specs.Regions.{writing-starts}
 use Rattle.products.specs.Places.{transposed-term, transposed-next, transposed-ends}
 use Rattle.products.proofs.transposed.Goals as goal

@@ -1,5 +1,5 @@
--- `products::transposed` meets its contract: the loop's invariant is that i terms stand from place target on (`Writing`) and the rest is
--- as it was; zeros that end both multipliers or both lists change none of them. The measure is what is left of them. Assumes nothing.
+-- The loop of `products::transposed`: i terms stand from place target on, and the rest is as it was (`Writing`). The measure is what is
+-- left of them. Assumes nothing.
 use Prim.Native.Nat.{◌-◌}
 use Rattle.numbers.specs.Regions.{Writing}
 use Rattle.products.specs.Places.{transposed_entry}

@@ -1,5 +1,4 @@
--- `products::used_length` meets its contract: the loop's invariant is that what it has passed over is zero, and its measure is
--- what is left; it ends at a number that is not zero, or with nothing. Assumes nothing.
+-- `products::used_length` meets its contract: it ends at a number that is not zero, or with nothing. Assumes nothing.
 use mathlib.Core.Path.{sym, ◌∙◌}
 use Rattle.products.specs.Places.{used_all, used-none, used-less}
 use Rattle.products.proofs.used_length.Goals as goal

@@ -1,5 +1,4 @@
--- `products::used_length` meets its contract: the loop's invariant is that what it has passed over is zero, and its measure is
--- what is left; it ends at a number that is not zero, or with nothing. Assumes nothing.
+-- The loop of `products::used_length`: what it has passed over is zero (`Used`). The measure is what is left. Assumes nothing.
 use Rattle.products.specs.Places.{Used}
 use Rattle.products.proofs.used_length.Given as goal
 

@@ -1,5 +1,4 @@
--- `has_key` says whether a key stands at a place. The loop's invariant: the bytes passed are those of the key.
--- Assumes nothing.
+-- `has_key` says whether a key stands at a place. Assumes nothing.
 use native.Mathlib.Omega.{arith}
 use Rattle.reader.specs.Keys.{compared-starts, compared-short, compared-other, compared-next, compared-ends}
 use Rattle.reader.proofs.has_key.Goals as goal

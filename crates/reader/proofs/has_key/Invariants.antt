@@ -1,5 +1,4 @@
--- `has_key` says whether a key stands at a place. The loop's invariant: the bytes passed are those of the key.
--- Assumes nothing.
+-- The loop of `has_key`: the bytes passed are those of the key (`Compared`). The measure is what is left of the key. Assumes nothing.
 use Prim.Native.Nat.{◌-◌}
 use lib.ListN.{length}
 use Rattle.reader.specs.Keys.{Compared}

@@ -1,5 +1,4 @@
--- `load_numbers` loads the numbers up to the end of a line. The loop's invariant: reading on from here, with the numbers
--- loaded before it, is reading from where the list began. Assumes nothing.
+-- `load_numbers` loads the numbers up to the end of a line: the laws of `Loading` at the loop. Assumes nothing.
 use native.Mathlib.Omega.{arith}
 use Rattle.reader.specs.Places.{number-found, number-missed}
 use Rattle.reader.proofs.Loading.{list-past, list-empty, loading-starts}

@@ -1,5 +1,5 @@
--- `load_numbers` loads the numbers up to the end of a line. The loop's invariant: reading on from here, with the numbers
--- loaded before it, is reading from where the list began. Assumes nothing.
+-- The loop of `load_numbers`: reading on from here, with the numbers loaded before it, is reading from where the list began (`Loading`).
+-- The measure is what is left of the text. Assumes nothing.
 use Prim.Native.Nat.{◌-◌}
 use lib.ListN.{length}
 use Rattle.reader.proofs.Loading.{Loading}

@@ -1,5 +1,4 @@
--- `read_digits` reads the digits that go on a number. The loop's invariant: reading on from here, with the value so far, is
--- reading from where it began. Assumes nothing.
+-- `read_digits` reads the digits that go on a number: the laws of `Digits` at the loop. Assumes nothing.
 use native.Mathlib.Omega.{arith}
 use Rattle.texts.specs.DecimalReading.{digit-below, digit-above}
 use Rattle.reader.specs.Digits.{digits-start, digits-large, digits-end, digits-next, digits-past}

@@ -1,5 +1,5 @@
--- `read_digits` reads the digits that go on a number. The loop's invariant: reading on from here, with the value so far, is
--- reading from where it began. Assumes nothing.
+-- The loop of `read_digits`: reading on from here, with the value so far, is reading from where it began (`Digits`). The measure is what is
+-- left of the text. Assumes nothing.
 use Prim.Native.Nat.{◌-◌}
 use lib.ListN.{length}
 use Rattle.reader.specs.Digits.{Digits}

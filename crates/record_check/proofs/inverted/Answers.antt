@@ -1,4 +1,4 @@
--- `inverted` meets its contract: a pass over the products of entries with those beside them. Assumes nothing.
+-- `inverted` says whether each entry has the one beside it for its inverse: a pass over their products. Assumes nothing.
 use mathlib.Core.Path.{sym, ◌∙◌}
 use Rattle.record_check.specs.Scans.{pass-begins, pass-goes-on, pass-stops, pass-ends}
 use Rattle.record_check.proofs.inverted.Goals as goal

@@ -1,4 +1,5 @@
--- `inverted` meets its contract: a pass over the products of entries with those beside them. Assumes nothing.
+-- The loop of `inverted`: each entry that was passed has the one beside it for its inverse. The measure is what is left of the count.
+-- Assumes nothing.
 use mathlib.Core.Path.{◌≡◌}
 use Prim.Native.Nat.{◌-◌, ◌*◌, ◌%◌}
 use lib.ListN.{get_or}

@@ -1,5 +1,5 @@
--- `norms_tried` meets its contract. The loop's invariant: the product at hand is that of this place, and each place before it ties with the
--- next. The measure is how many rows are left. Assumes nothing.
+-- `norms_tried` meets its contract: the first product is 1 and each place ties with the next just where the norms are those of the rows.
+-- Assumes nothing.
 use mathlib.Core.Path.{◌≡◌, sym, ◌∙◌, ap, ap₂}
 use mathlib.Core.Logic.Iff
 use Prim.Native.Nat.{ℕ, ◌+◌, ◌*◌, ◌%◌, ◌<◌}

@@ -1,5 +1,5 @@
--- `norms_tried` meets its contract. The loop's invariant: the product at hand is that of this place, and each place before it ties with the
--- next. The measure is how many rows are left. Assumes nothing.
+-- The loop of `norms_tried`: the product at hand is that of this place, and each place before it ties with the next. The measure is how
+-- many rows are left. Assumes nothing.
 use mathlib.Core.Path.{◌≡◌}
 use Prim.Native.Nat.{◌-◌}
 use Rattle.record_check.specs.Norms.{weighed_at, Ties}

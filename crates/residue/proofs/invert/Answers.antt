@@ -1,5 +1,4 @@
--- `invert` meets its contract: the loop's invariant is Euclid's algorithm before a turn (`Turning`); the measure is the second
--- remainder. Assumes nothing.
+-- `invert` meets its contract: the laws of `Turning` at the loop. Assumes nothing.
 use Prim.Native.Nat.{ℕ, ◌+◌, ◌*◌, ◌%◌, ◌<◌, ◌≤◌}
 use native.Mathlib.Nat.{mod-lt, mod-one}
 use native.Mathlib.Omega.{arith}

@@ -1,5 +1,4 @@
--- `invert` meets its contract: the loop's invariant is Euclid's algorithm before a turn (`Turning`); the measure is the second
--- remainder. Assumes nothing.
+-- The loop of `invert`: Euclid's algorithm before a turn (`Turning`). The measure is the second remainder. Assumes nothing.
 use Rattle.residue.specs.UnsignedEuclid.{Turning}
 use Rattle.residue.proofs.invert.Given as goal
 

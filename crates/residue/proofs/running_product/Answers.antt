@@ -1,4 +1,4 @@
--- `running_product` meets its contract: its loop goes along the list. The measure is what is left of it. Assumes nothing.
+-- `running_product` meets its contract: the product of the entries passed is that of all at the end. Assumes nothing.
 use mathlib.Core.Path.{◌∙◌, ap}
 use native.Mathlib.Omega.{arith}
 use Rattle.numbers.specs.RunningProduct.{running_product, running_none, running-next}

@@ -1,4 +1,5 @@
--- `running_product` meets its contract: its loop goes along the list. The measure is what is left of it. Assumes nothing.
+-- The loop of `running_product`: it holds the product of the entries that were passed. The measure is what is left of the list. Assumes
+-- nothing.
 use mathlib.Core.Path.{◌≡◌}
 use Prim.Native.Nat.{◌-◌, ◌≤◌}
 use lib.ListN.{length, get_or}

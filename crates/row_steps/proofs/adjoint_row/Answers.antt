@@ -1,5 +1,4 @@
--- `adjoint_row` meets its contract: the laws of `AdjointRow` at the loop. The measure is what is left of the count.
--- Assumes nothing.
+-- `adjoint_row` meets its contract: the laws of `AdjointRow` at the loop. Assumes nothing.
 use native.Mathlib.Omega.{arith}
 use Rattle.row_steps.specs.AdjointRow.{adjoint-row-starts, adjoint-row-summands, adjoint-row-next, adjoint-row-ends}
 use Rattle.row_steps.proofs.adjoint_row.Goals as goal

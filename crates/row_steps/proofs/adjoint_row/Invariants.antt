@@ -1,5 +1,4 @@
--- `adjoint_row` meets its contract: the laws of `AdjointRow` at the loop. The measure is what is left of the count.
--- Assumes nothing.
+-- The loop of `adjoint_row`: the lists after i entries (`AdjoiningRow`). The measure is what is left of the count. Assumes nothing.
 use Prim.Native.Nat.{◌-◌}
 use Rattle.row_steps.specs.AdjointRow.{AdjoiningRow}
 use Rattle.row_steps.proofs.adjoint_row.Given as goal

@@ -1,5 +1,4 @@
--- `decompose_row` meets its contract: the laws of `DecomposeRow` at the loop. The measure is what is left of the count.
--- Assumes nothing.
+-- `decompose_row` meets its contract: the laws of `DecomposeRow` at the loop. Assumes nothing.
 use native.Mathlib.Omega.{arith}
 use Rattle.row_steps.specs.DecomposeRow.{multiplying-starts, multiplying-summands, multiplying-next, multiplying-ends}
 use Rattle.row_steps.proofs.decompose_row.Goals as goal

@@ -1,5 +1,4 @@
--- `decompose_row` meets its contract: the laws of `DecomposeRow` at the loop. The measure is what is left of the count.
--- Assumes nothing.
+-- The loop of `decompose_row`: the lists after i entries (`Multiplying`). The measure is what is left of the count. Assumes nothing.
 use Prim.Native.Nat.{◌-◌}
 use Rattle.row_steps.specs.DecomposeRow.{Multiplying}
 use Rattle.row_steps.proofs.decompose_row.Given as goal

@@ -1,5 +1,4 @@
--- `expand_row` meets its contract: the laws of `ExpandRow` at the loop. The measure is what is left of the count.
--- Assumes nothing.
+-- `expand_row` meets its contract: the laws of `ExpandRow` at the loop. Assumes nothing.
 use native.Mathlib.Omega.{arith}
 use Rattle.row_steps.specs.ExpandRow.{expand-row-starts, expand-row-summands, expand-row-next, expand-row-ends}
 use Rattle.row_steps.proofs.expand_row.Goals as goal

@@ -1,5 +1,4 @@
--- `expand_row` meets its contract: the laws of `ExpandRow` at the loop. The measure is what is left of the count.
--- Assumes nothing.
+-- The loop of `expand_row`: the lists after i entries (`ExpandingRow`). The measure is what is left of the count. Assumes nothing.
 use Prim.Native.Nat.{◌-◌}
 use Rattle.row_steps.specs.ExpandRow.{ExpandingRow}
 use Rattle.row_steps.proofs.expand_row.Given as goal

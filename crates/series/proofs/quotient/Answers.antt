@@ -1,5 +1,4 @@
--- `quotient` meets its contract: the laws of `Dividing` at the loop. The measure is what is left of the coefficients.
--- Assumes nothing.
+-- `quotient` meets its contract: the laws of `Dividing` at the loop. Assumes nothing.
 use native.Mathlib.Omega.{arith}
 use Rattle.series.specs.Division.{dividing-starts, dividing-input, dividing-next, dividing-ends}
 use Rattle.series.proofs.quotient.Goals as goal

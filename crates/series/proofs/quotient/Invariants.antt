@@ -1,5 +1,4 @@
--- `quotient` meets its contract: the laws of `Dividing` at the loop. The measure is what is left of the coefficients.
--- Assumes nothing.
+-- The loop of `quotient`: k coefficients stand (`Dividing`). The measure is what is left of the coefficients. Assumes nothing.
 use Prim.Native.Nat.{◌-◌}
 use Rattle.series.specs.Division.{Dividing}
 use Rattle.series.proofs.quotient.Given as goal

@@ -1,5 +1,4 @@
--- `answer_input` is safe and ends: a read lies within its list, what is kept of a line within another, and each turn leaves fewer turns.
--- Assumes nothing.
+-- `answer_input` is safe: a read lies within its list, and what is kept of a line within another. Assumes nothing.
 use mathlib.Core.Path.{sym}
 use native.Mathlib.Omega.{arith}
 use lib.Seq.{length-take-le}

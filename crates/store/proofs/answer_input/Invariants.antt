@@ -1,4 +1,4 @@
--- `answer_input` is safe and ends: a read lies within its list, what is kept of a line within another, and each turn leaves fewer turns.
+-- The loop of `answer_input`: each list keeps its length, and what is kept of the open line lies within its list and has no byte 10.
 -- Assumes nothing.
 use mathlib.Core.Path.{◌≡◌}
 use Prim.Native.Nat.{◌≤◌}

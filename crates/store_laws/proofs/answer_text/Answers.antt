@@ -1,5 +1,4 @@
--- `answer_text` prints what is printed for a text. The loop's invariant: what is printed for the lines that end in the front of the text is
--- printed. The measure is the number of pieces that are left. Assumes nothing.
+-- `answer_text` prints what is printed for a text: the laws of `Stage` at the loop. Assumes nothing.
 use mathlib.Core.Path.{sym}
 use native.Mathlib.Omega.{arith}
 use lib.Seq.{length-take-le}

@@ -1,5 +1,5 @@
--- `answer_text` prints what is printed for a text. The loop's invariant: what is printed for the lines that end in the front of the text is
--- printed. The measure is the number of pieces that are left. Assumes nothing.
+-- The loop of `answer_text`: what is printed for the lines that end in the front of the text is printed (`Stage`). The measure is the
+-- number of pieces that are left. Assumes nothing.
 use mathlib.Core.Path.{◌≡◌}
 use Prim.Native.Nat.{suc, ◌-◌, ◌≤◌}
 use lib.ListN.{length}

@@ -1,5 +1,5 @@
--- `answer_lines` puts what is printed for the lines that end in a piece, one after the other. The measure is what is left of the piece.
--- Assumes nothing.
+-- `answer_lines` puts what is printed for the lines that end in a piece, one after the other: the laws of `Printing` at the loop. Assumes
+-- nothing.
 use mathlib.Core.Path.{sym}
 use native.Mathlib.Omega.{arith}
 use lib.Seq.{length-take-le}

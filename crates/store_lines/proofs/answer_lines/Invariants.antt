@@ -1,4 +1,4 @@
--- `answer_lines` puts what is printed for the lines that end in a piece, one after the other. The measure is what is left of the piece.
+-- The loop of `answer_lines`: what is printed for the lines that were taken is put (`Printing`). The measure is what is left of the piece.
 -- Assumes nothing.
 use Prim.Native.Nat.{◌-◌}
 use lib.ListN.{length}

@@ -1,5 +1,4 @@
--- `copy_bytes` copies the front of a list: its loop fills the other one from its front. The measure is what is left of the count.
--- Assumes nothing.
+-- `copy_bytes` copies the front of a list: each byte that is written is that at its place. Assumes nothing.
 use mathlib.Core.Path.{refl}
 use native.Mathlib.Omega.{arith}
 use Rattle.numbers.specs.Lists.{filling-start, filling-next}

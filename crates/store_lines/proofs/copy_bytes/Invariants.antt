@@ -1,5 +1,4 @@
--- `copy_bytes` copies the front of a list: its loop fills the other one from its front. The measure is what is left of the count.
--- Assumes nothing.
+-- The loop of `copy_bytes`: it fills the other list from its front. The measure is what is left of the count. Assumes nothing.
 use Prim.Native.Nat.{◌-◌, ◌≤◌}
 use lib.ListN.{get_or}
 use Rattle.numbers.specs.Lists.{Filling}

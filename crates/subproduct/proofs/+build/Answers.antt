@@ -1,5 +1,5 @@
--- `subproduct::build` meets its contract: the measure is the number of pairs of rows. The halves are stored side by side, and what is
--- joined of them behind (`build-stored`). Assumes nothing.
+-- `subproduct::build` meets its contract: the halves are stored side by side, and what is joined of them behind (`build-stored`). Assumes
+-- nothing.
 use mathlib.Core.Path.{◌∙◌}
 use native.Mathlib.Omega.{arith}
 use Rattle.subproduct.specs.Build.{build-one, build-one-stored, build-left, build-right, build-join, build-stored}

@@ -1,5 +1,5 @@
--- `subproduct::climb` meets its contract: the measure is the number of pairs of rows. The halves' pairs stand behind the node's, and
--- nothing else changes but scratch (`climb-output`). Assumes nothing.
+-- `subproduct::climb` meets its contract: the halves' pairs stand behind the node's, and nothing else changes but scratch (`climb-output`).
+-- Assumes nothing.
 use mathlib.Core.Path.{◌∙◌}
 use native.Mathlib.Omega.{arith}
 use Rattle.subproduct.specs.Climb.{climb-one, climb-left, climb-right, climb-pair, climb-output}

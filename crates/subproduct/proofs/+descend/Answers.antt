@@ -1,5 +1,5 @@
--- `subproduct::descend` meets its contract: the measure is the number of pairs of rows. The halves' entries stand side by side, and
--- nothing else changes but scratch (`descend-output`). Assumes nothing.
+-- `subproduct::descend` meets its contract: the halves' entries stand side by side, and nothing else changes but scratch
+-- (`descend-output`). Assumes nothing.
 use mathlib.Core.Path.{◌∙◌}
 use native.Mathlib.Omega.{arith}
 use Rattle.subproduct.specs.Descend.{descend-one, descend-one-output, descend-left, descend-pair, descend-right, descend-output}

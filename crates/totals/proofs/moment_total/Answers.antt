@@ -1,6 +1,4 @@
--- `moment_total` meets its contract: a loop that adds one row's total a turn, and `row_totals-moment_total` at its end. The measure is
--- what is left of n.
--- Assumes nothing.
+-- `moment_total` meets its contract: the sum of the rows' totals is the moments' total (`row_totals-moment_total`). Assumes nothing.
 use mathlib.Core.Path.{◌∙◌}
 use native.Mathlib.Omega.{arith}
 use Rattle.totals.specs.Totals.{totalling-starts, totalling-next, totalling-ends}

@@ -1,6 +1,4 @@
--- `moment_total` meets its contract: a loop that adds one row's total a turn, and `row_totals-moment_total` at its end. The measure is
--- what is left of n.
--- Assumes nothing.
+-- The loop of `moment_total`: it adds one row's total a turn (`Totalling`). The measure is what is left of n. Assumes nothing.
 use Prim.Native.Nat.{◌*◌, ◌-◌}
 use lib.ListN.{get_or}
 use Rattle.totals.specs.Totals.{row_total, Totalling}

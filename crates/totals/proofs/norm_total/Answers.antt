@@ -1,5 +1,4 @@
--- `norm_total` meets its contract: a loop that adds one term a turn. The measure is what is left of n.
--- Assumes nothing.
+-- `norm_total` meets its contract: the laws of `Totalling` at the loop. Assumes nothing.
 use Rattle.definitions.specs.Orthogonality.{norm_total}
 use Rattle.totals.specs.Totals.{totalling-starts, totalling-next, totalling-ends, product-of-three}
 use Rattle.totals.proofs.norm_total.Goals as goal

@@ -1,5 +1,4 @@
--- `norm_total` meets its contract: a loop that adds one term a turn. The measure is what is left of n.
--- Assumes nothing.
+-- The loop of `norm_total`: it adds one term a turn (`Totalling`). The measure is what is left of n. Assumes nothing.
 use Prim.Native.Nat.{◌*◌, ◌-◌}
 use lib.ListN.{get_or}
 use Rattle.totals.specs.Totals.{Totalling}

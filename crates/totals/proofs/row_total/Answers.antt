@@ -1,5 +1,4 @@
--- `row_total` meets its contract: a loop that adds one term a turn. The measure is what is left of n.
--- Assumes nothing.
+-- `row_total` meets its contract: the laws of `Totalling` at the loop. Assumes nothing.
 use Rattle.totals.specs.Totals.{totalling-starts, totalling-next, totalling-ends, row_total}
 use Rattle.totals.proofs.row_total.Goals as goal
 

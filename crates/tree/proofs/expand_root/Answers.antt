@@ -1,5 +1,4 @@
--- `tree::expand_root` meets its contract: its loop fills the output from the front. The measure is what is left of the coefficients.
--- Assumes nothing.
+-- `tree::expand_root` meets its contract: each entry that is written is the root's at its place. Assumes nothing.
 use native.Mathlib.Omega.{arith}
 use Rattle.numbers.specs.Lists.{filling-start, filling-next}
 use Rattle.tree.specs.Root.{root-coefficient, root_ends}

@@ -1,5 +1,4 @@
--- `tree::expand_root` meets its contract: its loop fills the output from the front. The measure is what is left of the coefficients.
--- Assumes nothing.
+-- The loop of `tree::expand_root`: it fills the output from the front. The measure is what is left of the coefficients. Assumes nothing.
 use Prim.Native.Nat.{◌-◌, ◌≤◌}
 use Rattle.numbers.specs.Lists.{Filling}
 use Rattle.tree.specs.Root.{root_entry}

@@ -1,5 +1,4 @@
--- `tree::stretch` meets its contract: the loop's invariant is that i entries stand from place at on (`Writing`) and the rest is as it was;
--- the measure is what is left of them. Assumes nothing.
+-- `tree::stretch` meets its contract: the laws of `Writing` at the loop. Assumes nothing.
 use native.Mathlib.Omega.{arith}
 use Rattle.numbers.specs.Regions.{writing-starts, writing-next}
 use Rattle.tree.specs.RootPair.{stretch-ends}

@@ -1,5 +1,5 @@
--- `tree::stretch` meets its contract: the loop's invariant is that i entries stand from place at on (`Writing`) and the rest is as it was;
--- the measure is what is left of them. Assumes nothing.
+-- The loop of `tree::stretch`: i entries stand from place at on, and the rest is as it was (`Writing`). The measure is what is left of
+-- them. Assumes nothing.
 use Prim.Native.Nat.{◌+◌, ◌-◌}
 use lib.ListN.{get_or, take}
 use Rattle.numbers.specs.Regions.{Writing}

@@ -1,4 +1,4 @@
--- `put_number` puts a number in decimal. It calls itself on the tens, so the number is its measure. Assumes nothing.
+-- `put_number` puts a number in decimal: the tens first, by a call of itself, and then the last digit. Assumes nothing.
 use native.Mathlib.Omega.{arith}
 use Rattle.writer.specs.Entries.{put_small, put-large, large-inside}
 use Rattle.writer.proofs.+put_number.Goals as goal

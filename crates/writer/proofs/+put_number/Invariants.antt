@@ -1,4 +1,4 @@
--- `put_number` puts a number in decimal. It calls itself on the tens, so the number is its measure. Assumes nothing.
+-- The measure of `put_number` is the number: it calls itself on the tens. Assumes nothing.
 use Rattle.writer.proofs.+put_number.Given as goal
 
 abbrev pub decreases-put_number : goal.decreases-put_number

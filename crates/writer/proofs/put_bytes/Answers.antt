@@ -1,5 +1,4 @@
--- `put_bytes` copies bytes into an output. The loop's invariant: those passed are put, and nothing else has changed.
--- Assumes nothing.
+-- `put_bytes` copies bytes into an output: the laws of `Copying` at the loop. Assumes nothing.
 use Rattle.writer.specs.Putting.{copying-starts, copying-next, copying-ends}
 use Rattle.writer.proofs.put_bytes.Goals as goal
 

@@ -1,4 +1,4 @@
--- `put_bytes` copies bytes into an output. The loop's invariant: those passed are put, and nothing else has changed.
+-- The loop of `put_bytes`: the bytes passed are put, and nothing else has changed (`Copying`). The measure is what is left of the bytes.
 -- Assumes nothing.
 use Prim.Native.Nat.{◌-◌}
 use lib.ListN.{length}

@@ -1,5 +1,4 @@
--- `put_numbers` puts a list of numbers. The loop's invariant: those passed are put, with at most 11 bytes for each.
--- Assumes nothing.
+-- `put_numbers` puts a list of numbers: the laws of `Listing` at the loop. Assumes nothing.
 use Rattle.writer.specs.Entries.{listing-starts, listing-next, listing-ends}
 use Rattle.writer.proofs.put_numbers.Goals as goal
 

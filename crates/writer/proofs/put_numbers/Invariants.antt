@@ -1,5 +1,5 @@
--- `put_numbers` puts a list of numbers. The loop's invariant: those passed are put, with at most 11 bytes for each.
--- Assumes nothing.
+-- The loop of `put_numbers`: the numbers passed are put, with at most 11 bytes for each (`Listing`). The measure is what is left of the
+-- list. Assumes nothing.
 use Prim.Native.Nat.{◌-◌}
 use lib.ListN.{length}
 use Rattle.writer.specs.Entries.{Listing}
