@@ -8,8 +8,7 @@ use Rattle.std.specs.Prelude.{◌≡◌, refl, ℕ, ◌+◌, ◌*◌, ◌-◌, �
 use Rattle.std.proofs.Common.{◌∙◌, add-one, arith}
 use mathlib.Core.List.{List}
 use Rattle.std.proofs.Math.ListN.{get_or}
-use Rattle.definitions.specs.Number.{negative, inverse}
-use Rattle.definitions.specs.Orthogonality.{norm}
+use Rattle.definitions.specs.Number.{negative}
 use Rattle.theory.specs.NormInverse.{signed_inverse}
 use Rattle.numbers.specs.Lists.{Filling, filled}
 use Rattle.numbers.specs.Lists.{filling-start, filling-next, filling-stop, filling-from}

@@ -13,7 +13,6 @@ use Rattle.definitions.specs.Family.{ones, size}
 use Rattle.definitions.specs.Number.{negative}
 use Rattle.numbers.specs.Lists.{filled}
 use Rattle.lists.specs.Lent.{lent}
-use Rattle.plain_model.specs.PlainDecompose as PlainDecompose
 use Rattle.plain_model.specs.PlainModels.{zeros, zeros-entry, decompose_state}
 use Rattle.plain.specs.Matching.{Match}
 

@@ -1,7 +1,7 @@
 -- The moments' total by rows.
 -- Proved: the rows' totals weighed with s are the uncut product of s and t weighed with the moments (row_totals-moment_total). It rests on
 -- row_total, which an edit of specs/ changes. Assumes nothing.
-use Rattle.std.specs.Prelude.{◌≡◌, List, ℕ, ◌*◌, ◌-◌, ◌%◌, ◌<◌}
+use Rattle.std.specs.Prelude.{◌≡◌, List, ℕ, ◌*◌, ◌%◌, ◌<◌}
 use Rattle.std.proofs.Math.Path.{sym}
 use Rattle.std.proofs.Common.{◌∙◌, mod-lt}
 use Rattle.std.proofs.Math.ListN.{get_or}

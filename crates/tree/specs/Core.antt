@@ -7,7 +7,7 @@
 --                        place 0 on and the way's vectors from place 9,212 on
 -- Proved: with one entry the answer is its remainder (alone-output); TreeOutput, with the working list wiped, is the Output of the answer
 -- (wiped-output). The steps from the lent lists to the answer stand in Core of proofs/. Assumes nothing.
-use Rattle.std.specs.Prelude.{◌≡◌, List, [], ◌∷◌, ◌++◌, ℕ, ◌+◌, ◌-◌, ◌%◌, ◌≤◌, length, get_or, set, replicate}
+use Rattle.std.specs.Prelude.{◌≡◌, List, [], ◌∷◌, ◌++◌, ℕ, ◌%◌, ◌≤◌, length, get_or, set, replicate}
 use Rattle.std.proofs.Math.Path.{sym, ap, ap₂}
 use Rattle.std.proofs.Common.{◌∙◌, arith}
 use Rattle.std.proofs.Math.ListN.{take, drop}
@@ -17,7 +17,7 @@ use Rattle.definitions.specs.Answers.{cleared}
 use Rattle.definitions.specs.Family.{Family, size}
 use Rattle.definitions.specs.Refusals.{work_length}
 use Rattle.lists.specs.Held.{Output}
-use Rattle.numbers.specs.Regions.{part, written, KeptOutside}
+use Rattle.numbers.specs.Regions.{part, KeptOutside}
 use Rattle.numbers.specs.Regions.{kept-drop}
 use Rattle.tree_model.specs.Level.{level_for}
 use Rattle.tree_model.specs.Tree.{padded, up, down, root_pair}

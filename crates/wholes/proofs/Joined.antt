@@ -6,7 +6,6 @@
 use Rattle.std.specs.Prelude.{Bool, [], ◌∷◌, ◌≡◌, refl, ltb, ℤ}
 use Rattle.std.proofs.Math.Bool.{true, false}
 use Rattle.std.proofs.Common.{true≢false, ◌∙◌, subst, mul_comm, div-lt_iff_lt-mul, ltb-true, ltb-false}
-use Rattle.std.proofs.Math.Logic.Iff
 use Rattle.std.proofs.Math.Path.{sym, ap}
 use Prim.Native.Nat.{ℕ, zero, suc, ◌+◌, ◌*◌, ◌-◌, ◌/◌, ◌%◌, ◌≤◌, ◌<◌}
 use Rattle.std.proofs.Math.Nat.{mod-lt, mod-eq_of_lt, mod-add-div, add-mul-mod_self_left, mul-le-mul_left, mul-mod_right, mul-mod_left}

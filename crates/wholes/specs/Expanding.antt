@@ -2,11 +2,11 @@
 -- Proved: the remainders of the true coefficients are the list of Expand modulo m, on every signed family and curve (whole-reduced), by a
 -- map of rings from the whole numbers to the residues. That two such lists joined are exact (joined-true) stands in Expanding of proofs/.
 -- Assumes nothing.
-use Rattle.std.specs.Prelude.{true, ℤ, pos, ◌+ℤ◌, ◌*ℤ◌}
+use Rattle.std.specs.Prelude.{ℤ, pos, ◌+ℤ◌, ◌*ℤ◌}
 use mathlib.Core.List.{List, [], ◌∷◌, map}
 use Rattle.std.proofs.Math.Path.{◌≡◌, refl, ap, fun_ext}
 use Rattle.std.proofs.Common.{sym, ◌∙◌, ap₂, arith, ext_get_or}
-use Prim.Native.Nat.{ℕ, zero, suc, ◌*◌, ◌<◌, ◌≤◌}
+use Prim.Native.Nat.{ℕ, zero, suc, ◌<◌, ◌≤◌}
 use Rattle.std.proofs.Math.Nat.{mod-eq_of_lt}
 use Rattle.std.proofs.Math.ListN.{length, get_or, length-map, get_or-map}
 use Rattle.algebra.specs.Map.{RingMap, map-sum}

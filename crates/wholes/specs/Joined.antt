@@ -15,7 +15,6 @@ use Prim.Native.Nat.{ℕ, suc, ◌+◌, ◌*◌, ◌-◌, ◌%◌, ◌≤◌, �
 use native.Mathlib.Omega.{arith}
 use Rattle.std.proofs.Math.IntN.{pos, negsuc}
 use Rattle.std.specs.Int.Signed.{mag}
-use Rattle.algebra.specs.Solver.{both}
 use Rattle.definitions.specs.Family.{Modulus, greatest_modulus}
 use Rattle.numbers.specs.Factor.{and_both}
 use Rattle.joining.specs.Whole.{remainder, in_range, joins}
