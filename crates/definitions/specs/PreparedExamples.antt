@@ -78,6 +78,17 @@ pub right-R : told (call_record record_of_r) ≡ finished []
 unfolding told
 right-R = refl
 
+-- what they hold is what their rows give: m = 1, an entry that is not below m, an a and a c without an inverse
+abbrev unaccepted : List Prepared
+unaccepted = map prepared (
+    family 1 [] [] [] ∷ family 7 (8 ∷ []) (0 ∷ []) (1 ∷ []) ∷ family 7 (0 ∷ []) (0 ∷ []) (1 ∷ [])
+    ∷ family 15 (1 ∷ 1 ∷ []) (0 ∷ 0 ∷ []) (1 ∷ 5 ∷ []) ∷ []
+    )
+
+pub unaccepted-refused : map (λ p. told (call_record p)) unaccepted ≡ map (λ p. refused 14) unaccepted
+unfolding told
+unaccepted-refused = refl
+
 -- each differs from the record of R in one number, but for the last, which is all zeros
 abbrev damaged : List Prepared
 damaged =
@@ -111,17 +122,6 @@ pub still-right : map told (
     ) ≡ finished [] ∷ finished [] ∷ finished [] ∷ finished [] ∷ finished [] ∷ []
 unfolding told
 still-right = refl
-
--- what they hold is what their rows give: m = 1, an entry that is not below m, an a and a c without an inverse
-abbrev unaccepted : List Prepared
-unaccepted = map prepared (
-    family 1 [] [] [] ∷ family 7 (8 ∷ []) (0 ∷ []) (1 ∷ []) ∷ family 7 (0 ∷ []) (0 ∷ []) (1 ∷ [])
-    ∷ family 15 (1 ∷ 1 ∷ []) (0 ∷ 0 ∷ []) (1 ∷ 5 ∷ []) ∷ []
-    )
-
-pub unaccepted-refused : map (λ p. told (call_record p)) unaccepted ≡ map (λ p. refused 14) unaccepted
-unfolding told
-unaccepted-refused = refl
 
 -- the record of no rows modulo 7, a damaged one, and one that is full: 127 rows 1 0 1 modulo 2
 abbrev no_rows : Prepared

@@ -38,7 +38,8 @@ pub fn take_line(piece: &[u8], from: usize, line: &mut [u8], count: usize) -> Ta
         let byte = piece[i];
         n = keep_byte(line, n, byte);
         i += 1;
-        if byte == b'\n' {
+        let is_end = byte == b'\n';
+        if is_end {
             return Taken {
                 ended: true,
                 count: n,

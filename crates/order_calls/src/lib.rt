@@ -43,7 +43,8 @@ fn write_arranged(direction: Direction, list: &[u32], output: &mut [u32])
 fn lengths(n: usize, output: usize) -> Answer
     ensures { answered result ≡ verdict (order_tests n output) [] }
 {
-    if 128 < n {
+    let is_too_long = 128 < n;
+    if is_too_long {
         return Answer::Refused(5);
     }
     checks::output_length(n, output)

@@ -63,7 +63,8 @@ fn read_digits(text: &[u8], at: usize, first: u32) -> Number
         match b {
             b'0'..=b'9' => {
                 let next = (value as u64) * 10 + ((b - b'0') as u64);
-                if 4294967295 < next {
+                let is_too_large = 4294967295 < next;
+                if is_too_large {
                     return Number::Wrong;
                 }
                 value = next as u32;

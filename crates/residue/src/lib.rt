@@ -114,7 +114,8 @@ pub fn invert(m: u32, x: u32) -> Inversion
         t = t + r / s * u;
         r = r % s;
         if r == 0 {
-            if s == 1 {
+            let has_inverse = s == 1;
+            if has_inverse {
                 return Inversion::Found(u);
             }
             return Inversion::Absent(s);

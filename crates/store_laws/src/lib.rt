@@ -52,7 +52,8 @@ fn answer_text(
         at = end;
         k += 1;
     }
-    if kept == 0 {
+    let none_is_open = kept == 0;
+    if none_is_open {
         return n;
     }
     store_lines::put_printed(&before[..kept], out, n)

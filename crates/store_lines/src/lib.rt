@@ -81,7 +81,8 @@ pub fn put_printed(text: &[u8], out: &mut [u8], at: usize) -> usize
         (printed_line text.now) printed_room
         out.new result }
 {
-    if 8192 < text.len() {
+    let is_too_long = 8192 < text.len();
+    if is_too_long {
         return writer::put_number_line(out, at, b"refused=", 1);
     }
     let mut list = lists::zeros();

@@ -47,7 +47,8 @@ fn put_entry(out: &mut [u8], at: usize, k: usize, x: u32) -> usize
     requires { at + 11 ≤ length out.old }
     ensures { Put out.old at (entry k x) 11 out.new result }
 {
-    if k == 0 {
+    let is_first = k == 0;
+    if is_first {
         return put_number(out, at, x);
     }
     out[at] = b' ';

@@ -7,15 +7,15 @@ use Rattle.lines.proofs.take_line.Goals as goal
 pub loop-i-init : goal.loop-i-init
 loop-i-init c = taking-starts _ _ _ _ c.requires.0 c.requires.1
 
-pub returns-then-byte-eq10 : goal.returns-then-byte-eq10
-returns-then-byte-eq10 c =
+pub returns-then-is_end : goal.returns-then-is_end
+returns-then-is_end c =
     taking-ends _ _ _ _ _ _ _ c.loop-i.invariant (omega arith) _ _ c.keep_byte-n.ensures
-    (eq-eqb _ _ c.if-byte-eq10.true)
+    (eq-eqb _ _ c.if-is_end.true)
 
 pub loop-i-preserved : goal.loop-i-preserved
 loop-i-preserved c =
     taking-on _ _ _ _ _ _ _ c.loop-i.invariant (omega arith) _ _ c.keep_byte-n.ensures
-    (ne_eqb _ _ c.if-byte-eq10.false) (omega arith)
+    (ne_eqb _ _ c.if-is_end.false) (omega arith)
 
 pub returns : goal.returns
 returns c = taking-past _ _ _ _ _ _ _ c.loop-i.invariant c.loop-i-test.false

@@ -3,8 +3,8 @@ use Rattle.acceptance.specs.Stages.{stages-end}
 use Rattle.order_calls.specs.Arranging.{too_many, not-too-many}
 use Rattle.order_calls.proofs.lengths.Goals as goal
 
-pub returns-then-n-gt128 : goal.returns-then-n-gt128
-returns-then-n-gt128 c = too_many _ _ c.if-n-gt128.true
+pub returns-then-is_too_long : goal.returns-then-is_too_long
+returns-then-is_too_long c = too_many _ _ c.if-is_too_long.true
 
 pub returns : goal.returns
-returns c = stages-end _ (not-too-many _ _ c.if-n-gt128.false) c.output_length.result c.output_length.ensures
+returns c = stages-end _ (not-too-many _ _ c.if-is_too_long.false) c.output_length.result c.output_length.ensures

@@ -7,9 +7,9 @@ use Rattle.reader.proofs.read_digits.Goals as goal
 pub loop-i-init : goal.loop-i-init
 loop-i-init c = digits-start _ _ _ c.requires (omega arith)
 
-pub returns-then-next-gt4294967295 : goal.returns-then-next-gt4294967295
-returns-then-next-gt4294967295 c =
-    digits-large _ _ _ _ _ c.loop-i.invariant c.loop-i-test.true c.in-48-to-57.if-b-lt48-own.false (omega arith) c.if-next-gt4294967295.true
+pub returns-then-is_too_large : goal.returns-then-is_too_large
+returns-then-is_too_large c =
+    digits-large _ _ _ _ _ c.loop-i.invariant c.loop-i-test.true c.in-48-to-57.if-b-lt48-own.false (omega arith) c.if-is_too_large.true
 
 pub returns-in_default : goal.returns-in_default
 returns-in_default c =
@@ -21,7 +21,7 @@ returns-in_default-2 c =
 
 pub loop-i-preserved : goal.loop-i-preserved
 loop-i-preserved c =
-    digits-next _ _ _ _ _ c.loop-i.invariant c.loop-i-test.true c.in-48-to-57.if-b-lt48-own.false (omega arith) c.if-next-gt4294967295.false
+    digits-next _ _ _ _ _ c.loop-i.invariant c.loop-i-test.true c.in-48-to-57.if-b-lt48-own.false (omega arith) c.if-is_too_large.false
 
 pub returns : goal.returns
 returns c = digits-past _ _ _ _ _ c.loop-i.invariant c.loop-i-test.false

@@ -49,17 +49,17 @@ overflow_add-t c =
     let amounts = first_fits _ _ (omega arith) _ _ _ _ c.loop-s.invariant c.loop-s-test.true in
     record { fits = within amounts c.ranges.m.fits }
 
-pub returns-then-s-eq1 : goal.returns-then-s-eq1
-returns-then-s-eq1 c =
+pub returns-then-has_inverse : goal.returns-then-has_inverse
+returns-then-has_inverse c =
     found-middle _ _ (omega arith) _ _ _ _
     (turned _ _ (omega arith) _ _ _ _ c.loop-s.invariant c.loop-s-test.true)
-    c.if-r-eq0.true c.if-s-eq1.true
+    c.if-r-eq0.true c.if-has_inverse.true
 
 pub returns-then-r-eq0 : goal.returns-then-r-eq0
 returns-then-r-eq0 c =
     absent-middle _ _ (omega arith) _ _ _ _
     (turned _ _ (omega arith) _ _ _ _ c.loop-s.invariant c.loop-s-test.true)
-    c.if-r-eq0.true c.if-s-eq1.false
+    c.if-r-eq0.true c.if-has_inverse.false
 
 pub overflow_mul-u : goal.overflow_mul-u
 overflow_mul-u c =

@@ -52,9 +52,9 @@ loop-k-preserved c = (
   omega (arith, c.loop-k.invariant.4),
 )
 
-pub returns-then-kept-eq0 : goal.returns-then-kept-eq0
-returns-then-kept-eq0 c =
-    answering-done _ _ _ _ _ _ c.loop-k.invariant.0.answering (omega (arith, c.loop-k.invariant.0.done (omega arith))) c.if-kept-eq0.true
+pub returns-then-none_is_open : goal.returns-then-none_is_open
+returns-then-none_is_open c =
+    answering-done _ _ _ _ _ _ c.loop-k.invariant.0.answering (omega (arith, c.loop-k.invariant.0.done (omega arith))) c.if-none_is_open.true
 
 pub slice_bounds-put_printed-end : goal.slice_bounds-put_printed-end
 slice_bounds-put_printed-end c = omega (arith, c.loop-k.invariant.0.answering.left.within)
@@ -68,4 +68,4 @@ put_printed-requires c =
 
 pub returns : goal.returns
 returns c =
-    answering-last _ _ _ _ _ _ c.loop-k.invariant.0.answering (omega (arith, c.loop-k.invariant.0.done (omega arith))) c.if-kept-eq0.false _ _ c.put_printed.ensures
+    answering-last _ _ _ _ _ _ c.loop-k.invariant.0.answering (omega (arith, c.loop-k.invariant.0.done (omega arith))) c.if-none_is_open.false _ _ c.put_printed.ensures

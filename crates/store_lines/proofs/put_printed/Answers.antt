@@ -6,20 +6,20 @@ use Rattle.store_lines.specs.Printed.{printed-1, printed-2, printed-5, printed-l
 use Rattle.store_lines.specs.Requests.{Requested}
 use Rattle.store_lines.proofs.put_printed.Goals as goal
 
-pub returns-then-text-gt8192 : goal.returns-then-text-gt8192
-returns-then-text-gt8192 c =
-    put-refusal _ _ 1 _ _ _ c.put_number_line.ensures (printed-1 _ c.if-text-gt8192.true)
+pub returns-then-is_too_long : goal.returns-then-is_too_long
+returns-then-is_too_long c =
+    put-refusal _ _ 1 _ _ _ c.put_number_line.ensures (printed-1 _ c.if-is_too_long.true)
 
 pub returns-in_default : goal.returns-in_default
 returns-in_default c =
     put-refusal _ _ 2 _ _ _ c.put_number_line-in_default.ensures
-    (printed-2 _ c.if-text-gt8192.false (subst (Requested _ _) c.in_default.is c.read_request.ensures))
+    (printed-2 _ c.if-is_too_long.false (subst (Requested _ _) c.in_default.is c.read_request.ensures))
 
 pub returns-then-count-gt128 : goal.returns-then-count-gt128
 returns-then-count-gt128 c =
     let request = subst (Requested _ _) c.in-Asked.is c.read_request.ensures in
     put-refusal _ _ 5 _ _ _ c.put_number_line-then-count-gt128.ensures
-    (printed-5 _ c.if-text-gt8192.false _ _ request.read (omega (arith, request.fronted.count, c.if-count-gt128.true)))
+    (printed-5 _ c.if-is_too_long.false _ _ request.read (omega (arith, request.fronted.count, c.if-count-gt128.true)))
 
 pub slice_bounds-put_arranged-end : goal.slice_bounds-put_arranged-end
 slice_bounds-put_arranged-end c = sym (length-take-le _ _ (omega arith))
@@ -37,4 +37,4 @@ pub returns : goal.returns
 returns c =
     let request = subst (Requested _ _) c.in-Asked.is c.read_request.ensures in
     put-printed _ _ _ _ _ _ _ _ c.put_arranged.ensures (request.fronted.front (omega arith))
-    (printed-list _ c.if-text-gt8192.false _ _ request.read (omega (arith, request.fronted.count, c.if-count-gt128.false)))
+    (printed-list _ c.if-is_too_long.false _ _ request.read (omega (arith, request.fronted.count, c.if-count-gt128.false)))
