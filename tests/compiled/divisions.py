@@ -57,6 +57,7 @@ ROWS = (
     "plain::decompose",
     "plain_calls::norms",
     "zahupnik_prepared_plain_adjoint",
+    "expand_join::expand_channel",
     "zahupnik_join",
 )
 PRODUCTS = ("products::add_products", "products::transposed", "subproduct::descend", "record_check::record", "prepared::prepare")
