@@ -6,10 +6,10 @@ set -euo pipefail
 
 sources=(crates crates.txt)
 tools=(rt)
-made_with='' # words that go into what is built
+made_with=--cpu=$processor # words that go into what is built
 make_program() { # in the repository's root. rt proves, builds and runs it, on nothing; its stamp says to rt that it is as it was left
     rm -f "crates/$name/out/$name.stamp"
-    (cd "crates/$name" && rt run "--cpu=$processor" </dev/null >/dev/null) && put_into_target "crates/$name/out/$name" bin
+    (cd "crates/$name" && rt run "$made_with" </dev/null >/dev/null) && put_into_target "crates/$name/out/$name" bin
 }
 
 program=$top/target/bin/$name

@@ -1,6 +1,6 @@
 # What the runs of the library from C share, to be sourced by bash in the repository's root: the compiler's words, and
-# build_library, which makes the static library if the contents of a source, or the kit, are others than when it was made. The script that
-# sources this sets `built`, the folder for what it builds, and `name`, which opens its messages.
+# build_library, which makes the static library if the contents of a source, the kit or the processor are others than when
+# it was made. The script that sources this sets `built`, the folder for what it builds, and `name`, which opens its messages.
 declare -F guard >/dev/null || . bin/script.sh
 archive=target/staticlib/libzahupnik.a
 seal=target/staticlib/libzahupnik.seal
@@ -23,8 +23,8 @@ expose() { # FUNCTION SYMBOL ARCHIVE: writes a copy of the library in which a fu
     objcopy --redefine-sym "$1=$2" --globalize-symbol="$2" "$archive" "$3" || fail "objcopy does not take the library"
     nm "$3" | grep " T $2\$" >/dev/null || fail "the library has no function $1 by itself: the compiler has put it in line, or it has another name"
 }
-seal_of() { # SOURCES: the seal of the archive as it is, which this kit made from sources with this checksum
-    printf '%s\n' "$(rt version)" "$1" "$(contents "$archive")"
+seal_of() { # SOURCES: the seal of the archive as it is, which this kit made for the processor from sources with this checksum
+    printf '%s\n' "$(rt version)" "$processor" "$1" "$(contents "$archive")"
 }
 is_sealed() { # whether the archive is the one that the kit made last, from sources that are as they were
     [ -f "$archive" ] && [ -f "$seal" ] && [ "$(<"$seal")" = "$(seal_of "$(contents crates crates.txt)")" ]
