@@ -7,8 +7,7 @@ ghost use Rattle.definitions.specs.Answers.{answered};
 ghost use Rattle.definitions.specs.Family.{row_of};
 ghost use Rattle.definitions.specs.Prepared.{row_tests};
 ghost use Rattle.definitions.specs.Refusals.{verdict, some, not_below, modulus_test, equal_lengths_test, row_count_test, curve_length_test};
-ghost use Rattle.definitions.specs.Refusals.{output_test, work_test, entries_test, curve_entries_test, number_test, shape_tests};
-ghost use Rattle.definitions.specs.Refusals.{row_inverses, family_rows};
+ghost use Rattle.definitions.specs.Refusals.{output_test, work_test, entries_test, curve_entries_test, number_test, shape_tests, row_inverses, family_rows};
 ghost use Rattle.definitions.specs.TextCall.{text_length_test, text_output_test};
 ghost use Rattle.lists.specs.Lent.{lent, Long};
 ghost use Rattle.checks.specs.Passes.{BelowAnswer, FactorAnswer};
@@ -96,6 +95,7 @@ fn invertible(m: u32, list: &[u32]) -> Factors
 }
 
 // 1: the number of bytes of a job text.
+#[tactic(auto, unfolding(definitions::specs::Refusals::verdict, definitions::specs::TextCall::text_length_test))]
 pub fn text_length(count: usize) -> Answer
     ensures { answered result ≡ verdict (text_length_test count ∷ []) [] }
 {
@@ -106,6 +106,7 @@ pub fn text_length(count: usize) -> Answer
 }
 
 // 3: the range of the modulus.
+#[tactic(auto, unfolding(definitions::specs::Refusals::verdict, definitions::specs::Refusals::modulus_test))]
 pub fn modulus(m: u32) -> Answer
     ensures { answered result ≡ verdict (modulus_test m ∷ []) [] }
 {
@@ -119,6 +120,7 @@ pub fn modulus(m: u32) -> Answer
 }
 
 // 4: the lengths of the rows' lists.
+#[tactic(auto, unfolding(definitions::specs::Refusals::verdict, definitions::specs::Refusals::equal_lengths_test, definitions::specs::Refusals::differ))]
 fn equal_lengths(a: usize, b: usize, c: usize) -> Answer
     ensures { answered result ≡ verdict (equal_lengths_test a b c ∷ []) [] }
 {
@@ -132,6 +134,7 @@ fn equal_lengths(a: usize, b: usize, c: usize) -> Answer
 }
 
 // 5: the number of rows.
+#[tactic(auto, unfolding(definitions::specs::Refusals::verdict, definitions::specs::Refusals::row_count_test))]
 fn row_count(rows: usize) -> Answer
     ensures { answered result ≡ verdict (row_count_test rows ∷ []) [] }
 {
@@ -142,6 +145,7 @@ fn row_count(rows: usize) -> Answer
 }
 
 // 3, 4 and 5.
+#[tactic(auto, unfolding(definitions::specs::Refusals::verdict, definitions::specs::Refusals::shape_tests))]
 pub fn family_shape(m: u32, a: usize, b: usize, c: usize) -> Answer
     ensures { answered result ≡ verdict (shape_tests m a b c) [] }
 {
@@ -157,6 +161,7 @@ pub fn family_shape(m: u32, a: usize, b: usize, c: usize) -> Answer
 }
 
 // 6: the length of the curve.
+#[tactic(auto, unfolding(definitions::specs::Refusals::verdict, definitions::specs::Refusals::curve_length_test, definitions::specs::Refusals::differ))]
 pub fn curve_length(wanted: usize, curve: usize) -> Answer
     ensures { answered result ≡ verdict (curve_length_test wanted curve ∷ []) [] }
 {
@@ -167,6 +172,7 @@ pub fn curve_length(wanted: usize, curve: usize) -> Answer
 }
 
 // 7: the length of the output.
+#[tactic(auto, unfolding(definitions::specs::Refusals::verdict, definitions::specs::Refusals::output_test, definitions::specs::Refusals::differ))]
 pub fn output_length(wanted: usize, output: usize) -> Answer
     ensures { answered result ≡ verdict (output_test wanted output ∷ []) [] }
 {
@@ -177,6 +183,7 @@ pub fn output_length(wanted: usize, output: usize) -> Answer
 }
 
 // 7 of a text: its output has so many bytes at least.
+#[tactic(auto, unfolding(definitions::specs::Refusals::verdict, definitions::specs::TextCall::text_output_test))]
 pub fn text_output_length(least: usize, output: usize) -> Answer
     ensures { answered result ≡ verdict (text_output_test least output ∷ []) [] }
 {
@@ -187,6 +194,7 @@ pub fn text_output_length(least: usize, output: usize) -> Answer
 }
 
 // 8: the length of the working list.
+#[tactic(auto, unfolding(definitions::specs::Refusals::verdict, definitions::specs::Refusals::work_test))]
 pub fn work_length(work: usize) -> Answer
     ensures { answered result ≡ verdict (work_test work ∷ []) [] }
 {
@@ -296,6 +304,7 @@ fn row_inverses(
 }
 
 // 9, 17, 10, 18 and 11 of the family of the first r rows and the closing row.
+#[tactic(auto, unfolding(definitions::specs::Refusals::verdict, definitions::specs::Refusals::family_rows, definitions::specs::Refusals::row_inverses))]
 pub fn family_rows(
     m: u32,
     a: &[u32],
@@ -350,6 +359,7 @@ pub fn new_row(m: u32, place: usize, a: u32, b: u32, c: u32) -> Answer
 }
 
 // 12: the entries of a curve.
+#[tactic(auto, unfolding(definitions::specs::Refusals::verdict, definitions::specs::Refusals::curve_entries_test))]
 pub fn curve_entries(m: u32, curve: &[u32]) -> Answer
     ensures { answered result ≡ verdict (curve_entries_test m curve.now ∷ []) [] }
 {
@@ -360,6 +370,7 @@ pub fn curve_entries(m: u32, curve: &[u32]) -> Answer
 }
 
 // 12 of a number.
+#[tactic(auto, unfolding(definitions::specs::Refusals::verdict, definitions::specs::Refusals::number_test, definitions::specs::Refusals::not_below))]
 pub fn number_below(m: u32, x: u32) -> Answer
     ensures { answered result ≡ verdict (number_test m x ∷ []) [] }
 {

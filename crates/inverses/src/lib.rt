@@ -23,18 +23,18 @@ fn inverse_or_zero(m: u32, x: u32) -> u32
     }
 }
 
+#[tactic(auto, using(lists::proofs::Fills::fillings, crate::proofs::Fills::running))]
 fn one_by_one(m: u32, list: &[u32], n: usize, output: &mut [u32])
     requires { (n ≤ length list.now) × (n ≤ length output.old) }
     ensures { output.new ≡ filled (λ i. Number.inverse m (get_or list.now i 0)) n output.old }
 {
-    let mut i: usize = 0;
-    while i < n {
+    for i in 0..n {
         output[i] = inverse_or_zero(m, list[i]);
-        i += 1;
     }
 }
 
 // Leaves the product of the entries before i at place i, for the first n places, and answers the product of all n.
+#[tactic(auto, using(lists::proofs::Fills::fillings, crate::proofs::Fills::running))]
 fn running_products(m: u32, list: &[u32], n: usize, output: &mut [u32]) -> u32
     requires { (0 < m) × (n ≤ length list.now) × (n ≤ length output.old) }
     ensures { (result ≡ running_product m (λ i. get_or list.now i 0) n)
@@ -42,11 +42,9 @@ fn running_products(m: u32, list: &[u32], n: usize, output: &mut [u32]) -> u32
 {
     let reciprocal = reduction::reciprocal(m);
     let mut whole: u32 = 1;
-    let mut i: usize = 0;
-    while i < n {
+    for i in 0..n {
         output[i] = whole;
         whole = product_by(m, reciprocal, whole, list[i]);
-        i += 1;
     }
     whole
 }
@@ -58,9 +56,7 @@ fn share_inverse(m: u32, list: &[u32], n: usize, inverse: u32, output: &mut [u32
 {
     let reciprocal = reduction::reciprocal(m);
     let mut shared = inverse;
-    let mut i = n;
-    while 0 < i {
-        i -= 1;
+    for i in (0..n).rev() {
         output[i] = product_by(m, reciprocal, shared, output[i]);
         shared = product_by(m, reciprocal, shared, list[i]);
     }
@@ -84,16 +80,15 @@ fn all_inverses(m: u32, list: &[u32], n: usize, output: &mut [u32])
 }
 
 // The inverses of the entries from place first to n - 1, each 0 where there is none, and 0 at the places below first.
+#[tactic(auto, using(lists::proofs::Fills::fillings, crate::proofs::Fills::running))]
 pub fn of_list(m: u32, list: &[u32], first: usize, n: usize, output: &mut [u32])
     requires { (n ≤ length list.now) × (n ≤ length output.old) }
     ensures { output.new ≡ filled (inverse_from m first list.now) n output.old }
 {
     let count = lists::excess(n, first);
     let start = n - count;
-    let mut i: usize = 0;
-    while i < start {
+    for i in 0..start {
         output[i] = 0;
-        i += 1;
     }
     all_inverses(m, &list[start..], count, &mut output[start..]);
 }

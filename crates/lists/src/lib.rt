@@ -4,7 +4,43 @@
 
 ghost use Rattle.std.specs.Prelude.{◌≡◌, ◌-◌, ◌≤◌, length, get_or, take, replicate};
 ghost use Rattle.definitions.specs.Answers.{cleared};
+ghost use Rattle.lists.specs.Lent.{LentRows};
 ghost use Rattle.numbers.specs.Lists.{filled};
+
+use std::marker::Model;
+
+// The rows of a family, lent: three lists of one length, of residues.
+#[derive(Clone, Copy)]
+pub struct Rows<'a> {
+    pub modulus: u32,
+    pub a: &'a [u32],
+    pub b: &'a [u32],
+    pub c: &'a [u32],
+    pub ghost lent: { LentRows modulus (length a.now) a.now b.now c.now },
+    pub ghost b_length: { length b.now ≡ length a.now },
+    pub ghost c_length: { length c.now ≡ length a.now },
+    pub ghost few: { length a.now ≤ 127 },
+}
+
+// A family that is accepted, lent.
+#[derive(Drop)]
+pub struct Family<'a> {
+    pub modulus: u32,
+    pub a: &'a [u32],
+    pub b: &'a [u32],
+    pub c: &'a [u32],
+}
+
+impl<'a> Model for Family<'a> {
+    ghost use Rattle.definitions.specs.Family as F;
+    ghost use Rattle.lists.specs.Accepting.{Accepting};
+
+    ghost Value = { F.Family };
+
+    ghost view = { λ f. F.family f.modulus f.a.now f.b.now f.c.now };
+
+    ghost invariant = { λ f. Accepting (F.family f.modulus f.a.now f.b.now f.c.now) };
+}
 
 // A local list, all zeros.
 pub fn zeros() -> [u32; 128]
@@ -17,7 +53,7 @@ pub fn zeros() -> [u32; 128]
 pub fn excess(x: usize, y: usize) -> usize
     ensures { result ≡ x - y }
 {
-    if x < y { 0 } else { x - y }
+    x.saturating_sub(y)
 }
 
 // The entry at i, and zero past the end.
@@ -36,25 +72,21 @@ pub fn row_entry(list: &[u32], rows: usize, i: usize, close: u32) -> u32
 }
 
 // The first count entries of from take the place of those of to.
+#[tactic(auto, using(crate::proofs::Copies::copied))]
 pub fn copy(from: &[u32], count: usize, to: &mut [u32])
     requires { (count ≤ length from.now) × (count ≤ length to.old) }
     ensures { to.new ≡ filled (λ i. get_or from.now i 0) count to.old }
 {
-    let mut i: usize = 0;
-    while i < count {
-        to[i] = from[i];
-        i += 1;
-    }
+    to[..count].copy_from_slice(&from[..count]);
 }
 
 // Leaves zeros in the first 16,384 numbers.
+#[tactic(auto, using(crate::proofs::Fills::fillings))]
 pub fn clear(work: &mut [u32])
     requires { 16384 ≤ length work.old }
     ensures { work.new ≡ cleared work.old }
 {
-    let mut i: usize = 0;
-    while i < 16384 {
+    for i in 0..16384 {
         work[i] = 0;
-        i += 1;
     }
 }

@@ -3,64 +3,94 @@
 // output are written. The 1 that stands for a row's number past these is the closing row's.
 #![tactic(auto)]
 
-ghost use Rattle.std.specs.Prelude.{◌≡◌, List, ◌++◌, ℕ, ◌-◌, ◌<◌, ◌≤◌, length, take, drop};
+ghost use Rattle.std.specs.Prelude.{◌≡◌, List, ◌++◌, ℕ, ◌+◌, ◌-◌, ◌<◌, ◌≤◌, length, take, drop};
 ghost use Rattle.definitions.specs.Conversion.{expand, adjoint, decompose};
-ghost use Rattle.definitions.specs.Family.{row_of, ones};
+ghost use Rattle.definitions.specs.Family.{row_of, ones, Curve};
 ghost use Rattle.definitions.specs.Orthogonality.{norms};
+ghost use Rattle.definitions.specs.Family as definition;
 ghost use Rattle.lists.specs.Inverses.{Inverts};
 ghost use Rattle.lists.specs.Lent.{lent};
 ghost use Rattle.numbers.specs.Lists.{filled};
 ghost use Rattle.plain.specs.Decomposing.{negative_product};
 ghost use Rattle.plain.specs.Input.{ConvertInput, NormsCoreInput};
 
-use lists::{copy, row_entry, zeros};
+use lists::{Family, copy, row_entry, zeros};
 use residue::{negative, product_by};
 use row_steps::{adjoint_row, decompose_row, expand_row};
 
 // The coefficients in powers of x, downwards (Clenshaw): after i steps current is B_{n-i}, of i coefficients, and older
 // B_{n-i+1}, where B_k = u_k + (a_{k+1} x + b_{k+1}) B_{k+1} + c_{k+2} B_{k+2}. The closing row multiplies zeros.
-pub fn expand(m: u32, a: &[u32], b: &[u32], c: &[u32], curve: &[u32], n: usize, output: &mut [u32])
-    requires { ConvertInput m a.now b.now c.now curve.now n output.old }
-    ensures { output.new
-        ≡ expand (lent m (n - 1) a.now b.now c.now ones) (take n curve.now)
-        ++ drop n output.old }
+pub fn expand(family: &Family, curve: &[u32], output: &mut [u32])
+    requires curve { Curve family.now curve.now }
+    requires room { length output.old ≡ length curve.now }
+    ensures { output.new ≡ expand family.now curve.now }
 {
-    let rows = n - 1;
+    let n = curve.len();
+    let last = n - 1;
     let mut current = zeros();
     let mut older = zeros();
-    let mut i: usize = 0;
-    while i < n {
-        let k = rows - i;
+    for i in 0..n {
+        let k = last - i;
         let x = curve[k];
-        let p = row_entry(a, rows, k, 1);
-        let q = row_entry(b, rows, k, 1);
-        let r = row_entry(c, rows, k + 1, 1);
-        expand_row(m, x, p, q, r, &mut current, &mut older, i + 1);
-        i += 1;
+        let p = row_entry(family.a, last, k, 1);
+        let q = row_entry(family.b, last, k, 1);
+        let r = row_entry(family.c, last, k + 1, 1);
+        expand_row(family.modulus, x, p, q, r, &mut current, &mut older, i + 1);
     }
     copy(&current, n, output);
 }
 
 // The transposed of expand, upwards: after j rows current[t] is the sum of u_i times the coefficient of x^i in x^t F_j, for t below
 // n - j, and older the same of F_{j-1}. Entry j of the output is the first of them.
-pub fn adjoint(m: u32, a: &[u32], b: &[u32], c: &[u32], curve: &[u32], n: usize, output: &mut [u32])
-    requires { ConvertInput m a.now b.now c.now curve.now n output.old }
-    ensures { output.new
-        ≡ adjoint (lent m (n - 1) a.now b.now c.now ones) (take n curve.now)
-        ++ drop n output.old }
+pub fn adjoint(family: &Family, curve: &[u32], output: &mut [u32])
+    requires curve { Curve family.now curve.now }
+    requires room { length output.old ≡ length curve.now }
+    ensures { output.new ≡ adjoint family.now curve.now }
 {
-    let rows = n - 1;
+    let m = family.modulus;
+    let n = curve.len();
+    let last = n - 1;
     let mut current = zeros();
     let mut older = zeros();
     copy(curve, n, &mut current);
-    let mut j: usize = 0;
-    while j < n {
+    for j in 0..n {
         output[j] = current[0];
-        let p = row_entry(a, rows, j, 1);
-        let q = row_entry(b, rows, j, 1);
-        let r = row_entry(c, rows, j, 1);
-        adjoint_row(m, p, q, r, &mut current, &mut older, rows - j);
-        j += 1;
+        let p = row_entry(family.a, last, j, 1);
+        let q = row_entry(family.b, last, j, 1);
+        let r = row_entry(family.c, last, j, 1);
+        adjoint_row(m, p, q, r, &mut current, &mut older, last - j);
+    }
+}
+
+// A conversion by the plain way, on input that is already checked.
+pub trait Conversion {
+    ghost converted: { definition.Family → List ℕ → List ℕ };
+
+    fn convert(family: &Family, curve: &[u32], output: &mut [u32])
+        requires curve { Curve family.now curve.now }
+        requires room { length output.old ≡ length curve.now }
+        ensures { output.new ≡ converted family.now curve.now };
+}
+
+#[derive(Clone, Copy)]
+pub struct Expanding;
+
+impl Conversion for Expanding {
+    ghost converted = { expand };
+
+    fn convert(family: &Family, curve: &[u32], output: &mut [u32]) {
+        expand(family, curve, output);
+    }
+}
+
+#[derive(Clone, Copy)]
+pub struct Adjoining;
+
+impl Conversion for Adjoining {
+    ghost converted = { adjoint };
+
+    fn convert(family: &Family, curve: &[u32], output: &mut [u32]) {
+        adjoint(family, curve, output);
     }
 }
 

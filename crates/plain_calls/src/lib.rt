@@ -9,6 +9,8 @@ ghost use Rattle.definitions.specs.Conversion.{expand, adjoint, decompose};
 ghost use Rattle.definitions.specs.Family.{family};
 
 use definitions::{Answer, InverseAnswer};
+use lists::Family;
+use plain::{Adjoining, Conversion, Expanding};
 
 // Inverse: the number below m that times x leaves 1 modulo m, and the greatest common factor of x and m, which is then 1.
 // Refused with 3: m is out of its range; with 12: x is not below m; with 13: x has no inverse, and the factor tells why: m where x is zero.
@@ -16,6 +18,32 @@ pub fn invert(m: u32, x: u32) -> InverseAnswer
     ensures { InverseCall m x (inverse_answered result) [] (inverse_handed result) [] (factor_handed result) }
 {
     verdicts::inverse(m, x)
+}
+
+// A conversion by the plain way: its tests, and then its core.
+fn call<C: Conversion>(
+    m: u32,
+    a: &[u32],
+    b: &[u32],
+    c: &[u32],
+    curve: &[u32],
+    output: &mut [u32],
+) -> Answer
+    ensures { PlainCall C.converted (family m a.now b.now c.now) curve.now (answered result)
+        output.old output.new }
+{
+    let tested = verdicts::plain(m, a, b, c, curve, output.len());
+    let Answer::Finished = tested else {
+        return tested;
+    };
+    let family = Family {
+        modulus: m,
+        a,
+        b,
+        c,
+    };
+    C::convert(&family, curve, output);
+    Answer::Finished
 }
 
 // Expand, row by row: from a curve the n coefficients, in powers of x, of the sum of its entries times F_i.
@@ -34,12 +62,7 @@ pub fn plain_expand(
     ensures { PlainCall expand (family m a.now b.now c.now) curve.now (answered result)
         output.old output.new }
 {
-    let tested = verdicts::plain(m, a, b, c, curve, output.len());
-    let Answer::Finished = tested else {
-        return tested;
-    };
-    plain::expand(m, a, b, c, curve, a.len() + 1, output);
-    Answer::Finished
+    call::<Expanding>(m, a, b, c, curve, output)
 }
 
 // Adjoint (transposed expand), row by row: entry j is the sum over i of curve entry i times the coefficient of x^i in F_j.
@@ -55,12 +78,7 @@ pub fn plain_adjoint(
     ensures { PlainCall adjoint (family m a.now b.now c.now) curve.now (answered result)
         output.old output.new }
 {
-    let tested = verdicts::plain(m, a, b, c, curve, output.len());
-    let Answer::Finished = tested else {
-        return tested;
-    };
-    plain::adjoint(m, a, b, c, curve, a.len() + 1, output);
-    Answer::Finished
+    call::<Adjoining>(m, a, b, c, curve, output)
 }
 
 // Decompose, from the top power: from n coefficients in powers of x the one curve that Expand turns into them.

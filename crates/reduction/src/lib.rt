@@ -15,6 +15,36 @@ pub fn reciprocal(m: u32) -> u64
     18446744073709551615 / (m as u64)
 }
 
+// A modulus, and how often 2^64 - 1 holds it.
+#[derive(Clone, Copy)]
+pub struct Modulus {
+    pub value: u32,
+    pub reciprocal: u64,
+    pub ghost is: { Reciprocal value reciprocal },
+}
+
+impl Modulus {
+    pub fn new(value: u32) -> Modulus
+        requires { 0 < value }
+        ensures { result.value ≡ value }
+    {
+        let reciprocal = reciprocal(value);
+        Modulus { value, reciprocal }
+    }
+
+    pub fn remainder(self, x: u64) -> u32
+        ensures { result ≡ x % self.value }
+    {
+        remainder(self.value, self.reciprocal, x)
+    }
+
+    pub fn product(self, x: u32, y: u32) -> u32
+        ensures { result ≡ x * y % self.value }
+    {
+        self.remainder((x as u64) * (y as u64))
+    }
+}
+
 // The upper 64 bits of x y, from products of halves of 32 bits. The kit's compiler makes one multiplication of just this form.
 fn high_product(x: u64, y: u64) -> u64
     ensures { HighHalf x y result }

@@ -22,6 +22,7 @@ fn rows(m: u32, a: &[u32], b: &[u32], c: &[u32]) -> Answer
 }
 
 // And 12 of a curve.
+#[tactic(auto, using(checks::specs::Shape::shaped), unfolding(definitions::specs::Refusals::verdict, definitions::specs::Refusals::value_tests, definitions::specs::Refusals::family_rows, definitions::specs::Refusals::row_inverses))]
 fn values(m: u32, a: &[u32], b: &[u32], c: &[u32], curve: &[u32]) -> Answer
     requires { Shaped m (length a.now) (length b.now) (length c.now) }
     ensures { answered result ≡ verdict
@@ -35,6 +36,7 @@ fn values(m: u32, a: &[u32], b: &[u32], c: &[u32], curve: &[u32]) -> Answer
 }
 
 // Expand, Adjoint and Decompose by the plain way: 3 4 5 6 7 9 17 10 18 11 12.
+#[tactic(auto, using(checks::specs::Shape::shaped), unfolding(definitions::specs::Refusals::verdict, definitions::specs::Refusals::plain_tests, definitions::specs::Refusals::shape_tests))]
 pub fn plain(m: u32, a: &[u32], b: &[u32], c: &[u32], curve: &[u32], output: usize) -> Answer
     ensures { answered result ≡ verdict
         (plain_tests (family m a.now b.now c.now) curve.now output) [] }
@@ -55,6 +57,7 @@ pub fn plain(m: u32, a: &[u32], b: &[u32], c: &[u32], curve: &[u32], output: usi
 }
 
 // The same by the tree way, with 8 after 7.
+#[tactic(auto, using(checks::specs::Shape::shaped), unfolding(definitions::specs::Refusals::verdict, definitions::specs::Refusals::tree_tests, definitions::specs::Refusals::shape_tests))]
 pub fn tree(
     m: u32,
     a: &[u32],
@@ -87,6 +90,7 @@ pub fn tree(
 }
 
 // Norms: 3 4 5 7 9 17 10 18 11.
+#[tactic(auto, using(checks::specs::Shape::shaped), unfolding(definitions::specs::Refusals::verdict, definitions::specs::Refusals::norms_tests, definitions::specs::Refusals::shape_tests))]
 pub fn norms(m: u32, a: &[u32], b: &[u32], c: &[u32], output: usize) -> Answer
     ensures { answered result ≡ verdict
         (norms_tests (family m a.now b.now c.now) output) [] }
@@ -103,6 +107,7 @@ pub fn norms(m: u32, a: &[u32], b: &[u32], c: &[u32], output: usize) -> Answer
 }
 
 // Moments: 3 4 5 7 8 9 17 10 18 11.
+#[tactic(auto, using(checks::specs::Shape::shaped), unfolding(definitions::specs::Refusals::verdict, definitions::specs::Refusals::moments_tests, definitions::specs::Refusals::shape_tests))]
 pub fn moments(m: u32, a: &[u32], b: &[u32], c: &[u32], output: usize, work: usize) -> Answer
     ensures { answered result ≡ verdict
         (moments_tests (family m a.now b.now c.now) output work) [] }
@@ -123,6 +128,7 @@ pub fn moments(m: u32, a: &[u32], b: &[u32], c: &[u32], output: usize, work: usi
 }
 
 // How many numbers an operation takes, beside a family of that many rows.
+#[tactic(auto, using(checks::specs::Shape::shaped), unfolding(definitions::specs::Refusals::verdict, definitions::specs::TextCall::curve_count))]
 fn curve_count(operation: Operation, rows: usize) -> usize
     requires { rows ≤ 127 }
     ensures { result ≡ curve_count operation rows }
@@ -137,6 +143,7 @@ fn curve_count(operation: Operation, rows: usize) -> usize
 }
 
 // Of a job and the output for a text, 3 to 7: the modulus and the lengths, where the output has so many bytes at least.
+#[tactic(auto, using(checks::specs::Shape::shaped), unfolding(definitions::specs::Refusals::verdict, definitions::specs::TextCall::length_tests, definitions::specs::Refusals::shape_tests))]
 fn lengths(
     m: u32,
     operation: Operation,
@@ -161,6 +168,7 @@ fn lengths(
 }
 
 // Of a job, before a list is loaded, 3 to 8: the modulus, and the lengths of what the text holds and of what is lent.
+#[tactic(auto, using(checks::specs::Shape::shaped), unfolding(definitions::specs::Refusals::verdict, definitions::specs::TextCall::size_tests, definitions::specs::TextCall::length_tests, definitions::specs::Refusals::shape_tests))]
 pub fn sizes(
     m: u32,
     operation: Operation,
@@ -181,6 +189,7 @@ pub fn sizes(
 }
 
 // The call that writes a job: 3 4 5 6 7 9 17 10 18 11 12.
+#[tactic(auto, using(checks::specs::Shape::shaped), unfolding(definitions::specs::Refusals::verdict, definitions::specs::JobWriting::writing_tests, definitions::specs::TextCall::length_tests, definitions::specs::Refusals::shape_tests))]
 pub fn writing(
     m: u32,
     a: &[u32],

@@ -1,6 +1,6 @@
 -- The loop of `expand`: after i steps the arrays match the model (`Expanding`). The measure is what is left of the steps. Assumes nothing.
+use lib.ListN.{length, take}
 use Prim.Native.Nat.{◌-◌}
-use lib.ListN.{take}
 use Rattle.definitions.specs.Family.{ones}
 use Rattle.lists.specs.Lent.{lent}
 use Rattle.plain.specs.Expanding.{Expanding}
@@ -8,7 +8,6 @@ use Rattle.plain.proofs.expand.Given as goal
 
 abbrev pub invariant-loop-i : goal.invariant-loop-i
 invariant-loop-i l =
-    Expanding (lent l.m (l.n - 1) l.a l.b l.c ones) (take l.n l.curve) l.n l.current l.older l.i
-
-abbrev pub decreases-loop-i : goal.decreases-loop-i
-decreases-loop-i l = l.n - l.i
+    let f = l.family-inside in
+    Expanding (lent f.modulus (length l.curve - 1) f.a.now f.b.now f.c.now ones) (take (length l.curve) l.curve)
+    (length l.curve) l.current l.older l.i
