@@ -1,602 +1,239 @@
 // The scope paper's figures through the public calls, one line each: the figure, the answer, and what the output then holds. Each
-// output is lent full of fours, so that a refusal is seen to leave it. A figure is a function of its own: the more lists a function makes,
-// the longer its proof is sought.
+// output is lent full of fours, so that a refusal is seen to leave it.
 #![tactic(auto)]
+
+ghost use Rattle.std.specs.Prelude.{◌≤◌, length};
 
 use definitions::{Answer, InverseAnswer};
 use std::io;
 
-fn text(rt: &impl Print, bytes: &[u8]) -> io::Result<()> {
-    rt.write_all(bytes)
+fn list_of<const N: usize>(x: u32) -> [u32; N] {
+    [x; N]
 }
 
-fn number(rt: &impl Print, x: u32) -> io::Result<()> {
-    text(rt, b" ")?;
-    rt.print(x)
-}
-
-fn list(rt: &impl Print, xs: &[u32]) -> io::Result<()> {
-    for x in xs {
-        number(rt, *x)?;
-    }
-    Ok(())
-}
-
-fn show(rt: &impl Print, label: &[u8], answer: Answer, output: &[u32]) -> io::Result<()> {
-    text(rt, label)?;
+fn show(rt: &impl Print, label: &str, answer: Answer, output: &[u32]) -> io::Result<()> {
     match answer {
-        Answer::Finished => text(rt, b" finished:")?,
-        Answer::Refused(k) => {
-            text(rt, b" refused")?;
-            number(rt, k)?;
-            text(rt, b":")?;
-        }
+        Answer::Finished => print!(rt; "{label} finished:")?,
+        Answer::Refused(k) => print!(rt; "{label} refused {k}:")?,
     }
-    list(rt, output)?;
-    text(rt, b"\n")
+    for x in output {
+        print!(rt; " {x}")?;
+    }
+    println!(rt)
 }
 
-fn show_inverse(rt: &impl Print, label: &[u8], answer: InverseAnswer) -> io::Result<()> {
-    text(rt, label)?;
+fn show_inverse(rt: &impl Print, label: &str, answer: InverseAnswer) -> io::Result<()> {
     match answer {
-        InverseAnswer::Found(y, g) => {
-            text(rt, b" value:")?;
-            number(rt, y)?;
-            text(rt, b", factor")?;
-            number(rt, g)?;
-        }
-        InverseAnswer::NoInverse(g) => {
-            text(rt, b" refused 13, factor")?;
-            number(rt, g)?;
-        }
-        InverseAnswer::Refused(k) => {
-            text(rt, b" refused")?;
-            number(rt, k)?;
-        }
+        InverseAnswer::Found(y, g) => println!(rt; "{label} value: {y}, factor {g}"),
+        InverseAnswer::NoInverse(g) => println!(rt; "{label} refused 13, factor {g}"),
+        InverseAnswer::Refused(k) => println!(rt; "{label} refused {k}"),
     }
-    text(rt, b"\n")
 }
 
-// The calls, each shown with what its output then holds.
-fn expand(
+// A call, shown with what its output then holds.
+fn figure<F: FnOnce(&mut [u32]) -> Answer>(
     rt: &impl Print,
-    label: &[u8],
-    m: u32,
-    a: &[u32],
-    b: &[u32],
-    c: &[u32],
-    curve: &[u32],
+    label: &str,
     output: &mut [u32],
-) -> io::Result<()> {
-    let answer = plain_calls::plain_expand(m, a, b, c, curve, output);
-    show(rt, label, answer, output)
-}
-
-fn adjoint(
-    rt: &impl Print,
-    label: &[u8],
-    m: u32,
-    a: &[u32],
-    b: &[u32],
-    c: &[u32],
-    curve: &[u32],
-    output: &mut [u32],
-) -> io::Result<()> {
-    let answer = plain_calls::plain_adjoint(m, a, b, c, curve, output);
-    show(rt, label, answer, output)
-}
-
-fn decompose(
-    rt: &impl Print,
-    label: &[u8],
-    m: u32,
-    a: &[u32],
-    b: &[u32],
-    c: &[u32],
-    coefficients: &[u32],
-    output: &mut [u32],
-) -> io::Result<()> {
-    let answer = plain_calls::plain_decompose(m, a, b, c, coefficients, output);
-    show(rt, label, answer, output)
-}
-
-fn norms(
-    rt: &impl Print,
-    label: &[u8],
-    m: u32,
-    a: &[u32],
-    b: &[u32],
-    c: &[u32],
-    output: &mut [u32],
-) -> io::Result<()> {
-    let answer = plain_calls::norms(m, a, b, c, output);
+    call: F,
+) -> io::Result<()>
+    requires { F.IsAlwaysCallable call }
+{
+    let answer = call(output);
     show(rt, label, answer, output)
 }
 
 // R: m = 7, a = 1 2, b = 0 3, c = 1 5.
-fn p1(rt: &impl Print) -> io::Result<()> {
-    expand(
-        rt,
-        b"P1",
-        7,
-        &[1, 2],
-        &[0, 3],
-        &[1, 5],
-        &[3, 0, 1],
-        &mut [4; 3],
-    )
-}
-
-fn p2(rt: &impl Print) -> io::Result<()> {
-    adjoint(
-        rt,
-        b"P2",
-        7,
-        &[1, 2],
-        &[0, 3],
-        &[1, 5],
-        &[1, 3, 2],
-        &mut [4; 3],
-    )
-}
-
-fn p3(rt: &impl Print) -> io::Result<()> {
-    decompose(
-        rt,
-        b"P3",
-        7,
-        &[1, 2],
-        &[0, 3],
-        &[1, 5],
-        &[1, 3, 2],
-        &mut [4; 3],
-    )
-}
-
-fn p5(rt: &impl Print) -> io::Result<()> {
-    norms(rt, b"P5", 7, &[1, 2], &[0, 3], &[1, 5], &mut [4; 3])
-}
-
 fn on_r(rt: &impl Print) -> io::Result<()> {
-    p1(rt)?;
-    p2(rt)?;
-    p3(rt)?;
-    p5(rt)
+    figure(rt, "P1", &mut [4; 3], |output| {
+        plain_calls::plain_expand(7, &[1, 2], &[0, 3], &[1, 5], &[3, 0, 1], output)
+    })?;
+    figure(rt, "P2", &mut [4; 3], |output| {
+        plain_calls::plain_adjoint(7, &[1, 2], &[0, 3], &[1, 5], &[1, 3, 2], output)
+    })?;
+    figure(rt, "P3", &mut [4; 3], |output| {
+        plain_calls::plain_decompose(7, &[1, 2], &[0, 3], &[1, 5], &[1, 3, 2], output)
+    })?;
+    figure(rt, "P5", &mut [4; 3], |output| {
+        plain_calls::norms(7, &[1, 2], &[0, 3], &[1, 5], output)
+    })
 }
 
 // Families of one row or none.
-fn p6(rt: &impl Print) -> io::Result<()> {
-    expand(rt, b"P6", 2, &[], &[], &[], &[1], &mut [4; 1])
-}
-
-fn p7(rt: &impl Print) -> io::Result<()> {
-    expand(rt, b"P7", 2, &[1], &[1], &[1], &[1, 1], &mut [4; 2])
-}
-
-fn p10(rt: &impl Print) -> io::Result<()> {
-    expand(rt, b"P10", 15, &[3], &[0], &[5], &[1, 1], &mut [4; 2])
-}
-
-fn p10_zero(rt: &impl Print) -> io::Result<()> {
-    expand(
-        rt,
-        b"P10 with a = 0",
-        15,
-        &[0],
-        &[0],
-        &[5],
-        &[1, 1],
-        &mut [4; 2],
-    )
-}
-
-fn p11(rt: &impl Print) -> io::Result<()> {
-    norms(rt, b"P11", 7, &[], &[], &[], &mut [4; 1])
-}
-
-fn p12(rt: &impl Print) -> io::Result<()> {
-    norms(rt, b"P12", 15, &[2], &[1], &[4], &mut [4; 2])
-}
-
 fn on_small_families(rt: &impl Print) -> io::Result<()> {
-    p6(rt)?;
-    p7(rt)?;
-    p10(rt)?;
-    p10_zero(rt)?;
-    p11(rt)?;
-    p12(rt)
+    figure(rt, "P6", &mut [4; 1], |output| {
+        plain_calls::plain_expand(2, &[], &[], &[], &[1], output)
+    })?;
+    figure(rt, "P7", &mut [4; 2], |output| {
+        plain_calls::plain_expand(2, &[1], &[1], &[1], &[1, 1], output)
+    })?;
+    figure(rt, "P10", &mut [4; 2], |output| {
+        plain_calls::plain_expand(15, &[3], &[0], &[5], &[1, 1], output)
+    })?;
+    figure(rt, "P10 with a = 0", &mut [4; 2], |output| {
+        plain_calls::plain_expand(15, &[0], &[0], &[5], &[1, 1], output)
+    })?;
+    figure(
+        rt,
+        "P11",
+        &mut [4; 1],
+        |output| plain_calls::norms(7, &[], &[], &[], output),
+    )?;
+    figure(
+        rt,
+        "P12",
+        &mut [4; 2],
+        |output| plain_calls::norms(15, &[2], &[1], &[4], output),
+    )
 }
 
 fn on_inverses(rt: &impl Print) -> io::Result<()> {
-    show_inverse(rt, b"P8", plain_calls::invert(15, 4))?;
-    show_inverse(rt, b"P9", plain_calls::invert(15, 6))?;
-    show_inverse(rt, b"0, m = 15", plain_calls::invert(15, 0))?;
-    show_inverse(rt, b"15, m = 15", plain_calls::invert(15, 15))
+    show_inverse(rt, "P8", plain_calls::invert(15, 4))?;
+    show_inverse(rt, "P9", plain_calls::invert(15, 6))?;
+    show_inverse(rt, "0, m = 15", plain_calls::invert(15, 0))?;
+    show_inverse(rt, "15, m = 15", plain_calls::invert(15, 15))
 }
 
 // The limits of the modulus, of the number of rows and of an entry.
-fn modulus_1(rt: &impl Print) -> io::Result<()> {
-    expand(rt, b"m = 1", 1, &[], &[], &[], &[0], &mut [4; 1])
-}
-
-fn modulus_2147483647(rt: &impl Print) -> io::Result<()> {
-    expand(
+fn modulus(rt: &impl Print, m: u32, entry: u32) -> io::Result<()> {
+    print!(rt; "m = {m}")?;
+    figure(
         rt,
-        b"m = 2147483647",
-        2147483647,
-        &[],
-        &[],
-        &[],
-        &[2147483646],
+        "",
         &mut [4; 1],
+        |output| plain_calls::plain_expand(m, &[], &[], &[], &[entry], output),
     )
 }
 
-fn modulus_2147483648(rt: &impl Print) -> io::Result<()> {
-    expand(
+fn entry(rt: &impl Print, x: u32) -> io::Result<()> {
+    print!(rt; "entry {x}, m = 7")?;
+    figure(
         rt,
-        b"m = 2147483648",
-        2147483648,
-        &[],
-        &[],
-        &[],
-        &[0],
+        "",
         &mut [4; 1],
+        |output| plain_calls::plain_decompose(7, &[], &[], &[], &[x], output),
     )
-}
-
-fn entry_6(rt: &impl Print) -> io::Result<()> {
-    decompose(rt, b"entry 6, m = 7", 7, &[], &[], &[], &[6], &mut [4; 1])
-}
-
-fn entry_7(rt: &impl Print) -> io::Result<()> {
-    decompose(rt, b"entry 7, m = 7", 7, &[], &[], &[], &[7], &mut [4; 1])
 }
 
 fn on_limits(rt: &impl Print) -> io::Result<()> {
-    modulus_1(rt)?;
-    modulus_2147483647(rt)?;
-    modulus_2147483648(rt)?;
-    entry_6(rt)?;
-    entry_7(rt)
+    modulus(rt, 1, 0)?;
+    modulus(rt, 2147483647, 2147483646)?;
+    modulus(rt, 2147483648, 0)?;
+    entry(rt, 6)?;
+    entry(rt, 7)
 }
 
-fn most_rows() -> [u32; 127] {
-    [1; 127]
-}
-
-fn too_many_rows() -> [u32; 128] {
-    [1; 128]
-}
-
-fn fours() -> [u32; 128] {
-    [4; 128]
-}
-
-fn on_most_rows(rt: &impl Print) -> io::Result<()> {
-    let rows = most_rows();
-    let mut output = fours();
-    norms(rt, b"127 rows", 7, &rows, &rows, &rows, &mut output)
-}
-
-fn on_too_many_rows(rt: &impl Print) -> io::Result<()> {
-    let rows = too_many_rows();
-    norms(rt, b"128 rows", 7, &rows, &rows, &rows, &mut [4; 3])
+fn rows_of_ones(rt: &impl Print, rows: &[u32], output: &mut [u32]) -> io::Result<()> {
+    print!(rt; "{} rows", rows.len())?;
+    figure(
+        rt,
+        "",
+        output,
+        |output| plain_calls::norms(7, rows, rows, rows, output),
+    )
 }
 
 // The row factor of last autumn: zero, m itself, or one that shares a factor with m, in a and in c.
-fn a_0_2(rt: &impl Print) -> io::Result<()> {
-    decompose(
-        rt,
-        b"a = 0 2",
-        15,
-        &[0, 2],
-        &[0, 3],
-        &[1, 4],
-        &[1, 2, 3],
-        &mut [4; 3],
-    )
-}
-
-fn a_1_6(rt: &impl Print) -> io::Result<()> {
-    decompose(
-        rt,
-        b"a = 1 6",
-        15,
-        &[1, 6],
-        &[0, 3],
-        &[1, 4],
-        &[1, 2, 3],
-        &mut [4; 3],
-    )
-}
-
-fn a_6_0(rt: &impl Print) -> io::Result<()> {
-    decompose(
-        rt,
-        b"a = 6 0",
-        15,
-        &[6, 0],
-        &[0, 3],
-        &[1, 4],
-        &[1, 2, 3],
-        &mut [4; 3],
-    )
-}
-
-fn a_1_15(rt: &impl Print) -> io::Result<()> {
-    decompose(
-        rt,
-        b"a = 1 15",
-        15,
-        &[1, 15],
-        &[0, 3],
-        &[1, 4],
-        &[1, 2, 3],
-        &mut [4; 3],
-    )
-}
-
-fn c_0_4(rt: &impl Print) -> io::Result<()> {
-    decompose(
-        rt,
-        b"c = 0 4",
-        15,
-        &[1, 2],
-        &[0, 3],
-        &[0, 4],
-        &[1, 2, 3],
-        &mut [4; 3],
-    )
-}
-
-fn c_1_10(rt: &impl Print) -> io::Result<()> {
-    decompose(
-        rt,
-        b"c = 1 10",
-        15,
-        &[1, 2],
-        &[0, 3],
-        &[1, 10],
-        &[1, 2, 3],
-        &mut [4; 3],
-    )
-}
-
-fn c_1_0(rt: &impl Print) -> io::Result<()> {
-    decompose(
-        rt,
-        b"c = 1 0",
-        15,
-        &[1, 2],
-        &[0, 3],
-        &[1, 0],
-        &[1, 2, 3],
-        &mut [4; 3],
-    )
-}
-
-fn c_15_4(rt: &impl Print) -> io::Result<()> {
-    decompose(
-        rt,
-        b"c = 15 4",
-        15,
-        &[1, 2],
-        &[0, 3],
-        &[15, 4],
-        &[1, 2, 3],
-        &mut [4; 3],
-    )
+fn row_factor(rt: &impl Print, label: &str, a: &[u32], c: &[u32]) -> io::Result<()> {
+    figure(rt, label, &mut [4; 3], |output| {
+        plain_calls::plain_decompose(15, a, &[0, 3], c, &[1, 2, 3], output)
+    })
 }
 
 fn on_row_factors(rt: &impl Print) -> io::Result<()> {
-    a_0_2(rt)?;
-    a_1_6(rt)?;
-    a_6_0(rt)?;
-    a_1_15(rt)?;
-    c_0_4(rt)?;
-    c_1_10(rt)?;
-    c_1_0(rt)?;
-    c_15_4(rt)
+    row_factor(rt, "a = 0 2", &[0, 2], &[1, 4])?;
+    row_factor(rt, "a = 1 6", &[1, 6], &[1, 4])?;
+    row_factor(rt, "a = 6 0", &[6, 0], &[1, 4])?;
+    row_factor(rt, "a = 1 15", &[1, 15], &[1, 4])?;
+    row_factor(rt, "c = 0 4", &[1, 2], &[0, 4])?;
+    row_factor(rt, "c = 1 10", &[1, 2], &[1, 10])?;
+    row_factor(rt, "c = 1 0", &[1, 2], &[1, 0])?;
+    row_factor(rt, "c = 15 4", &[1, 2], &[15, 4])
 }
 
-// The tree way, in a working list of 16,389 nines: a second line shows its first number, the last that an accepted call clears, and
-// the one after that.
-fn nines() -> [u32; 16389] {
-    [9; 16389]
-}
-
-fn working(rt: &impl Print, first: u32, last: u32, beyond: u32) -> io::Result<()> {
-    text(rt, b"  working list:")?;
-    number(rt, first)?;
-    number(rt, last)?;
-    number(rt, beyond)?;
-    text(rt, b"\n")
-}
-
-fn tree_expand(
+// A call that is lent a working list of nines, of which a second line shows the first number, the last that an accepted call clears, and
+// the one after that; of a shorter list the last two.
+fn figure_in<F: FnOnce(&mut [u32], &mut [u32]) -> Answer>(
     rt: &impl Print,
-    label: &[u8],
-    m: u32,
-    a: &[u32],
-    b: &[u32],
-    c: &[u32],
-    curve: &[u32],
+    label: &str,
     output: &mut [u32],
-) -> io::Result<()> {
-    let mut work = nines();
-    let answer = tree_calls::tree_expand(m, a, b, c, curve, output, &mut work);
+    work: &mut [u32],
+    call: F,
+) -> io::Result<()>
+    requires callable { F.IsAlwaysCallable call }
+    requires long { 2 ≤ length work.old }
+{
+    let answer = call(output, work);
     show(rt, label, answer, output)?;
-    working(rt, work[0], work[16383], work[16384])
+    let beyond = work.len().min(16385) - 1;
+    println!(rt;
+        "  working list: {} {} {}",
+        work[0],
+        work[beyond - 1],
+        work[beyond]
+    )
 }
 
-fn tree_adjoint(
+fn by_tree<F: FnOnce(&mut [u32], &mut [u32]) -> Answer>(
     rt: &impl Print,
-    label: &[u8],
-    m: u32,
-    a: &[u32],
-    b: &[u32],
-    c: &[u32],
-    curve: &[u32],
+    label: &str,
     output: &mut [u32],
-) -> io::Result<()> {
-    let mut work = nines();
-    let answer = tree_calls::tree_adjoint(m, a, b, c, curve, output, &mut work);
-    show(rt, label, answer, output)?;
-    working(rt, work[0], work[16383], work[16384])
-}
-
-fn p1_by_the_tree(rt: &impl Print) -> io::Result<()> {
-    tree_expand(
-        rt,
-        b"P1 by the tree",
-        7,
-        &[1, 2],
-        &[0, 3],
-        &[1, 5],
-        &[3, 0, 1],
-        &mut [4; 3],
-    )
-}
-
-fn p2_by_the_tree(rt: &impl Print) -> io::Result<()> {
-    tree_adjoint(
-        rt,
-        b"P2 by the tree",
-        7,
-        &[1, 2],
-        &[0, 3],
-        &[1, 5],
-        &[1, 3, 2],
-        &mut [4; 3],
-    )
-}
-
-fn p6_by_the_tree(rt: &impl Print) -> io::Result<()> {
-    tree_expand(rt, b"P6 by the tree", 2, &[], &[], &[], &[1], &mut [4; 1])
-}
-
-fn p7_by_the_tree(rt: &impl Print) -> io::Result<()> {
-    tree_expand(
-        rt,
-        b"P7 by the tree",
-        2,
-        &[1],
-        &[1],
-        &[1],
-        &[1, 1],
-        &mut [4; 2],
-    )
-}
-
-fn p10_by_the_tree(rt: &impl Print) -> io::Result<()> {
-    tree_expand(
-        rt,
-        b"P10 by the tree",
-        15,
-        &[3],
-        &[0],
-        &[5],
-        &[1, 1],
-        &mut [4; 2],
-    )
+    call: F,
+) -> io::Result<()>
+    requires { F.IsAlwaysCallable call }
+{
+    let mut work: [u32; 16389] = list_of(9);
+    figure_in(rt, label, output, &mut work, call)
 }
 
 fn by_the_tree(rt: &impl Print) -> io::Result<()> {
-    p1_by_the_tree(rt)?;
-    p2_by_the_tree(rt)?;
-    p6_by_the_tree(rt)?;
-    p7_by_the_tree(rt)?;
-    p10_by_the_tree(rt)
-}
-
-fn tree_decompose(
-    rt: &impl Print,
-    label: &[u8],
-    m: u32,
-    a: &[u32],
-    b: &[u32],
-    c: &[u32],
-    coefficients: &[u32],
-    output: &mut [u32],
-) -> io::Result<()> {
-    let mut work = nines();
-    let answer = tree_calls::tree_decompose(m, a, b, c, coefficients, output, &mut work);
-    show(rt, label, answer, output)?;
-    working(rt, work[0], work[16383], work[16384])
-}
-
-fn moments(
-    rt: &impl Print,
-    label: &[u8],
-    m: u32,
-    a: &[u32],
-    b: &[u32],
-    c: &[u32],
-    output: &mut [u32],
-) -> io::Result<()> {
-    let mut work = nines();
-    let answer = tree_calls::moments(m, a, b, c, output, &mut work);
-    show(rt, label, answer, output)?;
-    working(rt, work[0], work[16383], work[16384])
-}
-
-fn p3_by_the_tree(rt: &impl Print) -> io::Result<()> {
-    tree_decompose(
-        rt,
-        b"P3 by the tree",
-        7,
-        &[1, 2],
-        &[0, 3],
-        &[1, 5],
-        &[1, 3, 2],
-        &mut [4; 3],
-    )
-}
-
-fn p4(rt: &impl Print) -> io::Result<()> {
-    moments(rt, b"P4", 7, &[1, 2], &[0, 3], &[1, 5], &mut [4; 5])
-}
-
-fn moments_of_p11(rt: &impl Print) -> io::Result<()> {
-    moments(rt, b"moments of P11", 7, &[], &[], &[], &mut [4; 1])
-}
-
-fn moments_of_p12(rt: &impl Print) -> io::Result<()> {
-    moments(rt, b"moments of P12", 15, &[2], &[1], &[4], &mut [4; 3])
-}
-
-fn moments_of_p10(rt: &impl Print) -> io::Result<()> {
-    moments(rt, b"moments of P10", 15, &[3], &[0], &[5], &mut [4; 3])
+    by_tree(rt, "P1 by the tree", &mut [4; 3], |output, work| {
+        tree_calls::tree_expand(7, &[1, 2], &[0, 3], &[1, 5], &[3, 0, 1], output, work)
+    })?;
+    by_tree(rt, "P2 by the tree", &mut [4; 3], |output, work| {
+        tree_calls::tree_adjoint(7, &[1, 2], &[0, 3], &[1, 5], &[1, 3, 2], output, work)
+    })?;
+    by_tree(rt, "P6 by the tree", &mut [4; 1], |output, work| {
+        tree_calls::tree_expand(2, &[], &[], &[], &[1], output, work)
+    })?;
+    by_tree(rt, "P7 by the tree", &mut [4; 2], |output, work| {
+        tree_calls::tree_expand(2, &[1], &[1], &[1], &[1, 1], output, work)
+    })?;
+    by_tree(rt, "P10 by the tree", &mut [4; 2], |output, work| {
+        tree_calls::tree_expand(15, &[3], &[0], &[5], &[1, 1], output, work)
+    })
 }
 
 fn by_the_moments(rt: &impl Print) -> io::Result<()> {
-    p3_by_the_tree(rt)?;
-    p4(rt)?;
-    moments_of_p11(rt)?;
-    moments_of_p12(rt)?;
-    moments_of_p10(rt)
-}
-
-fn short() -> [u32; 16383] {
-    [9; 16383]
+    by_tree(rt, "P3 by the tree", &mut [4; 3], |output, work| {
+        tree_calls::tree_decompose(7, &[1, 2], &[0, 3], &[1, 5], &[1, 3, 2], output, work)
+    })?;
+    by_tree(rt, "P4", &mut [4; 5], |output, work| {
+        tree_calls::moments(7, &[1, 2], &[0, 3], &[1, 5], output, work)
+    })?;
+    by_tree(rt, "moments of P11", &mut [4; 1], |output, work| {
+        tree_calls::moments(7, &[], &[], &[], output, work)
+    })?;
+    by_tree(rt, "moments of P12", &mut [4; 3], |output, work| {
+        tree_calls::moments(15, &[2], &[1], &[4], output, work)
+    })?;
+    by_tree(rt, "moments of P10", &mut [4; 3], |output, work| {
+        tree_calls::moments(15, &[3], &[0], &[5], output, work)
+    })
 }
 
 // P1 in a working list that is one number too short.
 fn in_a_short_list(rt: &impl Print) -> io::Result<()> {
-    let mut output: [u32; 3] = [4; 3];
-    let mut work = short();
-    let answer = tree_calls::tree_expand(
-        7,
-        &[1, 2],
-        &[0, 3],
-        &[1, 5],
-        &[3, 0, 1],
-        &mut output,
+    let mut work: [u32; 16383] = list_of(9);
+    figure_in(
+        rt,
+        "P1 in a short list",
+        &mut [4; 3],
         &mut work,
-    );
-    show(rt, b"P1 in a short list", answer, &output)?;
-    working(rt, work[0], work[16381], work[16382])
+        |output, work| {
+            tree_calls::tree_expand(7, &[1, 2], &[0, 3], &[1, 5], &[3, 0, 1], output, work)
+        },
+    )
 }
 
 fn main(rt: HostRuntime) -> io::Result<()> {
@@ -604,8 +241,11 @@ fn main(rt: HostRuntime) -> io::Result<()> {
     on_small_families(&rt)?;
     on_inverses(&rt)?;
     on_limits(&rt)?;
-    on_most_rows(&rt)?;
-    on_too_many_rows(&rt)?;
+    let most_rows: [u32; 127] = list_of(1);
+    let mut fours: [u32; 128] = list_of(4);
+    rows_of_ones(&rt, &most_rows, &mut fours)?;
+    let too_many_rows: [u32; 128] = list_of(1);
+    rows_of_ones(&rt, &too_many_rows, &mut [4; 3])?;
     on_row_factors(&rt)?;
     by_the_tree(&rt)?;
     by_the_moments(&rt)?;
