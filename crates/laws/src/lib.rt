@@ -9,12 +9,22 @@ ghost use Rattle.definitions.specs.Family.{family};
 ghost use Rattle.laws.specs.Laws.{lists, Made, ThereAndBack, Agreed, HandedOut, Weighed};
 
 use definitions::Answer;
+use std::fmt;
 
 // A way of Expand and of Decompose.
-#[derive(Drop)]
+#[derive(Clone, Copy)]
 pub enum Way {
     Plain,
     Tree,
+}
+
+impl fmt::Display for Way {
+    fn fmt<W: fmt::Write>(&self, f: &mut fmt::Formatter<W>) -> fmt::Result {
+        f.write_str(match self {
+            Way::Plain => "plain",
+            Way::Tree => "tree",
+        })
+    }
 }
 
 // What product_law answers: the total by the moments and the total by the norms, or the refusal of the call that refused.

@@ -8,83 +8,37 @@ ghost use Rattle.std.specs.Prelude.{◌≤◌, ◌<◌, length};
 use laws::{Totals, Way};
 use std::io;
 
-fn text(rt: &impl Print, bytes: &[u8]) -> io::Result<()> {
-    rt.write_all(bytes)
-}
-
-fn number(rt: &impl Print, x: u64) -> io::Result<()> {
-    rt.print(x)?;
-    text(rt, b" ")
-}
-
-fn show(rt: &impl Print, answer: Totals) -> io::Result<()> {
-    match answer {
-        Totals::Weighed(x, y) => {
-            number(rt, x as u64)?;
-            number(rt, y as u64)?;
-            if x == y {
-                text(rt, b"equal\n")
-            } else {
-                text(rt, b"different\n")
-            }
-        }
-        Totals::Refused(k) => {
-            text(rt, b"refused ")?;
-            number(rt, k as u64)?;
-            text(rt, b"\n")
-        }
-    }
-}
-
-// 0 for the plain way, 1 for the tree way.
-fn way(rt: &impl Print, by_tree: u32) -> io::Result<Way> {
-    if by_tree == 0 {
-        text(rt, b"plain ")?;
-        Ok(Way::Plain)
-    } else {
-        text(rt, b"tree ")?;
-        Ok(Way::Tree)
-    }
-}
-
-// As many numbers as the longest list of an accepted family, its moments.
-fn zeros() -> [u32; 255] {
-    [0; 255]
-}
-
-fn working_list() -> [u32; 16384] {
-    [0; 16384]
-}
-
-// Both totals for a family and the curves u and v, in lists that are as long as the law asks.
-fn weigh(
-    first: Way,
-    second: Way,
+// A family, and two curves on it that are weighed against one another.
+#[derive(Clone, Copy)]
+struct Pair<'a> {
     m: u32,
-    a: &[u32],
-    b: &[u32],
-    c: &[u32],
-    u: &[u32],
-    v: &[u32],
-) -> Totals
-    requires { (0 < length u.now) × (length u.now ≤ 128) }
-{
-    let n = u.len();
+    a: &'a [u32],
+    b: &'a [u32],
+    c: &'a [u32],
+    u: &'a [u32],
+    v: &'a [u32],
+    ghost least: { 0 < length u.now },
+    ghost most: { length u.now ≤ 128 },
+}
+
+// Both totals for a family and its curves, in lists that are as long as the law asks; the longest is that of the moments.
+fn weigh(first: Way, second: Way, pair: Pair) -> Totals {
+    let n = pair.u.len();
     let count = 2 * n - 1;
-    let mut s = zeros();
-    let mut t = zeros();
-    let mut moments = zeros();
-    let mut norms = zeros();
-    let mut work = working_list();
+    let mut s: [u32; 128] = lists::zeros();
+    let mut t: [u32; 128] = lists::zeros();
+    let mut moments: [u32; 255] = [0; 255];
+    let mut norms: [u32; 128] = lists::zeros();
+    let mut work: [u32; 16384] = [0; 16384];
     laws::product_law(
         first,
         second,
-        m,
-        a,
-        b,
-        c,
-        u,
-        v,
+        pair.m,
+        pair.a,
+        pair.b,
+        pair.c,
+        pair.u,
+        pair.v,
         &mut s[0..n],
         &mut t[0..n],
         &mut moments[0..count],
@@ -93,59 +47,74 @@ fn weigh(
     )
 }
 
-fn line(
-    rt: &impl Print,
-    first: u32,
-    second: u32,
-    m: u32,
-    a: &[u32],
-    b: &[u32],
-    c: &[u32],
-    u: &[u32],
-    v: &[u32],
-) -> io::Result<()>
-    requires { (0 < length u.now) × (length u.now ≤ 128) }
-{
-    number(rt, m as u64)?;
-    number(rt, a.len() as u64)?;
-    let one = way(rt, first)?;
-    let two = way(rt, second)?;
-    show(rt, weigh(one, two, m, a, b, c, u, v))
+fn line(rt: &impl Print, first: Way, second: Way, pair: Pair) -> io::Result<()> {
+    print!(rt; "{} {} {first} {second} ", pair.m, pair.a.len())?;
+    match weigh(first, second, pair) {
+        Totals::Weighed(x, y) if x == y => println!(rt; "{x} {y} equal"),
+        Totals::Weighed(x, y) => println!(rt; "{x} {y} different"),
+        Totals::Refused(k) => println!(rt; "refused {k} "),
+    }
 }
 
-fn by_all_ways(
-    rt: &impl Print,
-    m: u32,
-    a: &[u32],
-    b: &[u32],
-    c: &[u32],
-    u: &[u32],
-    v: &[u32],
-) -> io::Result<()>
-    requires { (0 < length u.now) × (length u.now ≤ 128) }
-{
-    line(rt, 0, 0, m, a, b, c, u, v)?;
-    line(rt, 0, 1, m, a, b, c, u, v)?;
-    line(rt, 1, 0, m, a, b, c, u, v)?;
-    line(rt, 1, 1, m, a, b, c, u, v)
+fn by_all_ways(rt: &impl Print, pair: Pair) -> io::Result<()> {
+    for first in [Way::Plain, Way::Tree] {
+        for second in [Way::Plain, Way::Tree] {
+            line(rt, first, second, pair)?;
+        }
+    }
+    Ok(())
 }
 
 // R with the curves 3 0 1 and 1 1 0.
 fn on_r(rt: &impl Print) -> io::Result<()> {
-    by_all_ways(rt, 7, &[1, 2], &[0, 3], &[1, 5], &[3, 0, 1], &[1, 1, 0])
+    by_all_ways(
+        rt,
+        Pair {
+            m: 7,
+            a: &[1, 2],
+            b: &[0, 3],
+            c: &[1, 5],
+            u: &[3, 0, 1],
+            v: &[1, 1, 0],
+        },
+    )
 }
 
 // A c_1 that is 0, one that shares 7 with 35, and one that shares 3 with 15 in the only row.
-fn on_zero_c_1(rt: &impl Print) -> io::Result<()> {
-    by_all_ways(rt, 35, &[1, 3], &[0, 0], &[0, 6], &[1, 2, 3], &[4, 5, 6])
-}
-
-fn on_shared_c_1(rt: &impl Print) -> io::Result<()> {
-    by_all_ways(rt, 35, &[1, 3], &[0, 0], &[14, 6], &[1, 2, 3], &[4, 5, 6])
-}
-
-fn on_only_row(rt: &impl Print) -> io::Result<()> {
-    by_all_ways(rt, 15, &[2], &[1], &[6], &[1, 2], &[3, 4])
+fn on_first_cs(rt: &impl Print) -> io::Result<()> {
+    by_all_ways(
+        rt,
+        Pair {
+            m: 35,
+            a: &[1, 3],
+            b: &[0, 0],
+            c: &[0, 6],
+            u: &[1, 2, 3],
+            v: &[4, 5, 6],
+        },
+    )?;
+    by_all_ways(
+        rt,
+        Pair {
+            m: 35,
+            a: &[1, 3],
+            b: &[0, 0],
+            c: &[14, 6],
+            u: &[1, 2, 3],
+            v: &[4, 5, 6],
+        },
+    )?;
+    by_all_ways(
+        rt,
+        Pair {
+            m: 15,
+            a: &[2],
+            b: &[1],
+            c: &[6],
+            u: &[1, 2],
+            v: &[3, 4],
+        },
+    )
 }
 
 // The powers of x modulo m, from the first on.
@@ -173,35 +142,30 @@ fn on_family(rt: &impl Print, m: u32, rows: usize) -> io::Result<()>
     let v = powers(m, 11);
     by_all_ways(
         rt,
-        m,
-        &a[0..rows],
-        &b[0..rows],
-        &c[0..rows],
-        &u[0..n],
-        &v[0..n],
+        Pair {
+            m,
+            a: &a[0..rows],
+            b: &b[0..rows],
+            c: &c[0..rows],
+            u: &u[0..n],
+            v: &v[0..n],
+        },
     )
 }
 
 fn on_families(rt: &impl Print, m: u32) -> io::Result<()>
     requires { 0 < m }
 {
-    on_family(rt, m, 1)?;
-    on_family(rt, m, 2)?;
-    on_family(rt, m, 3)?;
-    on_family(rt, m, 4)?;
-    on_family(rt, m, 7)?;
-    on_family(rt, m, 8)?;
-    on_family(rt, m, 31)?;
-    on_family(rt, m, 64)?;
-    on_family(rt, m, 127)
+    for rows in [1, 2, 3, 4, 7, 8, 31, 64, 127] {
+        on_family(rt, m, rows)?;
+    }
+    Ok(())
 }
 
 // 2147483647 is a prime, and 2147483645 is 5 * 19 * 22605091.
 fn main(rt: HostRuntime) -> io::Result<()> {
     on_r(&rt)?;
-    on_zero_c_1(&rt)?;
-    on_shared_c_1(&rt)?;
-    on_only_row(&rt)?;
+    on_first_cs(&rt)?;
     on_families(&rt, 2147483647)?;
     on_families(&rt, 2147483645)
 }
