@@ -2,7 +2,7 @@
 // part; the entries past the count stay.
 #![tactic(auto)]
 
-ghost use Rattle.std.specs.Prelude.{◌≡◌, ◌-◌, ◌≤◌, length, get_or, take, replicate};
+ghost use Rattle.std.specs.Prelude.{◌≡◌, ◌≤◌, length, get_or, take, replicate};
 ghost use Rattle.definitions.specs.Answers.{cleared};
 ghost use Rattle.lists.specs.Lent.{LentRows};
 ghost use Rattle.numbers.specs.Lists.{filled};
@@ -43,17 +43,10 @@ impl<'a> Model for Family<'a> {
 }
 
 // A local list, all zeros.
-pub fn zeros() -> [u32; 128]
-    ensures { result ≡ replicate 128 0 }
+pub fn zeros<const N: usize>() -> [u32; N]
+    ensures { result ≡ replicate N 0 }
 {
-    [0u32; 128]
-}
-
-// x - y, and 0 if y is greater.
-pub fn excess(x: usize, y: usize) -> usize
-    ensures { result ≡ x - y }
-{
-    x.saturating_sub(y)
+    [0u32; N]
 }
 
 // The entry at i, and zero past the end.
