@@ -17,6 +17,7 @@ ghost use Rattle.subproduct.specs.AdjointPair.{AdjointPlaces};
 
 use lists::row_entry;
 use products::{add_products, transposed};
+use reduction::Modulus;
 use residue::combine;
 
 // The numbers that each half of the stored tree over pairs pairs of rows takes, where there are two pairs at least.
@@ -53,12 +54,12 @@ fn write_leaf(
     requires { LeafInput m w.old at pa pb pc qa qb qc }
     ensures { w.new ≡ written w.old at (matrix_list (leaf m (row_of pa pb pc) (row_of qa qb qc))) }
 {
-    let reciprocal = reduction::reciprocal(m);
-    let b0 = combine(m, reciprocal, 0, qb, pc, 0, 0, 0, 0);
-    let b1 = combine(m, reciprocal, 0, qa, pc, 0, 0, 0, 0);
-    let c0 = combine(m, reciprocal, qc, qb, pb, 0, 0, 0, 0);
-    let c1 = combine(m, reciprocal, 0, qb, pa, qa, pb, 0, 0);
-    let c2 = combine(m, reciprocal, 0, qa, pa, 0, 0, 0, 0);
+    let modulus = Modulus::new(m);
+    let b0 = combine(modulus, 0, qb, pc, 0, 0, 0, 0);
+    let b1 = combine(modulus, 0, qa, pc, 0, 0, 0, 0);
+    let c0 = combine(modulus, qc, qb, pb, 0, 0, 0, 0);
+    let c1 = combine(modulus, 0, qb, pa, qa, pb, 0, 0);
+    let c2 = combine(modulus, 0, qa, pa, 0, 0, 0, 0);
     store_three(w, at, pc, 0, 0);
     store_three(w, at + 3, pb, pa, 0);
     store_three(w, at + 6, b0, b1, 0);
