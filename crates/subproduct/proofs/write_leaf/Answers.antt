@@ -16,4 +16,4 @@ returns c =
     leaf-written c.requires
     (rw c.new-modulus.ensures at c.combine-b0.ensures) (rw c.new-modulus.ensures at c.combine-b1.ensures)
     (rw c.new-modulus.ensures at c.combine-c0.ensures) (rw c.new-modulus.ensures at c.combine-c1.ensures) (rw c.new-modulus.ensures at c.combine-c2.ensures)
-    c.store_three.ensures c.store_three-2.ensures c.store_three-3.ensures c.store_three-4.ensures
+    c.store.ensures c.store-2.ensures c.store-3.ensures c.store-4.ensures
