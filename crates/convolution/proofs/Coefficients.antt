@@ -23,7 +23,7 @@ both_zero e f = ap₂ ◌+◌ e f
 abbrev products_term : List ℕ → List ℕ → List ℕ → List ℕ → ℕ → ℕ → ℕ
 products_term p q r s k i = product_term p q k i + product_term r s k i
 
-module _ {m reciprocal start : ℕ} {p q r s : List ℕ} {k : ℕ} (input : ProductsInput m reciprocal start p q r s k) {first end count : ℕ} where
+module _ {m start : ℕ} {p q r s : List ℕ} {k : ℕ} (input : ProductsInput m start p q r s k) {first end count : ℕ} where
   pub multiplying-starts : first ≡ k + 1 - length q → Lesser (k + 1) (length p) end → count ≡ end - first
       → Multiplying start p q r s k first end count 0 start 0
   multiplying-starts e ends c = record {
@@ -31,7 +31,7 @@ module _ {m reciprocal start : ℕ} {p q r s : List ℕ} {k : ℕ} (input : Prod
     ends = ends;
     counted = c;
     total = rw (add-zero first) (totalling-starts 0 start first end (products_term p q r s k) start 0
-        (omega (arith, input.start_below, input.reducible.most)) (omega arith) (amount-number start) within_end);
+        (omega (arith, input.start_below, input.most)) (omega arith) (amount-number start) within_end);
   }
     where
       within : Dec (end < k + 1) → first ≤ end
@@ -44,7 +44,7 @@ module _ {m reciprocal start : ℕ} {p q r s : List ℕ} {k : ℕ} (input : Prod
   module _ {t low wraps : ℕ} (h : Multiplying start p q r s k first end count t low wraps) where
     pub multiplying-small : SmallNumbers (slice_index p (first + t)) (slice_index q (k - (first + t))) (slice_index r (first + t))
         (slice_index s (k - (first + t)))
-    multiplying-small = small input.reducible.most (input.p_below _) (input.q_below _) (input.r_below _) (input.s_below _)
+    multiplying-small = small input.most (input.p_below _) (input.q_below _) (input.r_below _) (input.s_below _)
 
     pub multiplying-plus : {x : ℕ} → length p ≤ 2305843009213693952 → x ≡ products_term p q r s k (first + t) → PlusInput low wraps x
     multiplying-plus long e = record {

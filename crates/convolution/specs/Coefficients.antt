@@ -12,7 +12,7 @@ use Rattle.std.proofs.Math.ListN.{get_or-eq_default}
 use Rattle.definitions.specs.Number.{sum}
 use Rattle.numbers.specs.Products.{Below, product_at}
 use Rattle.numbers.specs.Sums.{sum-equal, sum-zero}
-use Rattle.reduction.specs.Wrapping.{Reducible}
+use Rattle.definitions.specs.Family.{greatest_modulus}
 use Rattle.convolution.specs.Totals.{Lesser, SmallNumbers, Totalling}
 
 abbrev product_term : List ℕ → List ℕ → ℕ → ℕ → ℕ
@@ -63,8 +63,8 @@ product-one p k =
     last = ap (λ j. slice_index p k * slice_index (1 ∷ 0 ∷ []) j) here ∙ mul-one (slice_index p k)
 
 -- ---- two products
-pub record ProductsInput (m reciprocal start : ℕ) (p q r s : List ℕ) (k : ℕ) : Type 0 where
-  pub reducible : Reducible m reciprocal
+pub record ProductsInput (m start : ℕ) (p q r s : List ℕ) (k : ℕ) : Type 0 where
+  pub most : m ≤ greatest_modulus
   pub start_below : start < m
   pub p_below : Below m p
   pub q_below : Below m q

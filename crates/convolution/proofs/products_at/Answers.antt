@@ -6,38 +6,21 @@ use Rattle.convolution.proofs.products_at.Goals as goal
 
 pub loop-t-init : goal.loop-t-init
 loop-t-init c =
-    multiplying-starts c.requires c.excess-first.ensures
-    c.lesser-end.ensures c.excess-count.ensures
-
-pub overflow_add-i : goal.overflow_add-i
-overflow_add-i c = omega (arith, c.loop-t.invariant.counted, c.loop-t.invariant.ends.second, c.well_formed)
+    multiplying-starts c.requires (omega arith) (record { first = omega arith; second = omega arith; one = λ l. omega arith })
+    (omega arith)
 
 pub overflow_sub-j : goal.overflow_sub-j
 overflow_sub-j c = omega (arith, c.loop-t.invariant.counted, c.loop-t.invariant.ends.first)
 
-pub offset_bounds-p-i : goal.offset_bounds-p-i
-offset_bounds-p-i c = omega (arith, c.loop-t.invariant.counted, c.loop-t.invariant.ends.second, c.well_formed)
-
 pub bounds-p-i : goal.bounds-p-i
 bounds-p-i c = omega (arith, c.loop-t.invariant.counted, c.loop-t.invariant.ends.second)
-
-pub offset_bounds-q-j : goal.offset_bounds-q-j
-offset_bounds-q-j c = omega (arith, c.loop-t.invariant.begins, c.well_formed)
 
 pub bounds-q-j : goal.bounds-q-j
 bounds-q-j c =
     omega (arith, c.loop-t.invariant.begins, c.loop-t.invariant.counted, c.loop-t.invariant.ends.first)
 
-pub offset_bounds-r-i : goal.offset_bounds-r-i
-offset_bounds-r-i c =
-    omega (arith, c.loop-t.invariant.counted, c.loop-t.invariant.ends.second, c.well_formed)
-
 pub bounds-r-i : goal.bounds-r-i
-bounds-r-i c =
-    omega (arith, c.loop-t.invariant.counted, c.loop-t.invariant.ends.second, c.requires.r_long)
-
-pub offset_bounds-s-j : goal.offset_bounds-s-j
-offset_bounds-s-j c = omega (arith, c.loop-t.invariant.begins, c.well_formed)
+bounds-r-i c = omega (arith, c.loop-t.invariant.counted, c.loop-t.invariant.ends.second, c.requires.r_long)
 
 pub bounds-s-j : goal.bounds-s-j
 bounds-s-j c =
@@ -56,7 +39,7 @@ loop-t-preserved c =
     c.pair-x.ensures c.plus-total.ensures
 
 pub remainder_of_sum-requires : goal.remainder_of_sum-requires
-remainder_of_sum-requires c = c.requires.reducible
+remainder_of_sum-requires c = c.requires.most
 
 pub returns : goal.returns
 returns c =
