@@ -6,11 +6,12 @@
 --   FamilyAt, FamilyRead        what family_lines answers: the modulus besides
 -- Proved: where the reading stops if a line is missing, and the lists if none is; reading by parts is reading on line by line (then-then).
 -- Assumes nothing.
-use Rattle.std.specs.Prelude.{◌≡◌, refl, List, ℕ, ◌≤◌, length, drop}
+use Rattle.std.specs.Prelude.{◌≡◌, refl, List, ℕ, ◌≤◌, length, drop, Option, Some, None}
 use Rattle.definitions.specs.Text.{modulus_key, a_key, b_key, c_key}
 use Rattle.definitions.specs.Reading.{Front, got, bad, then, read_number, read_numbers, read_line}
 use Rattle.reader.specs.Storing.{Stored, ListAt}
 use Rattle.reader.specs.Lines.{ReadAt}
+use Rattle.reader.specs.declared.Read.{Read}
 use Rattle.form.specs.declared.RowLines.{RowLines}
 use Rattle.form.specs.declared.FamilyLines.{FamilyLines}
 
@@ -56,13 +57,14 @@ module _ (t : List ℕ) where
     pub inside : next ≤ length t
     pub stored : RowsStored rows na nb nc a a' b b' c c'
 
-  abbrev pub RowsRead : Front RowLists → List ℕ → List ℕ → List ℕ → List ℕ → List ℕ → List ℕ → RowLines → Type 0
-  RowsRead f a a' b b' c c' (RowLines.Found na nb nc next) = RowsAt f na nb nc next a a' b b' c c'
-  RowsRead f a a' b b' c c' RowLines.Wrong = f ≡ bad
+  abbrev pub RowsRead : Front RowLists → List ℕ → List ℕ → List ℕ → List ℕ → List ℕ → List ℕ → Option (Read RowLines) → Type 0
+  RowsRead f a a' b b' c c' (Some r) = RowsAt f r.value.a r.value.b r.value.c r.next a a' b b' c c'
+  RowsRead f a a' b b' c c' None = f ≡ bad
 
-  abbrev pub FamilyRead : Front FamilyLists → List ℕ → List ℕ → List ℕ → List ℕ → List ℕ → List ℕ → FamilyLines → Type 0
-  FamilyRead f a a' b b' c c' (FamilyLines.Found modulus na nb nc next) = FamilyAt f modulus na nb nc next a a' b b' c c'
-  FamilyRead f a a' b b' c c' FamilyLines.Wrong = f ≡ bad
+  abbrev pub FamilyRead : Front FamilyLists → List ℕ → List ℕ → List ℕ → List ℕ → List ℕ → List ℕ → Option (Read FamilyLines) → Type 0
+  FamilyRead f a a' b b' c c' (Some r) =
+      FamilyAt f r.value.modulus r.value.rows.a r.value.rows.b r.value.rows.c r.next a a' b b' c c'
+  FamilyRead f a a' b b' c c' None = f ≡ bad
 
 -- ---- line by line, q being what is left
 module _ (q : List ℕ) where

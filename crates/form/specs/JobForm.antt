@@ -2,13 +2,12 @@
 --   End, read_end t  the operation and the curve, read off the front of t
 --   EndAt, EndRead   what job_end answers: an operation and a count, the curve at the front of a lent list and nothing after its line,
 --                    or that no such end stands there
---   with_family      what with_family answers
 --   JobAt            a job stands in t: its modulus and its operation, each list by its count and at the front of a lent one
 --   Formed           what job_form answers: a job, or that t is malformed
 -- Proved: a job text is read by its family and its end; where the reading stops if a line is missing, and the job if none is.
 -- Assumes nothing.
 use Rattle.std.proofs.Math.Path.{◌≡◌}
-use Rattle.std.specs.Prelude.{refl, ℕ, ◌<◌, ◌≤◌, drop}
+use Rattle.std.specs.Prelude.{refl, ℕ, ◌<◌, ◌≤◌, drop, Option, Some, None}
 use Rattle.std.proofs.Common.{sym, ◌∙◌, ap}
 use mathlib.Core.List.{List, [], ◌∷◌}
 use native.Mathlib.Omega.{arith}
@@ -41,13 +40,9 @@ pub record EndAt (f : Front End) (operation : Operation) (nv : ℕ) (v v' : List
   pub read : f ≡ got (record { operation = operation; curve = curve }) []
   pub stored : Stored curve nv v v'
 
-abbrev pub EndRead : Front End → List ℕ → List ℕ → JobEnd → Type 0
-EndRead f v v' (JobEnd.Found operation nv) = EndAt f operation nv v v'
-EndRead f v v' JobEnd.Wrong = (end : End) → f ≡ got end [] → ⊥
-
-abbrev pub with_family : ℕ → ℕ → ℕ → ℕ → JobEnd → JobForm
-with_family modulus na nb nc (JobEnd.Found operation nv) = JobForm.Job modulus operation na nb nc nv
-with_family modulus na nb nc JobEnd.Wrong = JobForm.Malformed
+abbrev pub EndRead : Front End → List ℕ → List ℕ → Option JobEnd → Type 0
+EndRead f v v' (Some r) = EndAt f r.operation r.curve v v'
+EndRead f v v' None = (end : End) → f ≡ got end [] → ⊥
 
 -- na, nb, nc, nv: the counts; a and a', b and b', c and c', v and v': the lent lists before and after
 pub record JobAt (t : List ℕ) (modulus : ℕ) (operation : Operation) (na nb nc nv : ℕ) (a a' b b' c c' v v' : List ℕ) : Type 0 where
@@ -60,9 +55,10 @@ pub record JobAt (t : List ℕ) (modulus : ℕ) (operation : Operation) (na nb n
   pub c_stored : Stored job.c nc c c'
   pub curve_stored : Stored job.curve nv v v'
 
-abbrev pub Formed : List ℕ → List ℕ → List ℕ → List ℕ → List ℕ → List ℕ → List ℕ → List ℕ → List ℕ → JobForm → Type 0
-Formed t a a' b b' c c' v v' (JobForm.Job modulus operation na nb nc nv) = JobAt t modulus operation na nb nc nv a a' b b' c c' v v'
-Formed t a a' b b' c c' v v' JobForm.Malformed = read_job t ≡ malformed
+abbrev pub Formed : List ℕ → List ℕ → List ℕ → List ℕ → List ℕ → List ℕ → List ℕ → List ℕ → List ℕ → Option JobForm → Type 0
+Formed t a a' b b' c c' v v' (Some r) =
+    JobAt t r.modulus r.operation r.a r.b r.c r.curve a a' b b' c c' v v'
+Formed t a a' b b' c c' v v' None = read_job t ≡ malformed
 
 -- ---- the end, line by line, q being what is left
 module _ (q : List ℕ) where
@@ -127,9 +123,9 @@ module _ (t : List ℕ) (modulus na nb nc next : ℕ) (a a' b b' c c' : List ℕ
   past-family : read_job t ≡ whole (with_end family (drop next t))
   past-family = by_parts t ∙ rw l.read
 
-  pub job-formed : (v v' : List ℕ) (r : JobEnd) → EndRead (read_end (drop next t)) v v' r
-      → Formed t a a' b b' c c' v v' (with_family modulus na nb nc r)
-  job-formed v v' (JobEnd.Found operation nv) end = record {
+  pub job-formed : (operation : Operation) (nv : ℕ) (v v' : List ℕ) → EndAt (read_end (drop next t)) operation nv v v'
+      → JobAt t modulus operation na nb nc nv a a' b b' c c' v v'
+  job-formed operation nv v v' end = record {
     job = job_of family (record { operation = operation; curve = end.curve });
     read = past-family ∙ rw end.read;
     modulus_is = refl;
@@ -139,7 +135,9 @@ module _ (t : List ℕ) (modulus na nb nc next : ℕ) (a a' b b' c c' : List ℕ
     c_stored = l.stored.in_c;
     curve_stored = end.stored;
   }
-  job-formed v v' JobEnd.Wrong none = past-family ∙ cases (read_end (drop next t)) none
+
+  pub job-malformed : ((end : End) → read_end (drop next t) ≡ got end [] → ⊥) → read_job t ≡ malformed
+  job-malformed none = past-family ∙ cases (read_end (drop next t)) none
     where
       cases : (f : Front End) → ((end : End) → f ≡ got end [] → ⊥) → whole (then f (λ end rest. got (job_of family end) rest)) ≡ malformed
       cases (got end []) n = absurd (n end refl)

@@ -68,14 +68,16 @@ pub fn convert_text(text: &[u8], output: &mut [u8], work: &mut [u32]) -> Valued
     let mut ys = lists::zeros();
     let mut zs = lists::zeros();
     let mut us = lists::zeros();
-    let JobForm::Job {
-        modulus,
-        operation,
-        a,
-        b,
-        c,
-        curve,
-    } = form::job_form(text, &mut xs, &mut ys, &mut zs, &mut us)
+    let Some(
+        JobForm {
+            modulus,
+            operation,
+            a,
+            b,
+            c,
+            curve,
+        },
+    ) = form::job_form(text, &mut xs, &mut ys, &mut zs, &mut us)
     else {
         return Valued::Refused(2);
     };

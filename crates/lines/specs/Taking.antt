@@ -4,13 +4,15 @@
 --   Going h t h' t'            going on with t', where h' is kept, gives what going on with t gives, where h is kept
 --   Taken h t e l rest         e: a line ends in t, of which l is kept, and rest follows it; not e: none does, and l is kept
 --   LineTaken ..               Taken of a piece from a place on, with the lists as take_line leaves them
+--   TakenLine .. r             the same by what take_line answers
 --   Taking ..                  the state of its loop
 -- Assumes nothing.
 use Rattle.std.specs.Prelude.{Bool, true, false, List, [], ◌∷◌, ◌++◌, ◌≡◌, refl, ℕ, ◌+◌, ◌-◌, ◌<◌, ◌≤◌, eqb, length, get_or, take, drop, set}
-use Rattle.std.proofs.Common.{true≢false, sym, ◌∙◌, ap, add-one, arith, length-append, length-take, length-set, drop_of_length-le, take_all, take-take, take-suc-set, drop-cons, length-take-le}
+use Rattle.std.proofs.Common.{true≢false, subst, sym, ◌∙◌, ap, add-one, arith, length-append, length-take, length-set, drop_of_length-le, take_all, take-take, take-suc-set, drop-cons, length-take-le}
 use Rattle.std.proofs.lemmas.List.{take-append-le}
 use Rattle.definitions.specs.Reading.{pick}
 use Rattle.definitions.specs.Text.{newline}
+use Rattle.lines.specs.declared.Taken as answer
 use Rattle.lines.specs.Pieces.{kept, ended, unended, ended-none, unended-none, ended-break, ended-on, unended-break, unended-on}
 
 pub record Kept (line : List ℕ) (n b : ℕ) (line' : List ℕ) (n' : ℕ) : Type 0 where
@@ -80,6 +82,10 @@ pub record LineTaken (piece : List ℕ) (from : ℕ) (line : List ℕ) (count : 
   pub whole : e ≡ false → next ≡ length piece
   pub some : e ≡ true → 0 < length line → 0 < count'
 
+abbrev pub TakenLine : List ℕ → ℕ → List ℕ → ℕ → List ℕ → answer.Taken → Type 0
+TakenLine piece from line count line' (answer.Taken.Ended n next) = LineTaken piece from line count line' true n next
+TakenLine piece from line count line' (answer.Taken.Open n) = LineTaken piece from line count line' false n (length piece)
+
 pub record Taking (piece : List ℕ) (from : ℕ) (line : List ℕ) (count : ℕ) (line' : List ℕ) (n i : ℕ) : Type 0 where
   pub going : Going (length line) (take count line) (drop from piece) (take n line') (drop i piece)
   pub size : length line' ≡ length line
@@ -116,6 +122,11 @@ module _ (piece : List ℕ) (from : ℕ) (line : List ℕ) (count : ℕ) where
       whole = λ e. omega (arith, s.inside);
       some = λ e. absurd (true≢false (sym e));
     }
+
+    pub taking-open : length piece ≤ i → LineTaken piece from line count line' false n (length piece)
+    taking-open l =
+        let end : i ≡ length piece = omega (arith, s.inside) in
+        subst (λ next. LineTaken piece from line count line' false n next) end (taking-past l)
 
     module _ (l : i < length piece) (line'' : List ℕ) (n' : ℕ) (p : Kept line' n (get_or piece i 0) line'' n') where
       next : drop i piece ≡ get_or piece i 0 ∷ drop (i + 1) piece

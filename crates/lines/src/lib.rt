@@ -4,15 +4,14 @@
 #![tactic(auto)]
 
 ghost use Rattle.std.specs.Prelude.{◌≤◌, length};
-ghost use Rattle.lines.specs.Taking.{Kept, LineTaken};
+ghost use Rattle.lines.specs.Taking.{Kept, TakenLine};
 
-// What was taken: the first `count` of the lent list are kept of a line that has ended, or of one that is open still; `next` is the place
-// in the piece from which to go on.
+// What was taken: the first `count` of the lent list are kept of a line that ends before the place `next` of the piece, or of one that the end of
+// the piece leaves open.
 #[derive(Drop)]
-pub struct Taken {
-    pub ended: bool,
-    pub count: usize,
-    pub next: usize,
+pub enum Taken {
+    Ended { count: usize, next: usize },
+    Open { count: usize },
 }
 
 // Puts a byte after the first `count` of a line, or passes it over where there is no room. The answer is the new count.
@@ -30,26 +29,19 @@ fn keep_byte(line: &mut [u8], count: usize, byte: u8) -> usize
 // Goes on with an open line, of which `count` bytes are kept, from a place of a piece to its byte 10, or to the end of the piece.
 pub fn take_line(piece: &[u8], from: usize, line: &mut [u8], count: usize) -> Taken
     requires { (count ≤ length line.old) × (from ≤ length piece.now) }
-    ensures { LineTaken piece.now from line.old count line.new result.ended result.count result.next }
+    ensures { TakenLine piece.now from line.old count line.new result }
 {
     let mut n = count;
-    let mut i = from;
-    while i < piece.len() {
+    for i in from..piece.len() {
         let byte = piece[i];
         n = keep_byte(line, n, byte);
-        i += 1;
         let is_end = byte == b'\n';
         if is_end {
-            return Taken {
-                ended: true,
+            return Taken::Ended {
                 count: n,
-                next: i,
+                next: i + 1,
             };
         }
     }
-    Taken {
-        ended: false,
-        count: n,
-        next: i,
-    }
+    Taken::Open { count: n }
 }

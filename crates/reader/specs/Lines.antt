@@ -4,7 +4,7 @@
 --   Chosen t f r              what a reader of an operation answers
 --   operation_line operation  the whole line of an operation
 -- Proved: the answers for a line of numbers, of one number, of an operation. Assumes nothing.
-use Rattle.std.specs.Prelude.{◌≡◌, refl, Bool, true, false, List, [], ◌∷◌, ◌++◌, ℕ, ◌+◌, ◌≤◌, drop}
+use Rattle.std.specs.Prelude.{◌≡◌, refl, Bool, true, false, List, [], ◌∷◌, ◌++◌, ℕ, ◌+◌, ◌≤◌, drop, Option, Some, None}
 use Rattle.std.proofs.Common.{sym, ◌∙◌, ap}
 use Rattle.std.proofs.Math.Path.{subst⁻¹}
 use Rattle.std.proofs.Math.ListN.{length}
@@ -13,27 +13,25 @@ use Rattle.definitions.specs.Reading.{Front, got, bad, read_key, read_number, re
 use Rattle.definitions.specs.declared.Operation.{Operation}
 use Rattle.texts.specs.DecimalReading.{got-not-bad}
 use Rattle.texts.specs.LinesReading.{read-key, key-read, line-then, read-operation-line, operation-line-read}
-use Rattle.reader.specs.Places.{placed, opens, NumberAt, number-found, number-missed}
+use Rattle.reader.specs.Places.{found, placed, opens, NumberAt, number-found, number-missed}
 use Rattle.reader.specs.Storing.{Listed}
 use Rattle.reader.specs.Keys.{KeyAt, key-found, key-missed, line-none, line-content}
-use Rattle.reader.specs.declared.Number.{Number}
-use Rattle.reader.specs.declared.Numbers.{Numbers}
-use Rattle.reader.specs.declared.Choice.{Choice}
+use Rattle.reader.specs.declared.Read.{Read}
 
 pub record ReadAt {A : Type 0} (t : List ℕ) (f : Front A) (x : A) (next : ℕ) : Type 0 where
   pub read : f ≡ got x (drop next t)
   pub inside : next ≤ length t
 
-abbrev pub Numbered : List ℕ → Front ℕ → Number → Type 0
-Numbered t f (Number.Found x next) = ReadAt t f x next
-Numbered t f Number.Wrong = f ≡ bad
+abbrev pub Numbered : List ℕ → Front ℕ → Option (Read ℕ) → Type 0
+Numbered t f (Some r) = ReadAt t f r.value r.next
+Numbered t f None = f ≡ bad
 
-abbrev pub Chosen : List ℕ → Front Operation → Choice → Type 0
-Chosen t f (Choice.Found operation next) = ReadAt t f operation next
-Chosen t f Choice.Wrong = f ≡ bad
+abbrev pub Chosen : List ℕ → Front Operation → Option (Read Operation) → Type 0
+Chosen t f (Some r) = ReadAt t f r.value r.next
+Chosen t f None = f ≡ bad
 
 -- ---- a line of numbers
-pub line-listed : (t : List ℕ) (at : ℕ) (key out out' : List ℕ) (r : Numbers) → KeyAt t at key
+pub line-listed : (t : List ℕ) (at : ℕ) (key out out' : List ℕ) (r : Option (Read ℕ)) → KeyAt t at key
     → Listed t (ended (read_numbers (drop (at + length key) t))) out out' r → Listed t (read_line key read_numbers (drop at t)) out out' r
 line-listed t at key out out' r k = subst⁻¹ (λ f. Listed t f out out' r) (line-content key read_numbers t at k)
 
@@ -42,15 +40,15 @@ module _ (t : List ℕ) (at : ℕ) (key : List ℕ) (inside : at ≤ length t) (
   pub number-none : k ≡ false → read_line key read_number (drop at t) ≡ bad
   number-none q = line-none key read_number (drop at t) (key-missed t at key k key_says q)
 
-  module _ (key_there : k ≡ true) (number : Number) (number_says : number ≡ placed (length t) (read_number (drop (at + length key) t))) where
+  module _ (key_there : k ≡ true) (number : Option (Read ℕ)) (number_says : number ≡ placed (length t) (read_number (drop (at + length key) t))) where
     content : read_line key read_number (drop at t) ≡ ended (read_number (drop (at + length key) t))
     content = line-content key read_number t at (key-found t at key k key_says inside key_there)
 
-    pub number-wrong : number ≡ Number.Wrong → read_line key read_number (drop at t) ≡ bad
+    pub number-wrong : number ≡ None → read_line key read_number (drop at t) ≡ bad
     unfolding ended
     number-wrong q = rw (content, number-missed t (at + length key) number number_says q)
 
-    module _ (x next : ℕ) (number_there : number ≡ Number.Found x next) where
+    module _ (x next : ℕ) (number_there : number ≡ found x next) where
       number_at : NumberAt t (at + length key) x next
       number_at = number-found t (at + length key) number number_says x next number_there
 

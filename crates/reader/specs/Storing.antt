@@ -4,11 +4,11 @@
 --   ListAt t f n next out out'   the reader's answer f is n numbers, what is left of t begins at place next, and out' holds them
 --   Listed t f out out' r        what a reader of numbers answers
 -- Proved: one number more; a list that fits is at the front (kept-front). Assumes nothing.
-use Rattle.std.specs.Prelude.{◌≡◌, refl, List, [], ◌∷◌, ◌++◌, ℕ, ◌≤◌, length, take, drop, set}
+use Rattle.std.specs.Prelude.{◌≡◌, refl, List, [], ◌∷◌, ◌++◌, ℕ, ◌≤◌, length, take, drop, set, Option, Some, None}
 use Rattle.std.proofs.Common.{sym, ◌∙◌, ap, take_all, take_at}
 use Rattle.std.proofs.Math.Seq.{take-nil}
 use Rattle.definitions.specs.Reading.{Front, got, bad}
-use Rattle.reader.specs.declared.Numbers.{Numbers}
+use Rattle.reader.specs.declared.Read.{Read}
 
 unfoldable pub kept : List ℕ → List ℕ → List ℕ
 kept xs out = take (length out) xs ++ drop (length xs) out
@@ -23,9 +23,9 @@ pub record ListAt (t : List ℕ) (f : Front (List ℕ)) (n next : ℕ) (out out'
   pub inside : next ≤ length t
   pub stored : Stored xs n out out'
 
-abbrev pub Listed : List ℕ → Front (List ℕ) → List ℕ → List ℕ → Numbers → Type 0
-Listed t f out out' (Numbers.Found n next) = ListAt t f n next out out'
-Listed t f out out' Numbers.Wrong = f ≡ bad
+abbrev pub Listed : List ℕ → Front (List ℕ) → List ℕ → List ℕ → Option (Read ℕ) → Type 0
+Listed t f out out' (Some r) = ListAt t f r.value r.next out out'
+Listed t f out out' None = f ≡ bad
 
 pub kept-none : (out : List ℕ) → kept [] out ≡ out
 unfolding kept

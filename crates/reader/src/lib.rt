@@ -12,25 +12,11 @@ ghost use Rattle.reader.specs.Lines.{Numbered, Chosen};
 
 use definitions::Operation;
 
-// A number and the place after it, or none.
-#[derive(Drop)]
-pub enum Number {
-    Found(u32, usize),
-    Wrong,
-}
-
-// How many numbers end their line, and the place after the line, or none.
-#[derive(Drop)]
-pub enum Numbers {
-    Found(usize, usize),
-    Wrong,
-}
-
-// An operation and the place after its line, or none.
-#[derive(Drop)]
-pub enum Choice {
-    Found(Operation, usize),
-    Wrong,
+// What was read, and the place after it.
+#[derive(Clone, Copy, Debug, PartialEq, Eq)]
+pub struct Read<T> {
+    pub value: T,
+    pub next: usize,
 }
 
 // Whether the bytes from a place on begin with a key.
@@ -38,58 +24,42 @@ pub fn has_key(text: &[u8], at: usize, key: &[u8]) -> bool
     requires { at ≤ length text.now }
     ensures { result ≡ opens (read_key key.now (drop at text.now)) }
 {
-    let mut k: usize = 0;
-    while k < key.len() {
-        if text.len() - at <= k {
-            return false;
-        }
-        if text[at + k] != key[k] {
-            return false;
-        }
-        k += 1;
-    }
-    true
+    text[at..].starts_with(key)
 }
 
 // The digits from a place on, which go on a number that is `first` so far.
-fn read_digits(text: &[u8], at: usize, first: u32) -> Number
+fn read_digits(text: &[u8], at: usize, first: u32) -> Option<Read<u32>>
     requires { at ≤ length text.now }
     ensures { result ≡ placed (length text.now) (read_digits first (drop at text.now)) }
 {
     let mut value = first;
-    let mut i = at;
-    while i < text.len() {
+    for i in at..text.len() {
         let b = text[i];
         match b {
             b'0'..=b'9' => {
-                let next = (value as u64) * 10 + ((b - b'0') as u64);
-                let is_too_large = 4294967295 < next;
-                if is_too_large {
-                    return Number::Wrong;
-                }
-                value = next as u32;
+                value = value.checked_mul(10)?.checked_add(u32::from(b - b'0'))?;
             }
-            _ => {
-                return Number::Found(value, i);
-            }
+            _ => return Some(Read { value, next: i }),
         }
-        i += 1;
     }
-    Number::Found(value, i)
+    Some(Read {
+        value,
+        next: text.len(),
+    })
 }
 
 // The number at a place.
-pub fn read_number(text: &[u8], at: usize) -> Number
+pub fn read_number(text: &[u8], at: usize) -> Option<Read<u32>>
     ensures { result ≡ placed (length text.now) (read_number (drop at text.now)) }
 {
-    if text.len() <= at {
-        return Number::Wrong;
-    }
-    let b = text[at];
+    let b = *text.get(at)?;
     match b {
-        b'0' => Number::Found(0, at + 1),
-        b'1'..=b'9' => read_digits(text, at + 1, (b - b'0') as u32),
-        _ => Number::Wrong,
+        b'0' => Some(Read {
+            value: 0,
+            next: at + 1,
+        }),
+        b'1'..=b'9' => read_digits(text, at + 1, u32::from(b - b'0')),
+        _ => None,
     }
 }
 
@@ -102,94 +72,105 @@ fn store(out: &mut [u32], k: usize, x: u32)
     }
 }
 
-// The numbers from a place to the end of the line.
-fn load_numbers(text: &[u8], at: usize, out: &mut [u32]) -> Numbers
+// How many numbers stand from a place to the end of the line. The loop stays a while: a number says by how much its place goes on.
+fn load_numbers(text: &[u8], at: usize, out: &mut [u32]) -> Option<Read<usize>>
     ensures { Listed
         text.now (ended (read_numbers (drop at text.now)))
         out.old out.new result }
 {
-    if text.len() <= at {
-        return Numbers::Wrong;
-    }
-    if text[at] == b'\n' {
-        return Numbers::Found(0, at + 1);
+    if *text.get(at)? == b'\n' {
+        return Some(Read {
+            value: 0,
+            next: at + 1,
+        });
     }
     let mut i = at;
     let mut count: usize = 0;
     while i < text.len() {
-        let Number::Found(x, next) = read_number(text, i) else {
-            return Numbers::Wrong;
-        };
-        if text.len() <= next {
-            return Numbers::Wrong;
-        }
-        store(out, count, x);
+        let number = read_number(text, i)?;
+        let b = *text.get(number.next)?;
+        store(out, count, number.value);
         count += 1;
-        let b = text[next];
+        i = number.next + 1;
         match b {
-            b' ' => {
-                i = next + 1;
-            }
+            b' ' => {}
             b'\n' => {
-                return Numbers::Found(count, next + 1);
+                return Some(Read {
+                    value: count,
+                    next: i,
+                });
             }
-            _ => {
-                return Numbers::Wrong;
-            }
+            _ => return None,
         }
     }
-    Numbers::Wrong
+    None
 }
 
-// The line with a key and a list of numbers, which are put at the front of `out` as far as it has room.
-pub fn numbers_line(text: &[u8], at: usize, key: &[u8], out: &mut [u32]) -> Numbers
+// How many numbers the line with a key has. They are put at the front of `out` as far as it has room.
+pub fn numbers_line(text: &[u8], at: usize, key: &[u8], out: &mut [u32]) -> Option<Read<usize>>
     requires { at ≤ length text.now }
     ensures { Listed
         text.now (read_line key.now read_numbers (drop at text.now))
         out.old out.new result }
 {
     if !has_key(text, at, key) {
-        return Numbers::Wrong;
+        return None;
     }
     load_numbers(text, at + key.len(), out)
 }
 
-// The line with a key and one number.
-pub fn number_line(text: &[u8], at: usize, key: &[u8]) -> Number
+// The number of the line with a key and one number.
+pub fn number_line(text: &[u8], at: usize, key: &[u8]) -> Option<Read<u32>>
     requires { at ≤ length text.now }
     ensures { Numbered text.now (read_line key.now read_number (drop at text.now)) result }
 {
     if !has_key(text, at, key) {
-        return Number::Wrong;
+        return None;
     }
-    let Number::Found(x, next) = read_number(text, at + key.len()) else {
-        return Number::Wrong;
-    };
-    if !has_key(text, next, b"\n") {
-        return Number::Wrong;
+    let number = read_number(text, at + key.len())?;
+    if !has_key(text, number.next, b"\n") {
+        return None;
     }
-    Number::Found(x, next + 1)
+    Some(Read {
+        value: number.value,
+        next: number.next + 1,
+    })
 }
 
 // The line of an operation.
-pub fn operation_line(text: &[u8], at: usize) -> Choice
+pub fn operation_line(text: &[u8], at: usize) -> Option<Read<Operation>>
     requires { at ≤ length text.now }
     ensures { Chosen text.now (read_line operation_key read_operation (drop at text.now)) result }
 {
     if has_key(text, at, b"op=expand\n") {
-        return Choice::Found(Operation::Expand, at + 10);
+        return Some(Read {
+            value: Operation::Expand,
+            next: at + 10,
+        });
     }
     if has_key(text, at, b"op=adjoint\n") {
-        return Choice::Found(Operation::Adjoint, at + 11);
+        return Some(Read {
+            value: Operation::Adjoint,
+            next: at + 11,
+        });
     }
     if has_key(text, at, b"op=decompose\n") {
-        return Choice::Found(Operation::Decompose, at + 13);
+        return Some(Read {
+            value: Operation::Decompose,
+            next: at + 13,
+        });
     }
     if has_key(text, at, b"op=moments\n") {
-        return Choice::Found(Operation::Moments, at + 11);
+        return Some(Read {
+            value: Operation::Moments,
+            next: at + 11,
+        });
     }
     if has_key(text, at, b"op=norms\n") {
-        return Choice::Found(Operation::Norms, at + 9);
+        return Some(Read {
+            value: Operation::Norms,
+            next: at + 9,
+        });
     }
-    Choice::Wrong
+    None
 }

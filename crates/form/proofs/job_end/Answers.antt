@@ -1,28 +1,21 @@
 -- `job_end` reads the lines of the operation and of the curve, and then the text is to end. Assumes nothing.
-use mathlib.Core.Path.{subst}
-use Rattle.reader.specs.Storing.{Listed}
-use Rattle.reader.specs.Lines.{Chosen}
-use Rattle.form.specs.JobForm.{no-operation, no-curve, no_end, end-at}
+use Rattle.std.proofs.Math.Path.{subst⁻¹}
+use Rattle.form.specs.JobForm.{EndRead, no-operation, no-curve, no_end, end-at}
 use Rattle.form.proofs.job_end.Goals as goal
 
-pub returns-in_default : goal.returns-in_default
-returns-in_default c = no-operation _ (subst (Chosen _ _) c.in_default.is c.operation_line.ensures)
+pub returns-in_err-operation : goal.returns-in_err-operation
+returns-in_err-operation c =
+    subst⁻¹ (EndRead _ _ _) c.from_residual.ensures (no-operation _ c.in_err-operation.ensures)
 
-pub numbers_line-requires : goal.numbers_line-requires
-numbers_line-requires c =
-    (subst (Chosen _ _) c.in-Found.is c.operation_line.ensures).inside
+pub returns-in_err-entries : goal.returns-in_err-entries
+returns-in_err-entries c =
+    subst⁻¹ (EndRead _ _ _) c.from_residual-in_err-entries.ensures
+    (no-curve _ _ _ _ c.in_ok-operation.ensures c.in_err-entries.ensures)
 
-pub returns-in_default-numbers_line : goal.returns-in_default-numbers_line
-returns-in_default-numbers_line c =
-    no-curve _ _ _ _ (subst (Chosen _ _) c.in-Found.is c.operation_line.ensures)
-    (subst (Listed _ _ _ _) c.in_default-numbers_line.is c.numbers_line.ensures)
-
-pub returns-then-end-text : goal.returns-then-end-text
-returns-then-end-text c =
-    no_end _ _ _ _ (subst (Chosen _ _) c.in-Found.is c.operation_line.ensures)
-    _ _ _ _ (subst (Listed _ _ _ _) c.in-Found-numbers_line.is c.numbers_line.ensures) c.if-end-text.true
+pub returns-then-entries-text : goal.returns-then-entries-text
+returns-then-entries-text c =
+    no_end _ _ _ _ c.in_ok-operation.ensures _ _ _ _ c.in_ok-entries.ensures c.if-entries-text.true
 
 pub returns : goal.returns
 returns c =
-    end-at _ _ _ _ (subst (Chosen _ _) c.in-Found.is c.operation_line.ensures)
-    _ _ _ _ (subst (Listed _ _ _ _) c.in-Found-numbers_line.is c.numbers_line.ensures) c.if-end-text.false
+    end-at _ _ _ _ c.in_ok-operation.ensures _ _ _ _ c.in_ok-entries.ensures c.if-entries-text.false

@@ -1,20 +1,17 @@
 -- `job_form` reads the lines of a family and then the end of a job. Assumes nothing.
-use mathlib.Core.Path.{subst, subst⁻¹}
-use Rattle.form.specs.FamilyLines.{FamilyRead}
-use Rattle.form.specs.JobForm.{Formed, no-family, job-formed}
+use Rattle.std.proofs.Math.Path.{subst⁻¹}
+use Rattle.form.specs.JobForm.{Formed, no-family, job-formed, job-malformed}
 use Rattle.form.proofs.job_form.Goals as goal
 
-pub returns-in_default : goal.returns-in_default
-returns-in_default c =
-    no-family _ (subst (FamilyRead _ _ _ _ _ _ _ _) c.in_default.is c.family_lines.ensures)
+pub returns-in_err-family : goal.returns-in_err-family
+returns-in_err-family c =
+    subst⁻¹ (Formed _ _ _ _ _ _ _ _ _) c.from_residual.ensures (no-family _ c.in_err-family.ensures)
 
-pub job_end-end-requires : goal.job_end-end-requires
-job_end-end-requires c =
-    (subst (FamilyRead _ _ _ _ _ _ _ _) c.in-Found.is c.family_lines.ensures).inside
+pub returns-in_err-end : goal.returns-in_err-end
+returns-in_err-end c =
+    subst⁻¹ (Formed _ _ _ _ _ _ _ _ _) c.from_residual-in_err-end.ensures
+    (job-malformed _ _ _ _ _ _ _ _ _ _ _ _ c.in_ok-family.ensures c.in_err-end.ensures)
 
 pub returns : goal.returns
 returns c =
-    subst⁻¹ (Formed _ _ _ _ _ _ _ _ _) c.with_family.ensures
-    (job-formed _ _ _ _ _ _ _ _ _ _ _ _
-    (subst (FamilyRead _ _ _ _ _ _ _ _) c.in-Found.is c.family_lines.ensures)
-    _ _ c.job_end-end.result c.job_end-end.ensures)
+    job-formed _ _ _ _ _ _ _ _ _ _ _ _ c.in_ok-family.ensures _ _ _ _ c.in_ok-end.ensures

@@ -1,11 +1,8 @@
 -- `take_line` takes one line: the laws of `Taking` at the loop. Assumes nothing.
 use native.Mathlib.Omega.{arith}
 use borrow.Author.Tests.{eq-eqb, ne_eqb}
-use Rattle.lines.specs.Taking.{taking-starts, taking-past, taking-ends, taking-on}
+use Rattle.lines.specs.Taking.{taking-open, taking-ends, taking-on}
 use Rattle.lines.proofs.take_line.Goals as goal
-
-pub loop-i-init : goal.loop-i-init
-loop-i-init c = taking-starts _ _ _ _ c.requires.0 c.requires.1
 
 pub returns-then-is_end : goal.returns-then-is_end
 returns-then-is_end c =
@@ -18,4 +15,4 @@ loop-i-preserved c =
     (ne_eqb _ _ c.if-is_end.false) (omega arith)
 
 pub returns : goal.returns
-returns c = taking-past _ _ _ _ _ _ _ c.loop-i.invariant c.loop-i-test.false
+returns c = taking-open _ _ _ _ _ _ _ c.loop-i.invariant (omega arith)

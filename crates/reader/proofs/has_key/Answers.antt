@@ -1,21 +1,13 @@
 -- `has_key` says whether a key stands at a place. Assumes nothing.
-use native.Mathlib.Omega.{arith}
-use Rattle.reader.specs.Keys.{compared-starts, compared-short, compared-other, compared-next, compared-ends}
+use Rattle.std.proofs.Common.{◌≡◌, subst}
+use Rattle.std.proofs.lemmas.Bool.Decides.{Decides-eqb}
+use Rattle.std.proofs.lemmas.Slice.Eq.{starts_is}
+use Rattle.definitions.specs.Reading.{read_key}
+use Rattle.reader.specs.Places.{opens}
+use Rattle.reader.proofs.Keys.{key_starts, rest-whole}
 use Rattle.reader.proofs.has_key.Goals as goal
 
-pub loop-k-init : goal.loop-k-init
-loop-k-init c = compared-starts _ _ _ c.requires
-
-pub returns-then-text-at : goal.returns-then-text-at
-returns-then-text-at c = compared-short _ _ _ _ c.loop-k.invariant c.loop-k-test.true (omega arith)
-
-pub returns-then-text-at-2 : goal.returns-then-text-at-2
-returns-then-text-at-2 c =
-    compared-other _ _ _ _ c.loop-k.invariant c.loop-k-test.true (omega arith) c.if-text-at-2.true
-
-pub loop-k-preserved : goal.loop-k-preserved
-loop-k-preserved c =
-    compared-next _ _ _ _ c.loop-k.invariant c.loop-k-test.true (omega arith) c.if-text-at-2.false
-
 pub returns : goal.returns
-returns c = compared-ends _ _ _ _ c.loop-k.invariant c.loop-k-test.false
+returns c =
+    subst (λ s. c.starts_with.result ≡ opens (read_key c.args.key.now s)) (rest-whole c.args.text.now c.args.at)
+    (key_starts _ _ _ (starts_is Decides-eqb _ _ _ c.starts_with.ensures.value))
