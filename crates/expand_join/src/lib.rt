@@ -12,21 +12,21 @@ ghost use Rattle.joining.specs.Expanding.{signed, reduced_list, reduced, reduced
 ghost use Rattle.joining.specs.Calls.{size_tests, both_rows, ExpandJoinCall};
 ghost use Rattle.expand_join.specs.Input.{Sized, ChannelInput};
 
-use definitions::{Answer, FIRST_C};
+use definitions::{FIRST_C, Refusal};
 use join_calls::Pairing;
 use lists::zeros;
 
 // 4, 5, 6 and 7 of the lengths of the rows' lists, the curve and the output, where m has passed its test.
-fn sizes(m: u32, a: usize, b: usize, c: usize, curve: usize, output: usize) -> Answer
+fn sizes(m: u32, a: usize, b: usize, c: usize, curve: usize, output: usize) -> Result<(), Refusal>
     requires { Modulus m }
     ensures { answered result ≡ verdict (size_tests a b c curve output) [] }
 {
     let shape = checks::family_shape(m, a, b, c);
-    let Answer::Finished = shape else {
+    let Ok(()) = shape else {
         return shape;
     };
     let entries = checks::curve_length(a + 1, curve);
-    let Answer::Finished = entries else {
+    let Ok(()) = entries else {
         return entries;
     };
     checks::output_length(a + 1, output)
@@ -34,7 +34,7 @@ fn sizes(m: u32, a: usize, b: usize, c: usize, curve: usize, output: usize) -> A
 
 // The inverses modulo m of a column of signed rows from place first on, closed by 1: refused with the one number where the lowest without an
 // inverse leaves zero, with the other where it does not.
-fn column(m: u32, list: &[i32], first: usize, zero: u32, shared: u32) -> Answer
+fn column(m: u32, list: &[i32], first: usize, zero: u32, shared: u32) -> Result<(), Refusal>
     requires { (0 < m) × (length list.now ≤ 127) }
     ensures { answered result ≡ verdict
         (column_tests m first (length list.now) (reduced_list m list.now) 1 zero shared) [] }
@@ -45,28 +45,28 @@ fn column(m: u32, list: &[i32], first: usize, zero: u32, shared: u32) -> Answer
 }
 
 // 17 and 10 modulo m1, then modulo m2; 18 and 11 modulo m1, then modulo m2: whatever the b.
-fn rows(m1: u32, m2: u32, a: &[i32], c: &[i32]) -> Answer
+fn rows(m1: u32, m2: u32, a: &[i32], c: &[i32]) -> Result<(), Refusal>
     requires { (0 < m1) × (0 < m2) × Sized (length a.now) (length c.now) }
     ensures { (b : List ℤ) → answered result ≡ verdict (both_rows (reduced m1 (signed a.now b c.now))
         (reduced m2 (signed a.now b c.now))) [] }
 {
     let first_a = column(m1, a, 0, 17, 10);
-    let Answer::Finished = first_a else {
+    let Ok(()) = first_a else {
         return first_a;
     };
     let second_a = column(m2, a, 0, 17, 10);
-    let Answer::Finished = second_a else {
+    let Ok(()) = second_a else {
         return second_a;
     };
     let first_c = column(m1, c, FIRST_C, 18, 11);
-    let Answer::Finished = first_c else {
+    let Ok(()) = first_c else {
         return first_c;
     };
     column(m2, c, FIRST_C, 18, 11)
 }
 
 // All tests after those of the moduli: 4 5 6 7, and 17 10 17 10 18 11 18 11 of the rows.
-fn tests(m1: u32, m2: u32, a: &[i32], b: &[i32], c: &[i32], curve: usize, output: usize) -> Answer
+fn tests(m1: u32, m2: u32, a: &[i32], b: &[i32], c: &[i32], curve: usize, output: usize) -> Result<(), Refusal>
     requires { Modulus m1 × Modulus m2 }
     ensures { answered result ≡ verdict
         (size_tests (length a.now) (length b.now) (length c.now) curve output
@@ -74,7 +74,7 @@ fn tests(m1: u32, m2: u32, a: &[i32], b: &[i32], c: &[i32], curve: usize, output
         (reduced m2 (signed a.now b.now c.now))) [] }
 {
     let sized = sizes(m1, a.len(), b.len(), c.len(), curve, output);
-    let Answer::Finished = sized else {
+    let Ok(()) = sized else {
         return sized;
     };
     rows(m1, m2, a, c)
@@ -110,15 +110,15 @@ pub fn expand_join(
     c: &[i32],
     curve: &[i32],
     output: &mut [i64],
-) -> Answer
+) -> Result<(), Refusal>
     ensures { ExpandJoinCall m1 m2 (signed a.now b.now c.now) curve.now (answered result)
         output.old output.new }
 {
     match join_calls::moduli(m1, m2) {
-        Pairing::Refused(k) => Answer::Refused(k),
-        Pairing::Apart(k) => {
+        Err(k) => Err(k),
+        Ok(k) => {
             let tested = tests(m1, m2, a, b, c, curve.len(), output.len());
-            let Answer::Finished = tested else {
+            let Ok(()) = tested else {
                 return tested;
             };
             let mut x = zeros();
@@ -126,7 +126,7 @@ pub fn expand_join(
             expand_channel(m1, a, b, c, curve, &mut x);
             expand_channel(m2, a, b, c, curve, &mut y);
             join::join_lists(m1, m2, k, &x, &y, output);
-            Answer::Finished
+            Ok(())
         }
     }
 }

@@ -2,11 +2,10 @@
 -- Proved, whatever those are: where a test refuses the output is what it was; where all pass, and the definition's list was written, the
 -- call has finished. Of Join: where its tests pass, its lists are as joining asks. Assumes nothing.
 use mathlib.Core.List.{List, [], ◌∷◌, ◌++◌}
-use Rattle.std.specs.Prelude.{◌≡◌, refl, ℕ, ℤ, length, take}
+use Rattle.std.specs.Prelude.{◌≡◌, refl, ℕ, ℤ, length, take, Ok, Err}
 use Rattle.std.proofs.Common.{sym, ◌∙◌, ap, ap₂, arith, take_all}
-use Rattle.definitions.specs.Answers.{answered}
+use Rattle.definitions.specs.Answers.{Answer, answered}
 use Rattle.definitions.specs.Refusals.{Test, finished, refused, verdict, output_test, curve_entries_test}
-use Rattle.definitions.specs.declared.Answer.{Answer}
 use Rattle.acceptance.specs.Stages.{Remaining, all-remain, none-remain, stage-none, stages-end}
 use Rattle.acceptance.specs.Verdicts.{none-append, verdict-stops}
 use Rattle.checks.specs.Settling.{refuses}
@@ -27,10 +26,10 @@ module _ (m m' : ℕ) (rest : List Test) (result output : List ℤ) where
     whole : answered r ≡ verdict all []
     whole = stages-end rest (none-remain (moduli_tests m m') rest all-remain (pair-none pair)) r is
 
-    pub rest-refuses : (j : ℕ) → r ≡ Answer.Refused j → WholesHanded all result (answered r) output output
+    pub rest-refuses : (j : ℕ) → r ≡ Err j → WholesHanded all result (answered r) output output
     rest-refuses j q = record { answer = whole; written = sym (ap (λ x. wholes_after (answered x) result output) q) }
 
-    pub rest-passes : (output' : List ℤ) → r ≡ Answer.Finished → output' ≡ result → WholesHanded all result (finished []) output output'
+    pub rest-passes : (output' : List ℤ) → r ≡ Ok tt → output' ≡ result → WholesHanded all result (finished []) output output'
     rest-passes output' q e = record { answer = sym (ap answered q) ∙ whole; written = e }
 
 -- ---- Join: 20
@@ -49,7 +48,7 @@ module _ (m m' : ℕ) (xs ys : List ℕ) (output : ℕ) where
 
 -- and what its lists are where all tests pass
 module _ (m m' k : ℕ) (xs ys : List ℕ) (output : ℕ) (pair : Paired m m' k) (r : Answer)
-    (is : answered r ≡ verdict (list_tests m m' xs ys output) []) (q : r ≡ Answer.Finished) where
+    (is : answered r ≡ verdict (list_tests m m' xs ys output) []) (q : r ≡ Ok tt) where
   input : JoinInput m m' xs ys output
   unfolding join_tests
   input = (join-passes m m' xs ys output).0

@@ -9,7 +9,7 @@ ghost use Rattle.definitions.specs.Refusals.{verdict};
 ghost use Rattle.joining.specs.Calls.{list_tests, JoinCall};
 ghost use Rattle.join_calls.specs.Pairs.{PairAnswer};
 
-use definitions::Answer;
+use definitions::Refusal;
 use residue::Inversion;
 
 // What the tests of two moduli answer: the inverse of the first modulo the second, or a refusal.
@@ -20,36 +20,36 @@ pub enum Pairing {
 }
 
 // 3, 3 and 19: one inverse tells whether they share a factor, and is what joining needs.
-pub fn moduli(m1: u32, m2: u32) -> Pairing
+pub fn moduli(m1: u32, m2: u32) -> Result<u32, Refusal>
     ensures { PairAnswer m1 m2 result }
 {
     let first = checks::modulus(m1);
-    if let Answer::Refused(k) = first {
-        return Pairing::Refused(k);
+    if let Err(k) = first {
+        return Err(k);
     }
     let second = checks::modulus(m2);
-    if let Answer::Refused(k) = second {
-        return Pairing::Refused(k);
+    if let Err(k) = second {
+        return Err(k);
     }
     match residue::invert(m2, m1) {
-        Inversion::Found(k) => Pairing::Apart(k),
-        Inversion::Absent(_) => Pairing::Refused(19),
+        Inversion::Found(k) => Ok(k),
+        Inversion::Absent(_) => Err(Refusal::ModuliShareFactor),
     }
 }
 
 // 20, 7, and 12 of either list.
-fn remainders(m1: u32, m2: u32, first: &[u32], second: &[u32], output: usize) -> Answer
+fn remainders(m1: u32, m2: u32, first: &[u32], second: &[u32], output: usize) -> Result<(), Refusal>
     ensures { answered result ≡ verdict (list_tests m1 m2 first.now second.now output) [] }
 {
     if second.len() != first.len() {
-        return Answer::Refused(20);
+        return Err(Refusal::RemaindersDiffer);
     }
     let place = checks::output_length(first.len(), output);
-    let Answer::Finished = place else {
+    let Ok(()) = place else {
         return place;
     };
     let entries = checks::curve_entries(m1, first);
-    let Answer::Finished = entries else {
+    let Ok(()) = entries else {
         return entries;
     };
     checks::curve_entries(m2, second)
@@ -59,18 +59,18 @@ fn remainders(m1: u32, m2: u32, first: &[u32], second: &[u32], output: usize) ->
 // Refused with 3: m1 or m2 is out of its range; with 19: they share a factor; with 20: the lists differ in length; with 7: the output is not as
 // long (all of these the station's program); with 12: a number of the first list is not below m1, or one of the second not below m2 (the sender
 // of the remainders).
-pub fn join(m1: u32, m2: u32, first: &[u32], second: &[u32], output: &mut [i64]) -> Answer
+pub fn join(m1: u32, m2: u32, first: &[u32], second: &[u32], output: &mut [i64]) -> Result<(), Refusal>
     ensures { JoinCall m1 m2 first.now second.now (answered result) output.old output.new }
 {
     match moduli(m1, m2) {
-        Pairing::Refused(k) => Answer::Refused(k),
-        Pairing::Apart(k) => {
+        Err(k) => Err(k),
+        Ok(k) => {
             let tested = remainders(m1, m2, first, second, output.len());
-            let Answer::Finished = tested else {
+            let Ok(()) = tested else {
                 return tested;
             };
             join::join_lists(m1, m2, k, first, second, output);
-            Answer::Finished
+            Ok(())
         }
     }
 }

@@ -17,7 +17,7 @@ ghost use Rattle.prepared_model.specs.Rightness.{Sized};
 ghost use Rattle.reduction.specs.Reciprocal.{Reciprocal};
 
 use checks::Entries;
-use definitions::{Answer, FIRST_C};
+use definitions::{FIRST_C, Refusal};
 use lists::row_entry;
 use residue::product_by;
 
@@ -147,16 +147,16 @@ pub fn record<'a>(
     a_inverses: &'a [u32],
     c_inverses: &'a [u32],
     norms: &'a [u32],
-) -> Answer
+) -> Result<(), Refusal>
     requires { Sized (fields modulus rows a.now b.now c.now a_inverses.now c_inverses.now norms.now) }
     ensures { answered result ≡ verdict (record_test (fields modulus rows a.now b.now c.now
         a_inverses.now c_inverses.now norms.now) ∷ []) [] }
 {
-    let Answer::Finished = checks::modulus(modulus) else {
-        return Answer::Refused(14);
+    let Ok(()) = checks::modulus(modulus) else {
+        return Err(Refusal::RecordWrong);
     };
     if 127 < rows {
-        return Answer::Refused(14);
+        return Err(Refusal::RecordWrong);
     }
     let count = rows as usize;
     let reciprocal = reduction::reciprocal(modulus);
@@ -164,10 +164,10 @@ pub fn record<'a>(
         if inverted(modulus, reciprocal, a, a_inverses, 0, count) {
             if inverted(modulus, reciprocal, c, c_inverses, FIRST_C, count) {
                 if norms_true(modulus, reciprocal, count, a, c, norms) {
-                    return Answer::Finished;
+                    return Ok(());
                 }
             }
         }
     }
-    Answer::Refused(14)
+    Err(Refusal::RecordWrong)
 }

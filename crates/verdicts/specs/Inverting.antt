@@ -1,27 +1,27 @@
 -- What Inverse promises, from its tests and from what Euclid's algorithm found.
 -- Proved: a test before 13 that refuses, or 13 itself, or that it finishes, and what is then handed out: no number, the factor alone, or the
 -- inverse and 1. Assumes nothing.
-use Rattle.std.specs.Prelude.{◌≡◌, refl, true, false, ℕ, ◌<◌}
+use Rattle.std.specs.Prelude.{◌≡◌, refl, true, false, ℕ, ◌<◌, Ok, Err}
 use Rattle.std.proofs.Common.{sym, ◌∙◌, ne_eqb}
 use Rattle.std.proofs.Math.Path.{ap}
 use mathlib.Core.List.{List, [], ◌∷◌, ◌++◌}
 use native.Mathlib.Omega.{arith}
-use Rattle.definitions.specs.Answers.{answered, InverseCall}
+use Rattle.definitions.specs.Answers.{Answer, number_of, answered, InverseCall}
 use Rattle.definitions.specs.Family.{Modulus}
 use Rattle.definitions.specs.Number.{greatest_factor}
 use Rattle.definitions.specs.Refusals.{Test, finished, refused, verdict, modulus_test, number_test, number_inverse_test, inverse_tests}
-use Rattle.definitions.specs.declared.Answer.{Answer}
 use Rattle.acceptance.specs.Given.{Given, refused-given}
 use Rattle.acceptance.specs.Stages.{Remaining, all-remain, stage-none, stage-passes, stage-refuses-with}
 use Rattle.acceptance.specs.Verdicts.{modulus-passes, number-inverse-passes}
 use Rattle.residue.specs.Inversion.{IsInverse, SharesFactor, found-has, found-factor, absent-factor}
 use Rattle.checks.specs.RowTests.{lacks}
 use Rattle.checks.specs.Settling.{refuses, finishes}
+use Rattle.definitions.specs.declared.Refusal.{Refusal}
 
 module _ (m x : ℕ) where
   -- the number of a stage that is not 13
   early-refused : (stage rest : List Test) → Remaining (inverse_tests m x) (stage ++ rest) → Given (λ k. k ≡ 13 → ⊥) stage
-      → (r : Answer) → answered r ≡ verdict stage [] → (k : ℕ) → r ≡ Answer.Refused k → InverseCall m x (refused k) [] [] [] []
+      → (r : Answer) → answered r ≡ verdict stage [] → (k : Refusal) → r ≡ Err k → InverseCall m x (refused (number_of k)) [] [] [] []
   early-refused stage rest left other r is k q =
       let number = refused-given (λ j. j ≡ 13 → ⊥) [] k stage other (sym is ∙ ap answered q) in
       record {
@@ -31,11 +31,11 @@ module _ (m x : ℕ) where
       }
 
   module _ (range : Answer) (ranged : answered range ≡ verdict (modulus_test m ∷ []) []) where
-    pub outside-refused : (k : ℕ) → range ≡ Answer.Refused k → InverseCall m x (refused k) [] [] [] []
+    pub outside-refused : (k : Refusal) → range ≡ Err k → InverseCall m x (refused (number_of k)) [] [] [] []
     unfolding inverse_tests modulus_test
     outside-refused = early-refused (modulus_test m ∷ []) _ all-remain (λ e q. omega arith, tt) range ranged
 
-    module _ (inside : range ≡ Answer.Finished) (below : Answer) (is : answered below ≡ verdict (number_test m x ∷ []) []) where
+    module _ (inside : range ≡ Ok tt) (below : Answer) (is : answered below ≡ verdict (number_test m x ∷ []) []) where
       modulus : Modulus m
       modulus = (modulus-passes m).0 (stage-none (modulus_test m ∷ []) range ranged inside).0
 
@@ -43,11 +43,11 @@ module _ (m x : ℕ) where
       unfolding inverse_tests
       left = stage-passes (modulus_test m ∷ []) _ all-remain range ranged inside
 
-      pub above-refused : (k : ℕ) → below ≡ Answer.Refused k → InverseCall m x (refused k) [] [] [] []
+      pub above-refused : (k : Refusal) → below ≡ Err k → InverseCall m x (refused (number_of k)) [] [] [] []
       unfolding number_test
       above-refused = early-refused (number_test m x ∷ []) _ left (λ e q. omega arith, tt) below is
 
-      module _ (less : below ≡ Answer.Finished) where
+      module _ (less : below ≡ Ok tt) where
         last : Remaining (inverse_tests m x) (number_inverse_test m x ∷ [])
         last = stage-passes (number_test m x ∷ []) (number_inverse_test m x ∷ []) left below is less
 

@@ -11,9 +11,9 @@ pub rows-requires : goal.rows-requires
 rows-requires c = (
   omega (arith, c.requires.0.least),
   omega (arith, c.requires.1.least),
-  sizes-pass _ _ _ _ _ _ c.sizes-sized.ensures c.in-Finished.is,
+  sizes-pass _ _ _ _ _ _ c.sizes-sized.ensures c.in-Ok.is,
 )
 
 pub returns : goal.returns
 returns c =
-    stages-end _ (stage-passes _ _ all-remain _ c.sizes-sized.ensures c.in-Finished.is) c.rows.result (c.rows.ensures c.args.b.now)
+    stages-end _ (stage-passes _ _ all-remain _ c.sizes-sized.ensures c.in-Ok.is) c.rows.result (c.rows.ensures c.args.b.now)

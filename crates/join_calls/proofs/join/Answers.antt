@@ -8,22 +8,22 @@ use Rattle.join_calls.proofs.join.Goals as goal
 pub returns-in_default : goal.returns-in_default
 unfolding join_tests
 returns-in_default c =
-    rest-refuses _ _ _ _ _ _ (answer-pair _ _ c.moduli.ensures c.in-Apart.is) _ c.remainders-tested.ensures _
+    rest-refuses _ _ _ _ _ _ (answer-pair _ _ c.moduli.ensures c.in-Ok.is) _ c.remainders-tested.ensures _
     c.in_default.is
 
 pub join_lists-requires : goal.join_lists-requires
 join_lists-requires c =
-    let pair = answer-pair _ _ c.moduli.ensures c.in-Apart.is in
-    (pair, lists-held _ _ _ _ _ _ pair _ c.remainders-tested.ensures c.in-Finished.is)
+    let pair = answer-pair _ _ c.moduli.ensures c.in-Ok.is in
+    (pair, lists-held _ _ _ _ _ _ pair _ c.remainders-tested.ensures c.in-Ok.is)
 
-pub returns-in-Refused : goal.returns-in-Refused
+pub returns-in-Err : goal.returns-in-Err
 unfolding join_tests
-returns-in-Refused c =
-    moduli-refuse _ _ _ _ _ _ (answer-refused _ _ c.moduli.ensures c.in-Refused.is)
+returns-in-Err c =
+    moduli-refuse _ _ _ _ _ _ (answer-refused _ _ c.moduli.ensures c.in-Err.is)
 
-pub returns-in-Finished : goal.returns-in-Finished
+pub returns-in-Ok : goal.returns-in-Ok
 unfolding join_tests
-returns-in-Finished c =
-    let pair = answer-pair _ _ c.moduli.ensures c.in-Apart.is in
-    rest-passes _ _ _ _ _ _ pair _ c.remainders-tested.ensures _ c.in-Finished.is
-    (c.join_lists.ensures ∙ lists-whole _ _ _ _ _ _ pair _ c.remainders-tested.ensures c.in-Finished.is)
+returns-in-Ok c =
+    let pair = answer-pair _ _ c.moduli.ensures c.in-Ok.is in
+    rest-passes _ _ _ _ _ _ pair _ c.remainders-tested.ensures _ c.in-Ok.is
+    (c.join_lists.ensures ∙ lists-whole _ _ _ _ _ _ pair _ c.remainders-tested.ensures c.in-Ok.is)

@@ -3,13 +3,13 @@ use Rattle.residue.specs.Inversion.{inverted-found, inverted-absent}
 use Rattle.join_calls.specs.Pairs.{first-refused, second-refused, pair_found, pair-shares}
 use Rattle.join_calls.proofs.moduli.Goals as goal
 
-pub returns-in-Refused : goal.returns-in-Refused
-returns-in-Refused c = first-refused _ _ _ c.modulus-first.ensures _ c.in-Refused.is
+pub returns-in-Err : goal.returns-in-Err
+returns-in-Err c = first-refused _ _ _ c.modulus-first.ensures _ c.in-Err.is
 
-pub returns-in-Refused-second : goal.returns-in-Refused-second
-returns-in-Refused-second c =
+pub returns-in-Err-second : goal.returns-in-Err-second
+returns-in-Err-second c =
     second-refused _ _ _ c.modulus-first.ensures c.in_default.is _ c.modulus-second.ensures _
-    c.in-Refused-second.is
+    c.in-Err-second.is
 
 pub returns-in-Found : goal.returns-in-Found
 returns-in-Found c =

@@ -13,12 +13,12 @@ returns-in_default c =
 pub returns-in_default-entries : goal.returns-in_default-entries
 returns-in_default-entries c =
     let after_place = stage-passes _ _ (lengths-same _ _ _ _ _ c.if-second-first.false) _ c.output_length-place.ensures
-    c.in-Finished.is in
+    c.in-Ok.is in
     stage-refuses _ _ after_place _ c.curve_entries-entries.ensures _ c.in_default-entries.is
 
 pub returns : goal.returns
 returns c =
     let after_place = stage-passes _ _ (lengths-same _ _ _ _ _ c.if-second-first.false) _ c.output_length-place.ensures
-    c.in-Finished.is in
-    let after_entries = stage-passes _ _ after_place _ c.curve_entries-entries.ensures c.in-Finished-entries.is in
+    c.in-Ok.is in
+    let after_entries = stage-passes _ _ after_place _ c.curve_entries-entries.ensures c.in-Ok-entries.is in
     stages-end _ after_entries c.curve_entries.result c.curve_entries.ensures

@@ -12,5 +12,5 @@ pub returns : goal.returns
 returns c =
     ways-agree _ _ _ _ _ _ _ _
     c.plain_decompose-answer.ensures
-    c.in-Finished.is _ _ _
+    c.in-Ok.is _ _ _
     c.tree_decompose.ensures

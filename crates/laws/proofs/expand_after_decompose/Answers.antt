@@ -13,5 +13,5 @@ pub returns : goal.returns
 returns c =
     both-made expand-undoes-decompose _ _ _ _ _ _ _ _ _ _
     c.decompose_by-answer.ensures
-    c.in-Finished.is _ _ _
+    c.in-Ok.is _ _ _
     c.expand_by.ensures

@@ -12,7 +12,7 @@ pub returns-in_default-two : goal.returns-in_default-two
 returns-in_default-two c =
     second-refused _ _ _ _ _ _ _ _ _
     c.expand_by-one.ensures
-    c.in-Finished.is _ _ _
+    c.in-Ok.is _ _ _
     c.expand_by-two.ensures _
     c.in_default-two.is
 
@@ -20,9 +20,9 @@ pub returns-in_default-three : goal.returns-in_default-three
 returns-in_default-three c =
     third-refused _ _ _ _ _ _ _ _ _
     c.expand_by-one.ensures
-    c.in-Finished.is _ _ _
+    c.in-Ok.is _ _ _
     c.expand_by-two.ensures
-    c.in-Finished-two.is _ _ _
+    c.in-Ok-two.is _ _ _
     c.moments-three.ensures _
     c.in_default-three.is
 
@@ -30,9 +30,9 @@ pub returns : goal.returns
 returns c =
     all-handed-out _ _ _ _ _ _ _ _ _
     c.expand_by-one.ensures
-    c.in-Finished.is _ _ _
+    c.in-Ok.is _ _ _
     c.expand_by-two.ensures
-    c.in-Finished-two.is _ _ _
+    c.in-Ok-two.is _ _ _
     c.moments-three.ensures
-    c.in-Finished-three.is _ _
+    c.in-Ok-three.is _ _
     c.norms.ensures

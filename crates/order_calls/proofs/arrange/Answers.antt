@@ -7,8 +7,8 @@ returns-in_default c = order-refused _ _ _ _ c.lengths-tested.ensures _ c.in_def
 
 pub write_arranged-requires : goal.write_arranged-requires
 write_arranged-requires c =
-    order-lent _ _ _ c.lengths-tested.ensures c.in-Finished.is
+    order-lent _ _ _ c.lengths-tested.ensures c.in-Ok.is
 
 pub returns : goal.returns
 returns c =
-    order-made _ _ _ _ c.lengths-tested.ensures c.in-Finished.is _ c.write_arranged.ensures
+    order-made _ _ _ _ c.lengths-tested.ensures c.in-Ok.is _ c.write_arranged.ensures

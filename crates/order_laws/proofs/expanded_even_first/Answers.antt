@@ -8,5 +8,5 @@ returns-in_default c =
 
 pub returns : goal.returns
 returns c =
-    expand-made _ _ _ _ _ _ _ _ _ c.expand_by-answer.ensures c.in-Finished.is c.even_first.result _
+    expand-made _ _ _ _ _ _ _ _ _ c.expand_by-answer.ensures c.in-Ok.is c.even_first.result _
     c.even_first.ensures

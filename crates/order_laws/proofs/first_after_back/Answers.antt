@@ -7,5 +7,5 @@ returns-in_default c = trip-refused _ _ _ _ _ _ c.even_back-answer.ensures _ c.i
 
 pub returns : goal.returns
 returns c =
-    trip-made _ _ _ _ _ _ c.even_back-answer.ensures c.in-Finished.is c.even_first.result _
+    trip-made _ _ _ _ _ _ c.even_back-answer.ensures c.in-Ok.is c.even_first.result _
     c.even_first.ensures

@@ -12,18 +12,18 @@ returns-in_default c = tests-refuse _ _ c.norms-tested.ensures _ c.in_default.is
 
 pub of_list-requires : goal.of_list-requires
 of_list-requires c =
-    let input = norms-input _ c.norms-tested.ensures c.in-Finished.is in
+    let input = norms-input _ c.norms-tested.ensures c.in-Ok.is in
     a-room input.accepted c.zeros-a_inverses.ensures
 
 pub norms-requires : goal.norms-requires
 norms-requires c =
-    let input = norms-input _ c.norms-tested.ensures c.in-Finished.is in
+    let input = norms-input _ c.norms-tested.ensures c.in-Ok.is in
     norms-core _ input (array-is input.accepted c.zeros-a_inverses.ensures c.of_list.ensures)
 
 pub returns : goal.returns
 returns c =
-    let input = norms-input _ c.norms-tested.ensures c.in-Finished.is in
+    let input = norms-input _ c.norms-tested.ensures c.in-Ok.is in
     let inverted = array-is input.accepted c.zeros-a_inverses.ensures c.of_list.ensures in
-    tests-finish _ _ c.norms-tested.ensures c.in-Finished.is
+    tests-finish _ _ c.norms-tested.ensures c.in-Ok.is
     (c.norms.ensures c.args.a.now c.args.b.now 1 1 (whole-inverts input.accepted inverted)
     ∙ norms-written c.args.output.now input)

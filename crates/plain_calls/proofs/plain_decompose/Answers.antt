@@ -13,18 +13,18 @@ returns-in_default c = tests-refuse _ _ c.plain-tested.ensures _ c.in_default.is
 
 pub of_list-requires : goal.of_list-requires
 of_list-requires c =
-    let input = plain-input _ c.plain-tested.ensures c.in-Finished.is in
+    let input = plain-input _ c.plain-tested.ensures c.in-Ok.is in
     a-room input.accepted c.zeros-a_inverses.ensures
 
 pub decompose-requires : goal.decompose-requires
 decompose-requires c =
-    let input = plain-input _ c.plain-tested.ensures c.in-Finished.is in
+    let input = plain-input _ c.plain-tested.ensures c.in-Ok.is in
     decompose-core _ input (array-is input.accepted c.zeros-a_inverses.ensures c.of_list.ensures)
 
 pub returns : goal.returns
 returns c =
-    let input = plain-input _ c.plain-tested.ensures c.in-Finished.is in
+    let input = plain-input _ c.plain-tested.ensures c.in-Ok.is in
     let inverted = array-is input.accepted c.zeros-a_inverses.ensures c.of_list.ensures in
-    tests-finish _ _ c.plain-tested.ensures c.in-Finished.is
+    tests-finish _ _ c.plain-tested.ensures c.in-Ok.is
     (c.decompose.ensures c.args.a.now (whole-inverts input.accepted inverted)
     ∙ plain-written c.args.output.now input decompose)

@@ -9,8 +9,8 @@ returns-in_default c = tests-refuse _ _ c.norms_verdict-tested.ensures _ c.in_de
 
 pub copy-requires : goal.copy-requires
 copy-requires c =
-    norms-room _ c.in-Finished.is _ c.norms_verdict-tested.ensures
+    norms-room _ c.in-Ok.is _ c.norms_verdict-tested.ensures
 
 pub returns : goal.returns
 returns c =
-    norms-made _ c.in-Finished.is _ c.norms_verdict-tested.ensures c.copy.ensures
+    norms-made _ c.in-Ok.is _ c.norms_verdict-tested.ensures c.copy.ensures

@@ -9,8 +9,8 @@ returns-in_default c = tests-refuse _ _ c.plain_verdict-tested.ensures _ c.in_de
 
 pub adjoint-requires : goal.adjoint-requires
 adjoint-requires c =
-    plain-core _ _ _ c.plain_verdict-tested.ensures c.in-Finished.is
+    plain-core _ _ _ c.plain_verdict-tested.ensures c.in-Ok.is
 
 pub returns : goal.returns
 returns c =
-    plain-made _ _ _ c.plain_verdict-tested.ensures c.in-Finished.is adjoint c.adjoint.ensures
+    plain-made _ _ _ c.plain_verdict-tested.ensures c.in-Ok.is adjoint c.adjoint.ensures

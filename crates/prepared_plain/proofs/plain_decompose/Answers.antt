@@ -9,8 +9,8 @@ returns-in_default c = tests-refuse _ _ c.plain_verdict-tested.ensures _ c.in_de
 
 pub decompose-requires : goal.decompose-requires
 decompose-requires c =
-    decompose-core _ _ _ c.plain_verdict-tested.ensures c.in-Finished.is
+    decompose-core _ _ _ c.plain_verdict-tested.ensures c.in-Ok.is
 
 pub returns : goal.returns
 returns c =
-    decompose-made _ _ _ c.plain_verdict-tested.ensures c.in-Finished.is c.decompose.ensures
+    decompose-made _ _ _ c.plain_verdict-tested.ensures c.in-Ok.is c.decompose.ensures

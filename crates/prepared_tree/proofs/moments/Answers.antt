@@ -9,8 +9,8 @@ returns-in_default c = both-kept c.moments_verdict-tested.ensures c.in_default.i
 
 pub moments-requires : goal.moments-requires
 moments-requires c =
-    moments-core _ _ _ c.moments_verdict-tested.ensures c.in-Finished.is
+    moments-core _ _ _ c.moments_verdict-tested.ensures c.in-Ok.is
 
 pub returns : goal.returns
 returns c =
-    moments-made _ _ _ c.moments_verdict-tested.ensures c.in-Finished.is c.moments.ensures
+    moments-made _ _ _ c.moments_verdict-tested.ensures c.in-Ok.is c.moments.ensures

@@ -9,8 +9,8 @@ returns-in_default c = both-kept c.tree_verdict-tested.ensures c.in_default.is
 
 pub adjoint-requires : goal.adjoint-requires
 adjoint-requires c =
-    tree-core _ _ _ _ c.tree_verdict-tested.ensures c.in-Finished.is
+    tree-core _ _ _ _ c.tree_verdict-tested.ensures c.in-Ok.is
 
 pub returns : goal.returns
 returns c =
-    adjoint-made _ _ _ _ c.tree_verdict-tested.ensures c.in-Finished.is c.adjoint.ensures
+    adjoint-made _ _ _ _ c.tree_verdict-tested.ensures c.in-Ok.is c.adjoint.ensures

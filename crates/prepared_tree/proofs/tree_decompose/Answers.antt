@@ -9,8 +9,8 @@ returns-in_default c = both-kept c.tree_verdict-tested.ensures c.in_default.is
 
 pub decompose-requires : goal.decompose-requires
 decompose-requires c =
-    decompose-core _ _ _ _ c.tree_verdict-tested.ensures c.in-Finished.is
+    decompose-core _ _ _ _ c.tree_verdict-tested.ensures c.in-Ok.is
 
 pub returns : goal.returns
 returns c =
-    decompose-made _ _ _ _ c.tree_verdict-tested.ensures c.in-Finished.is c.decompose.ensures
+    decompose-made _ _ _ _ c.tree_verdict-tested.ensures c.in-Ok.is c.decompose.ensures

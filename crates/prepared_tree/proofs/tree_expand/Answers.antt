@@ -9,8 +9,8 @@ returns-in_default c = both-kept c.tree_verdict-tested.ensures c.in_default.is
 
 pub expand-requires : goal.expand-requires
 expand-requires c =
-    tree-core _ _ _ _ c.tree_verdict-tested.ensures c.in-Finished.is
+    tree-core _ _ _ _ c.tree_verdict-tested.ensures c.in-Ok.is
 
 pub returns : goal.returns
 returns c =
-    expand-made _ _ _ _ c.tree_verdict-tested.ensures c.in-Finished.is c.expand.ensures
+    expand-made _ _ _ _ c.tree_verdict-tested.ensures c.in-Ok.is c.expand.ensures

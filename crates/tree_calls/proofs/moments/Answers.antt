@@ -10,16 +10,16 @@ returns-in_default c = both-kept c.moments-tested.ensures c.in_default.is
 
 pub of_list-requires : goal.of_list-requires
 of_list-requires c =
-    let input = moments-accepted c.moments-tested.ensures c.in-Finished.is in
+    let input = moments-accepted c.moments-tested.ensures c.in-Ok.is in
     a-room input.accepted c.zeros-a_inverses.ensures
 
 pub moments-requires : goal.moments-requires
 moments-requires c =
-    let input = moments-accepted c.moments-tested.ensures c.in-Finished.is in
+    let input = moments-accepted c.moments-tested.ensures c.in-Ok.is in
     moments-input input.accepted
     (array-is input.accepted c.zeros-a_inverses.ensures c.of_list.ensures) input
 
 pub returns : goal.returns
 returns c =
-    moments-made (moments-accepted c.moments-tested.ensures c.in-Finished.is) c.moments-tested.ensures c.in-Finished.is
+    moments-made (moments-accepted c.moments-tested.ensures c.in-Ok.is) c.moments-tested.ensures c.in-Ok.is
     c.moments.ensures

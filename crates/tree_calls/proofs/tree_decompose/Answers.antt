@@ -13,22 +13,22 @@ returns-in_default c = both-kept c.tree-tested.ensures c.in_default.is
 
 pub of_list-requires : goal.of_list-requires
 of_list-requires c =
-    let input = tree-input c.tree-tested.ensures c.in-Finished.is in
+    let input = tree-input c.tree-tested.ensures c.in-Ok.is in
     a-room input.plain.accepted c.zeros-a_inverses.ensures
 
 pub of_list-requires-2 : goal.of_list-requires-2
 of_list-requires-2 c =
-    let input = tree-input c.tree-tested.ensures c.in-Finished.is in
+    let input = tree-input c.tree-tested.ensures c.in-Ok.is in
     c-room input.plain.accepted c.zeros-c_inverses.ensures
 
 pub decompose-requires : goal.decompose-requires
 decompose-requires c =
-    let input = tree-input c.tree-tested.ensures c.in-Finished.is in
+    let input = tree-input c.tree-tested.ensures c.in-Ok.is in
     decompose-input input.plain.accepted
     (array-is input.plain.accepted c.zeros-a_inverses.ensures c.of_list.ensures)
     (array-is input.plain.accepted c.zeros-c_inverses.ensures c.of_list-2.ensures) input
 
 pub returns : goal.returns
 returns c =
-    tree-made (tree-input c.tree-tested.ensures c.in-Finished.is) decompose decompose refl c.tree-tested.ensures c.in-Finished.is
+    tree-made (tree-input c.tree-tested.ensures c.in-Ok.is) decompose decompose refl c.tree-tested.ensures c.in-Ok.is
     c.decompose.ensures

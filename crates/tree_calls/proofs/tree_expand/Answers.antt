@@ -11,9 +11,9 @@ returns-in_default c = both-kept c.tree-tested.ensures c.in_default.is
 
 pub expand-requires : goal.expand-requires
 expand-requires c =
-    core-input (tree-input c.tree-tested.ensures c.in-Finished.is)
+    core-input (tree-input c.tree-tested.ensures c.in-Ok.is)
 
 pub returns : goal.returns
 returns c =
-    let input = tree-input c.tree-tested.ensures c.in-Finished.is in
-    tree-made input tree_expand expand (expand-is input) c.tree-tested.ensures c.in-Finished.is c.expand.ensures
+    let input = tree-input c.tree-tested.ensures c.in-Ok.is in
+    tree-made input tree_expand expand (expand-is input) c.tree-tested.ensures c.in-Ok.is c.expand.ensures

@@ -3,13 +3,13 @@ use Rattle.residue.specs.Inversion.{inverted-found, inverted-absent}
 use Rattle.verdicts.specs.Inverting.{outside-refused, above-refused, inverse-found, inverse-absent}
 use Rattle.verdicts.proofs.inverse.Goals as goal
 
-pub returns-in-Refused : goal.returns-in-Refused
-returns-in-Refused c = outside-refused _ _ _ c.modulus-range.ensures _ c.in-Refused.is
+pub returns-in-Err : goal.returns-in-Err
+returns-in-Err c = outside-refused _ _ _ c.modulus-range.ensures _ c.in-Err.is
 
-pub returns-in-Refused-below : goal.returns-in-Refused-below
-returns-in-Refused-below c =
+pub returns-in-Err-below : goal.returns-in-Err-below
+returns-in-Err-below c =
     above-refused _ _ _ c.modulus-range.ensures c.in_default.is _ c.number_below-below.ensures _
-    c.in-Refused-below.is
+    c.in-Err-below.is
 
 pub returns-in-Found : goal.returns-in-Found
 returns-in-Found c =
