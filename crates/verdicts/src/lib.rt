@@ -1,4 +1,4 @@
-// All tests of a call in their order, as its one verdict: the call goes on where the answer is Finished, and hands a refusal on.
+// All tests of a call in their order, as its one verdict: the call goes on where it is Ok, and hands a refusal on.
 #![tactic(auto)]
 
 ghost use Rattle.std.specs.Prelude.{◌≡◌, [], ◌≤◌, length};
@@ -222,16 +222,10 @@ pub fn writing(
 pub fn inverse(m: u32, x: u32) -> Result<u32, NotInverted>
     ensures { InverseCall m x (inverse_answered result) [] (inverse_handed result) [] (factor_handed result) }
 {
-    let range = checks::modulus(m);
-    if let Err(k) = range {
-        return Err(k);
-    }
-    let below = checks::number_below(m, x);
-    if let Err(k) = below {
-        return Err(k);
-    }
+    checks::modulus(m)?;
+    checks::number_below(m, x)?;
     match residue::invert(m, x) {
-        Inversion::Found(y) => InverseAnswer::Found(y, 1),
-        Inversion::Absent(g) => InverseAnswer::NoInverse(g),
+        Inversion::Found(y) => Ok(y),
+        Inversion::Absent(g) => Err(NotInverted::Shares { factor: g }),
     }
 }
