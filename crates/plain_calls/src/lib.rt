@@ -32,10 +32,7 @@ fn call<C: Conversion>(
     ensures { PlainCall C.converted (family m a.now b.now c.now) curve.now (answered result)
         output.old output.new }
 {
-    let tested = verdicts::plain(m, a, b, c, curve, output.len());
-    let Ok(()) = tested else {
-        return tested;
-    };
+    verdicts::plain(m, a, b, c, curve, output.len())?;
     let family = Family {
         modulus: m,
         a,
@@ -94,10 +91,7 @@ pub fn plain_decompose(
     ensures { PlainCall decompose (family m a.now b.now c.now) coefficients.now (answered result)
         output.old output.new }
 {
-    let tested = verdicts::plain(m, a, b, c, coefficients, output.len());
-    let Ok(()) = tested else {
-        return tested;
-    };
+    verdicts::plain(m, a, b, c, coefficients, output.len())?;
     let mut a_inverses = lists::zeros();
     inverses::of_list(m, a, 0, a.len(), &mut a_inverses);
     plain::decompose(m, &a_inverses, b, c, coefficients, a.len() + 1, output);
@@ -110,10 +104,7 @@ pub fn norms(m: u32, a: &[u32], b: &[u32], c: &[u32], output: &mut [u32]) -> Res
     ensures { NormsCall (family m a.now b.now c.now) (answered result)
         output.old output.new }
 {
-    let tested = verdicts::norms(m, a, b, c, output.len());
-    let Ok(()) = tested else {
-        return tested;
-    };
+    verdicts::norms(m, a, b, c, output.len())?;
     let mut a_inverses = lists::zeros();
     inverses::of_list(m, a, 0, a.len(), &mut a_inverses);
     plain::norms(m, &a_inverses, c, 1, 1, a.len() + 1, output);

@@ -22,10 +22,7 @@ pub fn tree_expand(
     ensures { TreeCall expand (family m a.now b.now c.now) curve.now (answered result)
         output.old output.new work.old work.new }
 {
-    let tested = verdicts::tree(m, a, b, c, curve, output.len(), work.len());
-    let Ok(()) = tested else {
-        return tested;
-    };
+    verdicts::tree(m, a, b, c, curve, output.len(), work.len())?;
     tree::expand(m, a, b, c, curve, a.len() + 1, output, work);
     Ok(())
 }
@@ -44,10 +41,7 @@ pub fn tree_adjoint(
     ensures { TreeCall adjoint (family m a.now b.now c.now) curve.now (answered result)
         output.old output.new work.old work.new }
 {
-    let tested = verdicts::tree(m, a, b, c, curve, output.len(), work.len());
-    let Ok(()) = tested else {
-        return tested;
-    };
+    verdicts::tree(m, a, b, c, curve, output.len(), work.len())?;
     tree::adjoint(m, a, b, c, curve, a.len() + 1, output, work);
     Ok(())
 }
@@ -66,10 +60,7 @@ pub fn tree_decompose(
     ensures { TreeCall decompose (family m a.now b.now c.now) coefficients.now (answered result)
         output.old output.new work.old work.new }
 {
-    let tested = verdicts::tree(m, a, b, c, coefficients, output.len(), work.len());
-    let Ok(()) = tested else {
-        return tested;
-    };
+    verdicts::tree(m, a, b, c, coefficients, output.len(), work.len())?;
     let mut a_inverses = lists::zeros();
     inverses::of_list(m, a, 0, a.len(), &mut a_inverses);
     let mut c_inverses = lists::zeros();
@@ -108,10 +99,7 @@ pub fn moments(
     ensures { MomentsCall (family m a.now b.now c.now) (answered result)
         output.old output.new work.old work.new }
 {
-    let tested = verdicts::moments(m, a, b, c, output.len(), work.len());
-    let Ok(()) = tested else {
-        return tested;
-    };
+    verdicts::moments(m, a, b, c, output.len(), work.len())?;
     let mut a_inverses = lists::zeros();
     inverses::of_list(m, a, 0, a.len(), &mut a_inverses);
     moment_way::moments(
