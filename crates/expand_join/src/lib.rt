@@ -21,14 +21,8 @@ fn sizes(m: u32, a: usize, b: usize, c: usize, curve: usize, output: usize) -> R
     requires { Modulus m }
     ensures { answered result ≡ verdict (size_tests a b c curve output) [] }
 {
-    let shape = checks::family_shape(m, a, b, c);
-    let Ok(()) = shape else {
-        return shape;
-    };
-    let entries = checks::curve_length(a + 1, curve);
-    let Ok(()) = entries else {
-        return entries;
-    };
+    checks::family_shape(m, a, b, c)?;
+    checks::curve_length(a + 1, curve)?;
     checks::output_length(a + 1, output)
 }
 
@@ -50,18 +44,9 @@ fn rows(m1: u32, m2: u32, a: &[i32], c: &[i32]) -> Result<(), Refusal>
     ensures { (b : List ℤ) → answered result ≡ verdict (both_rows (reduced m1 (signed a.now b c.now))
         (reduced m2 (signed a.now b c.now))) [] }
 {
-    let first_a = column(m1, a, 0, 17, 10);
-    let Ok(()) = first_a else {
-        return first_a;
-    };
-    let second_a = column(m2, a, 0, 17, 10);
-    let Ok(()) = second_a else {
-        return second_a;
-    };
-    let first_c = column(m1, c, FIRST_C, 18, 11);
-    let Ok(()) = first_c else {
-        return first_c;
-    };
+    column(m1, a, 0, 17, 10)?;
+    column(m2, a, 0, 17, 10)?;
+    column(m1, c, FIRST_C, 18, 11)?;
     column(m2, c, FIRST_C, 18, 11)
 }
 
@@ -73,10 +58,7 @@ fn tests(m1: u32, m2: u32, a: &[i32], b: &[i32], c: &[i32], curve: usize, output
         ++ both_rows (reduced m1 (signed a.now b.now c.now))
         (reduced m2 (signed a.now b.now c.now))) [] }
 {
-    let sized = sizes(m1, a.len(), b.len(), c.len(), curve, output);
-    let Ok(()) = sized else {
-        return sized;
-    };
+    sizes(m1, a.len(), b.len(), c.len(), curve, output)?;
     rows(m1, m2, a, c)
 }
 
@@ -117,10 +99,7 @@ pub fn expand_join(
     match join_calls::moduli(m1, m2) {
         Err(k) => Err(k),
         Ok(k) => {
-            let tested = tests(m1, m2, a, b, c, curve.len(), output.len());
-            let Ok(()) = tested else {
-                return tested;
-            };
+            tests(m1, m2, a, b, c, curve.len(), output.len())?;
             let mut x = zeros();
             let mut y = zeros();
             expand_channel(m1, a, b, c, curve, &mut x);

@@ -44,14 +44,8 @@ fn remainders(m1: u32, m2: u32, first: &[u32], second: &[u32], output: usize) ->
     if second.len() != first.len() {
         return Err(Refusal::RemaindersDiffer);
     }
-    let place = checks::output_length(first.len(), output);
-    let Ok(()) = place else {
-        return place;
-    };
-    let entries = checks::curve_entries(m1, first);
-    let Ok(()) = entries else {
-        return entries;
-    };
+    checks::output_length(first.len(), output)?;
+    checks::curve_entries(m1, first)?;
     checks::curve_entries(m2, second)
 }
 
@@ -65,10 +59,7 @@ pub fn join(m1: u32, m2: u32, first: &[u32], second: &[u32], output: &mut [i64])
     match moduli(m1, m2) {
         Err(k) => Err(k),
         Ok(k) => {
-            let tested = remainders(m1, m2, first, second, output.len());
-            let Ok(()) = tested else {
-                return tested;
-            };
+            remainders(m1, m2, first, second, output.len())?;
             join::join_lists(m1, m2, k, first, second, output);
             Ok(())
         }

@@ -58,17 +58,8 @@ fn expands_joined(
         (answered result) first.old first.new second.old second.new
         joined.old joined.new output.old output.new }
 {
-    let both = expand_join::expand_join(m1, m2, a, b, c, curve, output);
-    let Ok(()) = both else {
-        return both;
-    };
-    let one = plain_calls::plain_expand(m1, a1, b1, c1, curve1, first);
-    let Ok(()) = one else {
-        return one;
-    };
-    let two = plain_calls::plain_expand(m2, a2, b2, c2, curve2, second);
-    let Ok(()) = two else {
-        return two;
-    };
+    expand_join::expand_join(m1, m2, a, b, c, curve, output)?;
+    plain_calls::plain_expand(m1, a1, b1, c1, curve1, first)?;
+    plain_calls::plain_expand(m2, a2, b2, c2, curve2, second)?;
     join_calls::join(m1, m2, first, second, joined)
 }

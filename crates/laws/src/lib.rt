@@ -80,10 +80,7 @@ fn decompose_after_expand(
     ensures { ThereAndBack expand decompose first second (family m a.now b.now c.now) curve.now result
         expanded.old expanded.new returned.old returned.new work.old work.new }
 {
-    let answer = expand_by(first, m, a, b, c, curve, expanded, work);
-    let Ok(()) = answer else {
-        return answer;
-    };
+    expand_by(first, m, a, b, c, curve, expanded, work)?;
     decompose_by(second, m, a, b, c, expanded, returned, work)
 }
 
@@ -103,10 +100,7 @@ fn expand_after_decompose(
     ensures { ThereAndBack decompose expand first second (family m a.now b.now c.now) coefficients.now result
         decomposed.old decomposed.new returned.old returned.new work.old work.new }
 {
-    let answer = decompose_by(first, m, a, b, c, coefficients, decomposed, work);
-    let Ok(()) = answer else {
-        return answer;
-    };
+    decompose_by(first, m, a, b, c, coefficients, decomposed, work)?;
     expand_by(second, m, a, b, c, decomposed, returned, work)
 }
 
@@ -124,10 +118,7 @@ fn expand_by_both_ways(
     ensures { Agreed expand (family m a.now b.now c.now) curve.now result
         plain.old plain.new tree.old tree.new work.old work.new }
 {
-    let answer = plain_calls::plain_expand(m, a, b, c, curve, plain);
-    let Ok(()) = answer else {
-        return answer;
-    };
+    plain_calls::plain_expand(m, a, b, c, curve, plain)?;
     tree_calls::tree_expand(m, a, b, c, curve, tree, work)
 }
 
@@ -145,10 +136,7 @@ fn adjoint_by_both_ways(
     ensures { Agreed adjoint (family m a.now b.now c.now) curve.now result
         plain.old plain.new tree.old tree.new work.old work.new }
 {
-    let answer = plain_calls::plain_adjoint(m, a, b, c, curve, plain);
-    let Ok(()) = answer else {
-        return answer;
-    };
+    plain_calls::plain_adjoint(m, a, b, c, curve, plain)?;
     tree_calls::tree_adjoint(m, a, b, c, curve, tree, work)
 }
 
@@ -166,10 +154,7 @@ fn decompose_by_both_ways(
     ensures { Agreed decompose (family m a.now b.now c.now) coefficients.now result
         plain.old plain.new tree.old tree.new work.old work.new }
 {
-    let answer = plain_calls::plain_decompose(m, a, b, c, coefficients, plain);
-    let Ok(()) = answer else {
-        return answer;
-    };
+    plain_calls::plain_decompose(m, a, b, c, coefficients, plain)?;
     tree_calls::tree_decompose(m, a, b, c, coefficients, tree, work)
 }
 
@@ -193,18 +178,9 @@ fn hand_out(
         (lists s.old t.old moment.old norm.old work.old) result
         (lists s.new t.new moment.new norm.new work.new) }
 {
-    let one = expand_by(first, m, a, b, c, u, s, work);
-    let Ok(()) = one else {
-        return one;
-    };
-    let two = expand_by(second, m, a, b, c, v, t, work);
-    let Ok(()) = two else {
-        return two;
-    };
-    let three = tree_calls::moments(m, a, b, c, moment, work);
-    let Ok(()) = three else {
-        return three;
-    };
+    expand_by(first, m, a, b, c, u, s, work)?;
+    expand_by(second, m, a, b, c, v, t, work)?;
+    tree_calls::moments(m, a, b, c, moment, work)?;
     plain_calls::norms(m, a, b, c, norm)
 }
 

@@ -32,10 +32,8 @@ fn write_arranged(direction: Direction, list: &[u32], output: &mut [u32])
     ensures { output.new ≡ arranged direction list.now }
 {
     let n = list.len();
-    let mut k: usize = 0;
-    while k < n {
+    for k in 0..n {
         output[k] = list[source(direction, n, k)];
-        k += 1;
     }
 }
 
@@ -54,10 +52,7 @@ fn lengths(n: usize, output: usize) -> Result<(), Refusal>
 pub fn arrange(direction: Direction, list: &[u32], output: &mut [u32]) -> Result<(), Refusal>
     ensures { OrderCall direction list.now (answered result) output.old output.new }
 {
-    let tested = lengths(list.len(), output.len());
-    let Ok(()) = tested else {
-        return tested;
-    };
+    lengths(list.len(), output.len())?;
     write_arranged(direction, list, output);
     Ok(())
 }

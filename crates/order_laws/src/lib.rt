@@ -16,10 +16,7 @@ fn back_after_first(list: &[u32], between: &mut [u32], output: &mut [u32]) -> Re
     ensures { OrderTrip Direction.EvenFirst list.now (answered result)
         between.old between.new output.old output.new }
 {
-    let answer = order_calls::even_first(list, between);
-    let Ok(()) = answer else {
-        return answer;
-    };
+    order_calls::even_first(list, between)?;
     order_calls::even_back(between, output)
 }
 
@@ -28,10 +25,7 @@ fn first_after_back(list: &[u32], between: &mut [u32], output: &mut [u32]) -> Re
     ensures { OrderTrip Direction.EvenBack list.now (answered result)
         between.old between.new output.old output.new }
 {
-    let answer = order_calls::even_back(list, between);
-    let Ok(()) = answer else {
-        return answer;
-    };
+    order_calls::even_back(list, between)?;
     order_calls::even_first(between, output)
 }
 
@@ -51,9 +45,6 @@ fn expanded_even_first(
     ensures { EvenExpanded way (family m a.now b.now c.now) curve.now (answered result)
         expanded.old expanded.new output.old output.new work.old work.new }
 {
-    let answer = laws::expand_by(way, m, a, b, c, curve, expanded, work);
-    let Ok(()) = answer else {
-        return answer;
-    };
+    laws::expand_by(way, m, a, b, c, curve, expanded, work)?;
     order_calls::even_first(expanded, output)
 }

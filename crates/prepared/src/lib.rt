@@ -79,10 +79,7 @@ fn prepare(m: u32, rows: u32, a: [u32; 127], b: [u32; 127], c: [u32; 127]) -> Pr
 fn append_verdict(p: Prepared, a: u32, b: u32, c: u32) -> Result<(), Refusal>
     ensures { answered result ≡ verdict (append_tests (held p) (row_of a b c)) [] }
 {
-    let right = test(p);
-    let Ok(()) = right else {
-        return right;
-    };
+    test(p)?;
     if Prepared::MOST_ROWS <= p.rows {
         return Err(Refusal::TooManyRows);
     }
@@ -93,10 +90,7 @@ fn append_verdict(p: Prepared, a: u32, b: u32, c: u32) -> Result<(), Refusal>
 fn drop_verdict(p: Prepared) -> Result<(), Refusal>
     ensures { answered result ≡ verdict (drop_tests (held p)) [] }
 {
-    let right = test(p);
-    let Ok(()) = right else {
-        return right;
-    };
+    test(p)?;
     if p.rows == 0 {
         return Err(Refusal::NoRows);
     }
@@ -108,10 +102,7 @@ fn drop_verdict(p: Prepared) -> Result<(), Refusal>
 fn replace_verdict(p: Prepared, row: u32, a: u32, b: u32, c: u32) -> Result<(), Refusal>
     ensures { answered result ≡ verdict (replace_tests (held p) row (row_of a b c)) [] }
 {
-    let right = test(p);
-    let Ok(()) = right else {
-        return right;
-    };
+    test(p)?;
     if row == 0 {
         return Err(Refusal::NoSuchRow);
     }

@@ -33,19 +33,10 @@ fn plain_verdict<'a>(
     ensures { answered result ≡ verdict (prepared_plain_tests (fields modulus rows a.now b.now c.now
         a_inverses.now c_inverses.now norms.now) curve.now output) [] }
 {
-    let right = record_check::record(modulus, rows, a, b, c, a_inverses, c_inverses, norms);
-    let Ok(()) = right else {
-        return right;
-    };
+    record_check::record(modulus, rows, a, b, c, a_inverses, c_inverses, norms)?;
     let n = rows as usize + 1;
-    let entries = checks::curve_length(n, curve.len());
-    let Ok(()) = entries else {
-        return entries;
-    };
-    let place = checks::output_length(n, output);
-    let Ok(()) = place else {
-        return place;
-    };
+    checks::curve_length(n, curve.len())?;
+    checks::output_length(n, output)?;
     checks::curve_entries(modulus, curve)
 }
 
@@ -65,10 +56,7 @@ fn norms_verdict<'a>(
     ensures { answered result ≡ verdict (prepared_norms_tests (fields modulus rows a.now b.now c.now
         a_inverses.now c_inverses.now norms.now) output) [] }
 {
-    let right = record_check::record(modulus, rows, a, b, c, a_inverses, c_inverses, norms);
-    let Ok(()) = right else {
-        return right;
-    };
+    record_check::record(modulus, rows, a, b, c, a_inverses, c_inverses, norms)?;
     checks::output_length(rows as usize + 1, output)
 }
 
@@ -78,7 +66,7 @@ pub fn plain_expand(family: Prepared, curve: &[u32], output: &mut [u32]) -> Resu
     ensures { PreparedPlainCall expand (held family) curve.now (answered result)
         output.old output.new }
 {
-    let tested = plain_verdict(
+    plain_verdict(
         family.modulus,
         family.rows,
         &family.a,
@@ -89,10 +77,7 @@ pub fn plain_expand(family: Prepared, curve: &[u32], output: &mut [u32]) -> Resu
         &family.norms,
         curve,
         output.len(),
-    );
-    let Ok(()) = tested else {
-        return tested;
-    };
+    )?;
     let b = family.b;
     let c = family.c;
     let n = family.rows as usize + 1;
@@ -105,7 +90,7 @@ pub fn plain_adjoint(family: Prepared, curve: &[u32], output: &mut [u32]) -> Res
     ensures { PreparedPlainCall adjoint (held family) curve.now (answered result)
         output.old output.new }
 {
-    let tested = plain_verdict(
+    plain_verdict(
         family.modulus,
         family.rows,
         &family.a,
@@ -116,10 +101,7 @@ pub fn plain_adjoint(family: Prepared, curve: &[u32], output: &mut [u32]) -> Res
         &family.norms,
         curve,
         output.len(),
-    );
-    let Ok(()) = tested else {
-        return tested;
-    };
+    )?;
     let b = family.b;
     let c = family.c;
     let n = family.rows as usize + 1;
@@ -132,7 +114,7 @@ pub fn plain_decompose(family: Prepared, coefficients: &[u32], output: &mut [u32
     ensures { PreparedPlainCall decompose (held family) coefficients.now (answered result)
         output.old output.new }
 {
-    let tested = plain_verdict(
+    plain_verdict(
         family.modulus,
         family.rows,
         &family.a,
@@ -143,10 +125,7 @@ pub fn plain_decompose(family: Prepared, coefficients: &[u32], output: &mut [u32
         &family.norms,
         coefficients,
         output.len(),
-    );
-    let Ok(()) = tested else {
-        return tested;
-    };
+    )?;
     let b = family.b;
     let c = family.c;
     let n = family.rows as usize + 1;
@@ -166,7 +145,7 @@ pub fn plain_decompose(family: Prepared, coefficients: &[u32], output: &mut [u32
 pub fn norms(family: Prepared, output: &mut [u32]) -> Result<(), Refusal>
     ensures { PreparedNormsCall (held family) (answered result) output.old output.new }
 {
-    let tested = norms_verdict(
+    norms_verdict(
         family.modulus,
         family.rows,
         &family.a,
@@ -176,10 +155,7 @@ pub fn norms(family: Prepared, output: &mut [u32]) -> Result<(), Refusal>
         &family.c_inverses,
         &family.norms,
         output.len(),
-    );
-    let Ok(()) = tested else {
-        return tested;
-    };
+    )?;
     lists::copy(&family.norms, family.rows as usize + 1, output);
     Ok(())
 }

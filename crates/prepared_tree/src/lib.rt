@@ -34,23 +34,11 @@ fn tree_verdict<'a>(
     ensures { answered result ≡ verdict (prepared_tree_tests (fields modulus rows a.now b.now c.now
         a_inverses.now c_inverses.now norms.now) curve.now output work) [] }
 {
-    let right = record_check::record(modulus, rows, a, b, c, a_inverses, c_inverses, norms);
-    let Ok(()) = right else {
-        return right;
-    };
+    record_check::record(modulus, rows, a, b, c, a_inverses, c_inverses, norms)?;
     let n = rows as usize + 1;
-    let entries = checks::curve_length(n, curve.len());
-    let Ok(()) = entries else {
-        return entries;
-    };
-    let place = checks::output_length(n, output);
-    let Ok(()) = place else {
-        return place;
-    };
-    let room = checks::work_length(work);
-    let Ok(()) = room else {
-        return room;
-    };
+    checks::curve_length(n, curve.len())?;
+    checks::output_length(n, output)?;
+    checks::work_length(work)?;
     checks::curve_entries(modulus, curve)
 }
 
@@ -71,14 +59,8 @@ fn moments_verdict<'a>(
     ensures { answered result ≡ verdict (prepared_moments_tests (fields modulus rows a.now b.now c.now
         a_inverses.now c_inverses.now norms.now) output work) [] }
 {
-    let right = record_check::record(modulus, rows, a, b, c, a_inverses, c_inverses, norms);
-    let Ok(()) = right else {
-        return right;
-    };
-    let place = checks::output_length(2 * (rows as usize) + 1, output);
-    let Ok(()) = place else {
-        return place;
-    };
+    record_check::record(modulus, rows, a, b, c, a_inverses, c_inverses, norms)?;
+    checks::output_length(2 * (rows as usize) + 1, output)?;
     checks::work_length(work)
 }
 
@@ -88,7 +70,7 @@ pub fn tree_expand(family: Prepared, curve: &[u32], output: &mut [u32], work: &m
     ensures { PreparedTreeCall expand (held family) curve.now (answered result)
         output.old output.new work.old work.new }
 {
-    let tested = tree_verdict(
+    tree_verdict(
         family.modulus,
         family.rows,
         &family.a,
@@ -100,10 +82,7 @@ pub fn tree_expand(family: Prepared, curve: &[u32], output: &mut [u32], work: &m
         curve,
         output.len(),
         work.len(),
-    );
-    let Ok(()) = tested else {
-        return tested;
-    };
+    )?;
     let b = family.b;
     let c = family.c;
     let n = family.rows as usize + 1;
@@ -116,7 +95,7 @@ pub fn tree_adjoint(family: Prepared, curve: &[u32], output: &mut [u32], work: &
     ensures { PreparedTreeCall adjoint (held family) curve.now (answered result)
         output.old output.new work.old work.new }
 {
-    let tested = tree_verdict(
+    tree_verdict(
         family.modulus,
         family.rows,
         &family.a,
@@ -128,10 +107,7 @@ pub fn tree_adjoint(family: Prepared, curve: &[u32], output: &mut [u32], work: &
         curve,
         output.len(),
         work.len(),
-    );
-    let Ok(()) = tested else {
-        return tested;
-    };
+    )?;
     let b = family.b;
     let c = family.c;
     let n = family.rows as usize + 1;
@@ -150,7 +126,7 @@ pub fn tree_decompose(
     ensures { PreparedTreeCall decompose (held family) coefficients.now (answered result)
         output.old output.new work.old work.new }
 {
-    let tested = tree_verdict(
+    tree_verdict(
         family.modulus,
         family.rows,
         &family.a,
@@ -162,10 +138,7 @@ pub fn tree_decompose(
         coefficients,
         output.len(),
         work.len(),
-    );
-    let Ok(()) = tested else {
-        return tested;
-    };
+    )?;
     let b = family.b;
     let c = family.c;
     let a_inverses = family.a_inverses;
@@ -197,7 +170,7 @@ pub fn moments(family: Prepared, output: &mut [u32], work: &mut [u32]) -> Result
     ensures { PreparedMomentsCall (held family) (answered result)
         output.old output.new work.old work.new }
 {
-    let tested = moments_verdict(
+    moments_verdict(
         family.modulus,
         family.rows,
         &family.a,
@@ -208,10 +181,7 @@ pub fn moments(family: Prepared, output: &mut [u32], work: &mut [u32]) -> Result
         &family.norms,
         output.len(),
         work.len(),
-    );
-    let Ok(()) = tested else {
-        return tested;
-    };
+    )?;
     let b = family.b;
     let c = family.c;
     let a_inverses = family.a_inverses;

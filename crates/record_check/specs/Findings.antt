@@ -9,7 +9,7 @@ use Rattle.std.proofs.Math.Logic.Iff
 use Rattle.std.proofs.Math.Logic.{by_cases}
 use Rattle.std.proofs.Math.Decide.{dec_lt}
 use Rattle.std.proofs.Math.ListN.{get_or-eq_default}
-use Rattle.definitions.specs.Answers.{Answer, answered}
+use Rattle.definitions.specs.Answers.{Answer, number_of, answered}
 use Rattle.definitions.specs.Family.{Modulus}
 use Rattle.definitions.specs.Refusals.{verdict, some, not_below, modulus_test}
 use Rattle.acceptance.specs.Stages.{stage-none}
@@ -31,7 +31,7 @@ module _ (m : ℕ) (r : Answer) (is : answered r ≡ verdict (modulus_test m ∷
   pub modulus-denied : (k : Refusal) → r ≡ Err k → Modulus m → ⊥
   modulus-denied k q h =
       let passes = (verdict-finished (modulus_test m ∷ []) []).1 ((modulus-passes m).1 h, tt) in
-      refused-not-finished k [] (sym (ap answered q) ∙ is ∙ passes)
+      refused-not-finished (number_of k) [] (sym (ap answered q) ∙ is ∙ passes)
 
 -- ---- residues and then zeros
 module _ (count : ℕ) (list : List ℕ) (long : count ≤ length list) where

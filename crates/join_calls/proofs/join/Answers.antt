@@ -5,16 +5,10 @@ use Rattle.join_calls.specs.Handing.{moduli-refuse, rest-refuses, rest-passes, l
 use Rattle.join_calls.specs.Pairs.{answer-pair, answer-refused}
 use Rattle.join_calls.proofs.join.Goals as goal
 
-pub returns-in_default : goal.returns-in_default
-unfolding join_tests
-returns-in_default c =
-    rest-refuses _ _ _ _ _ _ (answer-pair _ _ c.moduli.ensures c.in-Ok.is) _ c.remainders-tested.ensures _
-    c.in_default.is
-
 pub join_lists-requires : goal.join_lists-requires
 join_lists-requires c =
-    let pair = answer-pair _ _ c.moduli.ensures c.in-Ok.is in
-    (pair, lists-held _ _ _ _ _ _ pair _ c.remainders-tested.ensures c.in-Ok.is)
+    let pair = answer-pair _ _ c.moduli.ensures c.in_ok-remainders.was in
+    (pair, lists-held _ _ _ _ _ _ pair _ c.remainders.ensures c.in_ok-remainders.was)
 
 pub returns-in-Err : goal.returns-in-Err
 unfolding join_tests
@@ -24,6 +18,6 @@ returns-in-Err c =
 pub returns-in-Ok : goal.returns-in-Ok
 unfolding join_tests
 returns-in-Ok c =
-    let pair = answer-pair _ _ c.moduli.ensures c.in-Ok.is in
-    rest-passes _ _ _ _ _ _ pair _ c.remainders-tested.ensures _ c.in-Ok.is
-    (c.join_lists.ensures ∙ lists-whole _ _ _ _ _ _ pair _ c.remainders-tested.ensures c.in-Ok.is)
+    let pair = answer-pair _ _ c.moduli.ensures c.in_ok-remainders.was in
+    rest-passes _ _ _ _ _ _ pair _ c.remainders.ensures _ c.in_ok-remainders.was
+    (c.join_lists.ensures ∙ lists-whole _ _ _ _ _ _ pair _ c.remainders.ensures c.in_ok-remainders.was)

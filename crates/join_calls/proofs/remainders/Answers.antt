@@ -6,19 +6,9 @@ use Rattle.join_calls.proofs.remainders.Goals as goal
 pub returns-then-second-first : goal.returns-then-second-first
 returns-then-second-first c = lengths_differ _ _ _ _ _ c.if-second-first.true
 
-pub returns-in_default : goal.returns-in_default
-returns-in_default c =
-    stage-refuses _ _ (lengths-same _ _ _ _ _ c.if-second-first.false) _ c.output_length-place.ensures _ c.in_default.is
-
-pub returns-in_default-entries : goal.returns-in_default-entries
-returns-in_default-entries c =
-    let after_place = stage-passes _ _ (lengths-same _ _ _ _ _ c.if-second-first.false) _ c.output_length-place.ensures
-    c.in-Ok.is in
-    stage-refuses _ _ after_place _ c.curve_entries-entries.ensures _ c.in_default-entries.is
-
 pub returns : goal.returns
 returns c =
-    let after_place = stage-passes _ _ (lengths-same _ _ _ _ _ c.if-second-first.false) _ c.output_length-place.ensures
-    c.in-Ok.is in
-    let after_entries = stage-passes _ _ after_place _ c.curve_entries-entries.ensures c.in-Ok-entries.is in
+    let after_place = stage-passes _ _ (lengths-same _ _ _ _ _ c.if-second-first.false) _ c.output_length.ensures
+    c.in_ok-output_length.was in
+    let after_entries = stage-passes _ _ after_place _ c.curve_entries.ensures c.in_ok-curve_entries.was in
     stages-end _ after_entries c.curve_entries.result c.curve_entries.ensures
