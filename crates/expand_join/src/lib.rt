@@ -4,7 +4,7 @@
 #![tactic(auto)]
 
 ghost use Rattle.std.specs.Prelude.{List, [], ◌++◌, ◌≡◌, ◌≤◌, ◌<◌, ℤ, length, drop};
-ghost use Rattle.definitions.specs.Answers.{answered};
+ghost use Rattle.definitions.specs.Answers.{answered, number_of};
 ghost use Rattle.definitions.specs.Family.{Modulus};
 ghost use Rattle.definitions.specs.Refusals.{verdict};
 ghost use Rattle.checks.specs.Columns.{column_tests};
@@ -13,7 +13,6 @@ ghost use Rattle.joining.specs.Calls.{size_tests, both_rows, ExpandJoinCall};
 ghost use Rattle.expand_join.specs.Input.{Sized, ChannelInput};
 
 use definitions::{FIRST_C, Refusal};
-use join_calls::Pairing;
 use lists::zeros;
 
 // 4, 5, 6 and 7 of the lengths of the rows' lists, the curve and the output, where m has passed its test.
@@ -28,10 +27,10 @@ fn sizes(m: u32, a: usize, b: usize, c: usize, curve: usize, output: usize) -> R
 
 // The inverses modulo m of a column of signed rows from place first on, closed by 1: refused with the one number where the lowest without an
 // inverse leaves zero, with the other where it does not.
-fn column(m: u32, list: &[i32], first: usize, zero: u32, shared: u32) -> Result<(), Refusal>
+fn column(m: u32, list: &[i32], first: usize, zero: Refusal, shared: Refusal) -> Result<(), Refusal>
     requires { (0 < m) × (length list.now ≤ 127) }
     ensures { answered result ≡ verdict
-        (column_tests m first (length list.now) (reduced_list m list.now) 1 zero shared) [] }
+        (column_tests m first (length list.now) (reduced_list m list.now) 1 (number_of zero) (number_of shared)) [] }
 {
     let mut x = zeros();
     join::reduce_list(m, list, &mut x);
@@ -44,10 +43,10 @@ fn rows(m1: u32, m2: u32, a: &[i32], c: &[i32]) -> Result<(), Refusal>
     ensures { (b : List ℤ) → answered result ≡ verdict (both_rows (reduced m1 (signed a.now b c.now))
         (reduced m2 (signed a.now b c.now))) [] }
 {
-    column(m1, a, 0, 17, 10)?;
-    column(m2, a, 0, 17, 10)?;
-    column(m1, c, FIRST_C, 18, 11)?;
-    column(m2, c, FIRST_C, 18, 11)
+    column(m1, a, 0, Refusal::ZeroA, Refusal::NoInverseA)?;
+    column(m2, a, 0, Refusal::ZeroA, Refusal::NoInverseA)?;
+    column(m1, c, FIRST_C, Refusal::ZeroC, Refusal::NoInverseC)?;
+    column(m2, c, FIRST_C, Refusal::ZeroC, Refusal::NoInverseC)
 }
 
 // All tests after those of the moduli: 4 5 6 7, and 17 10 17 10 18 11 18 11 of the rows.
@@ -96,16 +95,12 @@ pub fn expand_join(
     ensures { ExpandJoinCall m1 m2 (signed a.now b.now c.now) curve.now (answered result)
         output.old output.new }
 {
-    match join_calls::moduli(m1, m2) {
-        Err(k) => Err(k),
-        Ok(k) => {
-            tests(m1, m2, a, b, c, curve.len(), output.len())?;
-            let mut x = zeros();
-            let mut y = zeros();
-            expand_channel(m1, a, b, c, curve, &mut x);
-            expand_channel(m2, a, b, c, curve, &mut y);
-            join::join_lists(m1, m2, k, &x, &y, output);
-            Ok(())
-        }
-    }
+    let inverse = join_calls::moduli(m1, m2)?;
+    tests(m1, m2, a, b, c, curve.len(), output.len())?;
+    let mut x = zeros();
+    let mut y = zeros();
+    expand_channel(m1, a, b, c, curve, &mut x);
+    expand_channel(m2, a, b, c, curve, &mut y);
+    join::join_lists(m1, m2, inverse, &x, &y, output);
+    Ok(())
 }

@@ -4,7 +4,7 @@
 use mathlib.Core.List.{[], ◌∷◌}
 use Rattle.std.specs.Prelude.{◌≡◌, ℕ, Ok, Err}
 use Rattle.std.proofs.Common.{◌∙◌, subst, arith}
-use Rattle.definitions.specs.Answers.{Answer, number_of, answered}
+use Rattle.definitions.specs.Answers.{Answer, Valued, number_of, answered}
 use Rattle.definitions.specs.Family.{Modulus}
 use Rattle.definitions.specs.Number.{HasInverse}
 use Rattle.definitions.specs.Refusals.{refused, verdict, modulus_test}
@@ -16,19 +16,18 @@ use Rattle.checks.specs.Settling.{refuses-alone}
 use Rattle.joining.specs.Calls.{shared_factor_test, moduli_tests}
 use Rattle.wholes.specs.Accepting.{Apart, apart-passes, moduli-pass}
 use Rattle.join.specs.Joining.{Paired}
-use Rattle.join_calls.specs.declared.Pairing.{Pairing}
 use Rattle.definitions.specs.declared.Refusal.{Refusal}
 
-abbrev pub PairAnswer : ℕ → ℕ → Pairing → Type 0
+abbrev pub PairAnswer : ℕ → ℕ → Valued → Type 0
 PairAnswer m m' (Ok k) = Paired m m' k
 PairAnswer m m' (Err k) = refused (number_of k) ≡ verdict (moduli_tests m m') []
 
 -- an answer that is matched on
-module _ (m m' : ℕ) {r : Pairing} {k : ℕ} (is : PairAnswer m m' r) where
-  pub answer-pair : r ≡ Ok k → Paired m m' k
+module _ (m m' : ℕ) {r : Valued} (is : PairAnswer m m' r) where
+  pub answer-pair : {k : ℕ} → r ≡ Ok k → Paired m m' k
   answer-pair e = subst (PairAnswer m m') e is
 
-  pub answer-refused : r ≡ Err k → refused (number_of k) ≡ verdict (moduli_tests m m') []
+  pub answer-refused : {k : Refusal} → r ≡ Err k → refused (number_of k) ≡ verdict (moduli_tests m m') []
   answer-refused e = subst (PairAnswer m m') e is
 
 pub pair-apart : {m m' k : ℕ} → Paired m m' k → Apart m m'

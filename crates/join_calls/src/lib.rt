@@ -12,25 +12,13 @@ ghost use Rattle.join_calls.specs.Pairs.{PairAnswer};
 use definitions::Refusal;
 use residue::Inversion;
 
-// What the tests of two moduli answer: the inverse of the first modulo the second, or a refusal.
-#[derive(Drop)]
-pub enum Pairing {
-    Apart(u32),
-    Refused(u32),
-}
-
-// 3, 3 and 19: one inverse tells whether they share a factor, and is what joining needs.
+// 3, 3 and 19: one inverse tells whether they share a factor, and is what joining needs: that of the first modulo the second.
+#[tactic(auto, unfolding(definitions::specs::Refusals::verdict, joining::specs::Calls::moduli_tests))]
 pub fn moduli(m1: u32, m2: u32) -> Result<u32, Refusal>
     ensures { PairAnswer m1 m2 result }
 {
-    let first = checks::modulus(m1);
-    if let Err(k) = first {
-        return Err(k);
-    }
-    let second = checks::modulus(m2);
-    if let Err(k) = second {
-        return Err(k);
-    }
+    checks::modulus(m1)?;
+    checks::modulus(m2)?;
     match residue::invert(m2, m1) {
         Inversion::Found(k) => Ok(k),
         Inversion::Absent(_) => Err(Refusal::ModuliShareFactor),
@@ -38,6 +26,7 @@ pub fn moduli(m1: u32, m2: u32) -> Result<u32, Refusal>
 }
 
 // 20, 7, and 12 of either list.
+#[tactic(auto, unfolding(definitions::specs::Refusals::verdict, joining::specs::Calls::list_tests, joining::specs::Calls::remainders_test, definitions::specs::Refusals::differ))]
 fn remainders(m1: u32, m2: u32, first: &[u32], second: &[u32], output: usize) -> Result<(), Refusal>
     ensures { answered result ≡ verdict (list_tests m1 m2 first.now second.now output) [] }
 {
@@ -56,12 +45,8 @@ fn remainders(m1: u32, m2: u32, first: &[u32], second: &[u32], output: usize) ->
 pub fn join(m1: u32, m2: u32, first: &[u32], second: &[u32], output: &mut [i64]) -> Result<(), Refusal>
     ensures { JoinCall m1 m2 first.now second.now (answered result) output.old output.new }
 {
-    match moduli(m1, m2) {
-        Err(k) => Err(k),
-        Ok(k) => {
-            remainders(m1, m2, first, second, output.len())?;
-            join::join_lists(m1, m2, k, first, second, output);
-            Ok(())
-        }
-    }
+    let inverse = moduli(m1, m2)?;
+    remainders(m1, m2, first, second, output.len())?;
+    join::join_lists(m1, m2, inverse, first, second, output);
+    Ok(())
 }
