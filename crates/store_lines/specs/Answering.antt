@@ -4,15 +4,13 @@
 --                        that the piece leaves open at the front of a list
 --   Printing ..          the state of the loop
 -- Proved: how the loop begins, goes on and ends. An answer has at most eleven times the bytes of its line, so the output has room. Assumes nothing.
-use Rattle.std.specs.Prelude.{Bool, true, false, List, [], ◌∷◌, ◌++◌, map, ◌≡◌, refl, ℕ, ◌+◌, ◌*◌, ◌<◌, ◌≤◌, length, get_or, take, drop}
-use Rattle.std.proofs.Common.{append_assoc, append-nil, ◌∙◌, ap, ap₂, arith, length-append, take_at, length-take-le, get_or-take}
+use Rattle.std.specs.Prelude.{Bool, true, false, List, [], ◌∷◌, ◌++◌, map, ◌≡◌, refl, ℕ, ◌+◌, ◌*◌, ◌<◌, ◌≤◌, length, take, drop}
+use Rattle.std.proofs.Common.{append_assoc, append-nil, ◌∙◌, ap, ap₂, arith, length-append, take_at, length-take-le}
 use Rattle.std.proofs.Math.Path.{sym}
-use Rattle.definitions.specs.Number.{table}
 use Rattle.lines.specs.Lines.{joined}
 use Rattle.lines.specs.Pieces.{ended, unended}
 use Rattle.lines.specs.Taking.{LineTaken}
 use Rattle.lines.specs.Walking.{Open, Walking, walking-starts, walking-past, walking-open, walking_line, walking_on}
-use Rattle.numbers.specs.Lists.{table-length, table-unique, filled, Filling, filling-stop}
 use Rattle.storing.specs.Printing.{printed_line}
 use Rattle.texts.specs.Overwriting.{over}
 use Rattle.writer.specs.Putting.{Put, put-length}
@@ -123,11 +121,6 @@ piece-answered piece before count out from line₁ line' kept' out' n same long 
   few = p.few;
 }
 
--- the copy, when it has come to i = count
-pub copied : (from to to₀ : List ℕ) (i count : ℕ) → Filling (λ j. get_or from j 0) i to₀ to → i ≡ count → count ≤ length from → count ≤ length to₀
-    → take count to ≡ take count from
-unfolding filled
-copied from to to₀ i count now all h k =
-    ap (take count) (filling-stop now count all)
-    ∙ take_at (table count (λ j. get_or from j 0)) (drop count to₀) count (table-length count (λ j. get_or from j 0))
-    ∙ sym (table-unique (take count from) count (λ j. get_or from j 0) (length-take-le count from h) (λ j l. get_or-take count from j 0 l))
+-- the front of `from` in the place of that of `to`
+pub copied : (from to : List ℕ) (count : ℕ) → count ≤ length from → take count (take count from ++ drop count to) ≡ take count from
+copied from to count h = take_at (take count from) (drop count to) count (length-take-le count from h)

@@ -11,48 +11,43 @@ ghost use Rattle.store_lines.specs.Requests.{Counted, Requested};
 ghost use Rattle.store_lines.specs.Printed.{printed_room};
 ghost use Rattle.store_lines.specs.Answering.{PieceAnswered};
 
-use reader::Numbers;
+use lines::Taken;
 use storing::Direction;
 
-// How many numbers a line with a key has, or that it is no such line.
-#[derive(Drop)]
-enum Count {
-    Of(usize),
-    Other,
+// What a line asks for, and how many numbers it has.
+#[derive(Clone, Copy)]
+struct Request {
+    direction: Direction,
+    count: usize,
 }
 
-// What a line asks for, and how many numbers it has, or that it is malformed.
-#[derive(Drop)]
-enum Request {
-    Asked(Direction, usize),
-    Malformed,
-}
-
-// The numbers of a line with a key, put at the front of a lent list as far as it has room. A text that goes on
-// after the line is no such line.
-fn count_numbers(text: &[u8], key: &[u8], list: &mut [u32]) -> Count
+// How many numbers a line with a key has, which are put at the front of a lent list as far as it has room. A text that goes on after the line is
+// no such line.
+fn count_numbers(text: &[u8], key: &[u8], list: &mut [u32]) -> Option<usize>
     ensures { Counted text.now key.now list.new result }
 {
-    let Numbers::Found(count, end) = reader::numbers_line(text, 0, key, list) else {
-        return Count::Other;
-    };
-    if end != text.len() {
-        return Count::Other;
+    let numbers = reader::numbers_line(text, 0, key, list)?;
+    if numbers.next != text.len() {
+        return None;
     }
-    Count::Of(count)
+    Some(numbers.value)
 }
 
-// What a line asks for, its numbers at the front of a lent list as far as it has room.
-fn read_request(text: &[u8], list: &mut [u32]) -> Request
+// What a line asks for, its numbers at the front of a lent list as far as it has room; none, if it is malformed.
+fn read_request(text: &[u8], list: &mut [u32]) -> Option<Request>
     ensures { Requested text.now list.new result }
 {
-    if let Count::Of(count) = count_numbers(text, b"put=", list) {
-        return Request::Asked(Direction::EvenFirst, count);
+    if let Some(count) = count_numbers(text, b"put=", list) {
+        return Some(Request {
+            direction: Direction::EvenFirst,
+            count,
+        });
     }
-    if let Count::Of(count) = count_numbers(text, b"back=", list) {
-        return Request::Asked(Direction::EvenBack, count);
-    }
-    Request::Malformed
+    let count = count_numbers(text, b"back=", list)?;
+    Some(Request {
+        direction: Direction::EvenBack,
+        count,
+    })
 }
 
 // The line of a list in its order, from a place of an output on; `ordered` is lent to hold it. The answer is the place after it.
@@ -86,7 +81,7 @@ pub fn put_printed(text: &[u8], out: &mut [u8], at: usize) -> usize
         return writer::put_number_line(out, at, b"refused=", 1);
     }
     let mut list = lists::zeros();
-    let Request::Asked(direction, count) = read_request(text, &mut list) else {
+    let Some(Request { direction, count }) = read_request(text, &mut list) else {
         return writer::put_number_line(out, at, b"refused=", 2);
     };
     if 128 < count {
@@ -120,12 +115,18 @@ fn answer_lines(
     let mut n = from;
     let mut at: usize = 0;
     while at < piece.len() {
-        let taken = lines::take_line(piece, at, line, kept);
-        at = taken.next;
-        kept = taken.count;
-        if taken.ended {
-            n = put_printed(&line[..kept], out, n);
-            kept = 0;
+        match lines::take_line(piece, at, line, kept) {
+            Taken::Ended { count: taken, next } => {
+                n = put_printed(&line[..taken], out, n);
+                kept = 0;
+                at = next;
+            }
+            Taken::Open { count: left } => {
+                return Progress {
+                    printed: n,
+                    kept: left,
+                };
+            }
         }
     }
     Progress { printed: n, kept }
@@ -136,11 +137,7 @@ pub fn copy_bytes(from: &[u8], count: usize, to: &mut [u8])
     requires { (count ≤ length from.now) × (count ≤ length to.old) }
     ensures { take count to.new ≡ take count from.now }
 {
-    let mut i: usize = 0;
-    while i < count {
-        to[i] = from[i];
-        i += 1;
-    }
+    to[..count].copy_from_slice(&from[..count]);
 }
 
 // As answer_lines, for a piece that goes on with a line of which the first `count` of a list are kept, which stays as it is: what is kept of the

@@ -1,13 +1,12 @@
 -- Bytes put over a part of a list.
 --   Put old at xs most new next   new is old with xs from place at on, at most `most` of them, and next is the place after them
---   Copying old at xs out k       a copy in progress: the first k entries of xs are put
 --   Written text most r old new   r is the length of a text, at most `most`, and new is that text and then what old held
--- Proved: the length stays; one entry; a second part right after the first; what is put at the front is written so; how a copy begins,
--- goes on and ends.
+-- Proved: the length stays; one entry; all of a list at once; a second part right after the first; what is put at the front is written so.
 -- Assumes nothing.
-use Rattle.std.specs.Prelude.{◌≡◌, refl, List, [], ◌∷◌, ◌++◌, ℕ, ◌+◌, ◌<◌, ◌≤◌, length, drop, get_or, set, take}
-use Rattle.std.proofs.Common.{sym, ◌∙◌, ap, add-one, arith, length-append, length-set, length-take-le, take_all, take-suc}
-use Rattle.texts.specs.Overwriting.{over, over-front, over_none, over-one, length_over, over-on}
+use Rattle.std.specs.Prelude.{◌≡◌, refl, List, [], ◌∷◌, ◌++◌, ℕ, ◌+◌, ◌<◌, ◌≤◌, length, drop, set, take}
+use Rattle.std.proofs.Common.{sym, ◌∙◌, ap, arith, length-append, drop-drop}
+use borrow.Rule.Slice.PartMut.{put_mid}
+use Rattle.texts.specs.Overwriting.{over, over-front, over-one, length_over, over-on}
 
 pub record Put (old : List ℕ) (at : ℕ) (xs : List ℕ) (most : ℕ) (new : List ℕ) (next : ℕ) : Type 0 where
   pub place : next ≡ at + length xs
@@ -37,6 +36,16 @@ module _ (old : List ℕ) (at : ℕ) (xs : List ℕ) (most : ℕ) (new : List �
     stored = p.stored ∙ ap (over old at) e;
   }
 
+-- all of xs at once, as a part of the list that is copied over
+pub put_whole : (old : List ℕ) (at n : ℕ) (xs mid : List ℕ) → mid ≡ xs → n ≡ length xs
+    → Put old at xs (length xs) (put_mid at n old mid) (at + length xs)
+unfolding over
+put_whole old at n xs mid same long = record {
+  place = refl;
+  short = omega arith;
+  stored = rw (same, long) (ap (λ rest. take at old ++ (xs ++ rest)) (drop-drop (length xs) at old));
+}
+
 pub record Written (text : List ℕ) (most r : ℕ) (old new : List ℕ) : Type 0 where
   pub answer : r ≡ length text
   pub short : r ≤ most
@@ -51,34 +60,3 @@ put_front old text room new r p most h =
       short = omega (arith, p.short);
       written = p.stored ∙ over-front old text ∙ ap (λ n. text ++ drop n old) (sym place);
     }
-
--- ---- a copy, entry by entry
-pub record Copying (old : List ℕ) (at : ℕ) (xs out : List ℕ) (k : ℕ) : Type 0 where
-  pub within : k ≤ length xs
-  pub size : length out ≡ length old
-  pub stored : out ≡ over old at (take k xs)
-
-module _ (old : List ℕ) (at : ℕ) (xs : List ℕ) where
-  pub copying-starts : Copying old at xs old 0
-  copying-starts = record { within = omega arith; size = refl; stored = sym (over_none old at) }
-
-  module _ (out : List ℕ) (k : ℕ) (c : Copying old at xs out k) where
-    pub copying-ends : length xs ≤ k → Put old at xs (length xs) out (at + k)
-    copying-ends l = record {
-      place = omega (arith, c.within);
-      short = omega arith;
-      stored = c.stored ∙ ap (over old at) (take_all k xs l);
-    }
-
-    pub copying-next : at + length xs ≤ length old → k < length xs → Copying old at xs (set out (at + k) (get_or xs k 0)) (k + 1)
-    copying-next room l =
-        let x = get_or xs k 0 in
-        let taken : length (take k xs) ≡ k = length-take-le k xs (omega arith) in
-        let one = over-one out (at + k) x (omega (arith, c.size)) in
-        record {
-          within = omega arith;
-          size = length-set out (at + k) x ∙ c.size;
-          stored =
-              over-on old at (take k xs) (omega arith) out (set out (at + k) x) (x ∷ []) (at + k) c.stored (omega arith) one
-              ∙ ap (over old at) (sym (ap (λ j. take j xs) (add-one k) ∙ take-suc xs k 0 l));
-        }

@@ -20,12 +20,8 @@ fn put_bytes(out: &mut [u8], at: usize, bytes: &[u8]) -> usize
         bytes.now (length bytes.now)
         out.new result }
 {
-    let mut k: usize = 0;
-    while k < bytes.len() {
-        out[at + k] = bytes[k];
-        k += 1;
-    }
-    at + k
+    out[at..at + bytes.len()].copy_from_slice(bytes);
+    at + bytes.len()
 }
 
 // A number in decimal: its tens, if it has any, and then its last digit.
@@ -64,10 +60,8 @@ fn put_numbers(out: &mut [u8], at: usize, list: &[u32]) -> usize
         out.new result }
 {
     let mut next = at;
-    let mut k: usize = 0;
-    while k < list.len() {
-        next = put_entry(out, next, k, list[k]);
-        k += 1;
+    for (k, x) in list.iter().enumerate() {
+        next = put_entry(out, next, k, *x);
     }
     next
 }

@@ -1,18 +1,14 @@
 -- `count_numbers` reads a line with a key, and then the text is to end. Assumes nothing.
-use mathlib.Core.Path.{subst}
+use Rattle.std.proofs.Math.Path.{subst⁻¹}
+use Rattle.store_lines.specs.Requests.{Counted, not-counted, counted-more, counted-whole}
 use native.Mathlib.Omega.{arith}
-use Rattle.reader.specs.Storing.{Listed}
-use Rattle.store_lines.specs.Requests.{not-counted, counted-more, counted-whole}
 use Rattle.store_lines.proofs.count_numbers.Goals as goal
 
-pub returns-in_default : goal.returns-in_default
-returns-in_default c =
-    not-counted _ _ (subst (Listed _ _ _ _) c.in_default.is c.numbers_line.ensures)
+pub returns-in_err-numbers : goal.returns-in_err-numbers
+returns-in_err-numbers c = subst⁻¹ (Counted _ _ _) c.from_residual.ensures (not-counted _ _ c.in_err-numbers.ensures)
 
-pub returns-then-end-text : goal.returns-then-end-text
-returns-then-end-text c =
-    counted-more _ _ _ _ _ _ (subst (Listed _ _ _ _) c.in-Found.is c.numbers_line.ensures) c.if-end-text.true
+pub returns-then-numbers-text : goal.returns-then-numbers-text
+returns-then-numbers-text c = counted-more _ _ _ _ _ _ c.in_ok-numbers.ensures c.if-numbers-text.true
 
 pub returns : goal.returns
-returns c =
-    counted-whole _ _ _ _ _ _ (subst (Listed _ _ _ _) c.in-Found.is c.numbers_line.ensures) c.if-end-text.false (omega arith)
+returns c = counted-whole _ _ _ _ _ _ c.in_ok-numbers.ensures c.if-numbers-text.false (omega arith)

@@ -17,7 +17,7 @@ returns-in_default c =
 
 pub returns-then-count-gt128 : goal.returns-then-count-gt128
 returns-then-count-gt128 c =
-    let request = subst (Requested _ _) c.in-Asked.is c.read_request.ensures in
+    let request = subst (Requested _ _) c.in-Some.is c.read_request.ensures in
     put-refusal _ _ 5 _ _ _ c.put_number_line-then-count-gt128.ensures
     (printed-5 _ c.if-is_too_long.false _ _ request.read (omega (arith, request.fronted.count, c.if-count-gt128.true)))
 
@@ -29,12 +29,12 @@ slice_bounds-put_arranged-end-2 c = sym (length-take-le _ _ (omega arith))
 
 pub put_arranged-requires : goal.put_arranged-requires
 put_arranged-requires c =
-    let list = length-take-le c.in-Asked.count c.read_request.new.list (omega arith) in
-    let ordered = length-take-le c.in-Asked.count c.zeros-ordered.result (omega arith) in
+    let list = length-take-le c.in-Some.field-0.count c.read_request.new.list (omega arith) in
+    let ordered = length-take-le c.in-Some.field-0.count c.zeros-ordered.result (omega arith) in
     (omega (arith, list, c.if-count-gt128.false), ordered ∙ sym list, omega arith)
 
 pub returns : goal.returns
 returns c =
-    let request = subst (Requested _ _) c.in-Asked.is c.read_request.ensures in
+    let request = subst (Requested _ _) c.in-Some.is c.read_request.ensures in
     put-printed _ _ _ _ _ _ _ _ c.put_arranged.ensures (request.fronted.front (omega arith))
     (printed-list _ c.if-is_too_long.false _ _ request.read (omega (arith, request.fronted.count, c.if-count-gt128.false)))

@@ -10,10 +10,6 @@ pub bounds-out-next : goal.bounds-out-next
 bounds-out-next t c =
     omega (arith, large-inside _ _ _ (omega arith) c.if-x-lt10.false (omega arith) _ _ c.put_number-next.ensures)
 
-pub overflow_add-result-2 : goal.overflow_add-result-2
-overflow_add-result-2 t c =
-    omega (arith, large-inside _ _ _ (omega arith) c.if-x-lt10.false (omega arith) _ _ c.put_number-next.ensures)
-
 pub returns : goal.returns
 returns t c =
     put-large _ _ _ (omega arith) c.if-x-lt10.false (omega arith) _ _ c.put_number-next.ensures

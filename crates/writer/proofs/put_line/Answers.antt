@@ -1,11 +1,6 @@
 -- `put_line` puts a line: its key, its numbers and byte 10, each right after the one before. Assumes nothing.
-use native.Mathlib.Omega.{arith}
-use lib.ListN.{length-set}
 use Rattle.writer.specs.Lines.{put_ended}
 use Rattle.writer.proofs.put_line.Goals as goal
-
-pub shape_of-out : goal.shape_of-out
-shape_of-out c = simp length-set (omega arith)
 
 pub returns : goal.returns
 returns c =
