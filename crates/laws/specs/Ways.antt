@@ -38,7 +38,7 @@ module _ (convert : Family → List ℕ → List ℕ) (f : Family) (u plain plai
       record { answer = e; plain_is = plain-is; tree_is = two.written; wiped = two.wiped; holds = agree r tree' e two.written }
 
   pub plain-refused : (k : Refusal) → s ≡ Err k → Agreed convert f u s plain plain' tree tree work work
-  plain-refused (number_of k) q =
+  plain-refused k q =
       let e = stage-refuses first later all-remain s one.answer k q in
       let stays = sym (ap (λ x. after (answered x) (convert f u) tree) q) in
       record {
