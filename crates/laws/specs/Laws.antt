@@ -12,7 +12,9 @@
 --   ThereAndBack, Agreed   of two conversions, back and forth or by both ways
 --   HandedOut          of Expand for u and for v, Moments and Norms;  Weighed  of these and the two totals
 -- The scope paper, 'The definitions'. Assumes nothing.
-use Rattle.std.specs.Prelude.{◌≡◌, List, [], ◌∷◌, ◌++◌, ℕ, ◌≤◌, length, Err}
+use Rattle.std.specs.Prelude.{◌≡◌, List, [], ◌∷◌, ◌++◌, ℕ, ◌≤◌, length}
+use Rattle.std.specs.Prelude.{Result, Ok, Err}
+use Rattle.definitions.specs.declared.Refusal.{Refusal}
 use Rattle.definitions.specs.Answers.{Answer, number_of, answered, after, cleared}
 use Rattle.definitions.specs.Conversion.{expand}
 use Rattle.definitions.specs.Family.{Family, Accepted, Curve, size}

@@ -1,13 +1,13 @@
 -- `product_law` meets its law: the totals of what the calls handed out, or the refusal of the call that refused. Assumes nothing.
 use native.Mathlib.Omega.{arith}
-use Rattle.std.proofs.lemmas.Result.{err_from_is_err_and}
+use Rattle.laws.specs.Ways.{handed-on}
 use Rattle.laws.proofs.Totalled.{rows_few, refused-weighed, moment-total-input, norm-total-input, totals-weighed}
 use Rattle.laws.proofs.product_law.Goals as goal
 
 pub returns-in_err-hand_out : goal.returns-in_err-hand_out
 returns-in_err-hand_out c =
-    let handed = err_from_is_err_and _ c.from_residual.ensures.1 in
-    rw (handed.1.0, handed.1.1) (refused-weighed _ _ _ _ _ _ _ _ c.hand_out.ensures _ c.in_err-hand_out.was)
+    let handed = handed-on _ _ c.from_residual.ensures.1 in
+    rw handed (refused-weighed _ _ _ _ _ _ _ _ c.hand_out.ensures _ c.in_err-hand_out.was)
 
 pub overflow_add-n : goal.overflow_add-n
 overflow_add-n c = omega (
