@@ -1,0 +1,16 @@
+-- `call` keeps the promise of a conversion on a record: the rows that its core is lent are those of an accepted family. Assumes nothing.
+use native.Mathlib.Omega.{arith}
+use Rattle.lists.specs.Accepting.{accepting}
+use Rattle.prepared_plain.specs.RecordCore.{record-input}
+use Rattle.prepared_plain.proofs.call.Goals as goal
+
+pub invariant_of-lent : goal.invariant_of-lent
+invariant_of-lent g c = accepting (record-input _ _ _ c.plain_verdict.ensures c.in_ok-plain_verdict.was).accepted
+
+pub convert-requires-clause-curve : goal.convert-requires-clause-curve
+convert-requires-clause-curve g c = (record-input _ _ _ c.plain_verdict.ensures c.in_ok-plain_verdict.was).curve
+
+pub convert-requires-clause-room : goal.convert-requires-clause-room
+convert-requires-clause-room g c =
+    let input = record-input _ _ _ c.plain_verdict.ensures c.in_ok-plain_verdict.was in
+    omega (arith, input.output_length, input.curve.long)
