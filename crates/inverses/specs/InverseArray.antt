@@ -64,7 +64,7 @@ module _ {m r : ℕ} {a b c : List ℕ} {close : Row} (long : Long r a b c) (acc
 
 -- ---- over lists that are lent whole, closed by 1 1 1
 module _ {m : ℕ} {a b c : List ℕ} (accepted : Accepted (family m a b c)) where
-  one-closes : 1 * 1 % m ≡ 1
+  pub one-closes : 1 * 1 % m ≡ 1
   one-closes = mod-eq_of_lt (omega (arith, accepted.modulus.least))
 
   pub whole-inverts : {v : List ℕ} → InverseArray m 0 (length a) a v → Inverts m 0 (length a + 1 - 1) a v 1 1

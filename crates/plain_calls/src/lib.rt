@@ -98,9 +98,16 @@ pub fn plain_decompose(
     let Answer::Finished = tested else {
         return tested;
     };
+    let rows = a.len();
     let mut a_inverses = lists::zeros();
-    inverses::of_list(m, a, 0, a.len(), &mut a_inverses);
-    plain::decompose(m, &a_inverses, b, c, coefficients, a.len() + 1, output);
+    inverses::of_list(m, a, 0, rows, &mut a_inverses);
+    let inverted = Family {
+        modulus: m,
+        a: &a_inverses[..rows],
+        b,
+        c,
+    };
+    plain::decompose(&inverted, coefficients, output);
     Answer::Finished
 }
 
@@ -116,6 +123,6 @@ pub fn norms(m: u32, a: &[u32], b: &[u32], c: &[u32], output: &mut [u32]) -> Ans
     };
     let mut a_inverses = lists::zeros();
     inverses::of_list(m, a, 0, a.len(), &mut a_inverses);
-    plain::norms(m, &a_inverses, c, 1, 1, a.len() + 1, output);
+    plain::norms(m, &a_inverses, c, 1, 1, output);
     Answer::Finished
 }

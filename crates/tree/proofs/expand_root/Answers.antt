@@ -8,7 +8,7 @@ pub reciprocal-reciprocal-requires : goal.reciprocal-reciprocal-requires
 reciprocal-reciprocal-requires c = omega (arith, c.requires.modulus.least)
 
 pub loop-k-init : goal.loop-k-init
-loop-k-init c = (omega arith, filling-start)
+loop-k-init c = filling-start
 
 pub root_coefficient-requires : goal.root_coefficient-requires
 root_coefficient-requires c =
@@ -16,10 +16,10 @@ root_coefficient-requires c =
 
 pub loop-k-preserved : goal.loop-k-preserved
 loop-k-preserved c =
-    (omega arith, filling-next c.loop-k.invariant.1 (omega arith) c.root_coefficient.ensures)
+    filling-next c.loop-k.invariant (omega arith) c.root_coefficient.ensures
 
 pub shape_of-output : goal.shape_of-output
-shape_of-output c = c.loop-k.invariant.1.same_length
+shape_of-output c = c.loop-k.invariant.same_length
 
 pub returns : goal.returns
-returns c = root_ends c.requires (omega arith) c.loop-k.invariant.1
+returns c = root_ends c.requires (omega arith) c.loop-k.invariant
