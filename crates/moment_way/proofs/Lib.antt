@@ -2,3 +2,4 @@
 --   DecomposeByMoments   what each step of Decompose is handed, and that the last leaves Decompose
 -- Assumes nothing.
 pub mod DecomposeByMoments
+pub mod Taken
