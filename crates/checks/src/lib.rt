@@ -14,7 +14,7 @@ ghost use Rattle.checks.specs.Passes.{BelowAnswer, FactorAnswer};
 ghost use Rattle.checks.specs.Columns.{column_tests};
 
 use definitions::{Answer, FIRST_C};
-use residue::{Inversion, invert, running_product};
+use residue::{invert, running_product};
 
 // Whether every entry of a list is below the modulus: if not, the place of the first that is not.
 #[derive(Drop)]
@@ -76,18 +76,18 @@ fn invertible(m: u32, list: &[u32]) -> Factors
     ensures { FactorAnswer m list.now result }
 {
     let whole = invert(m, running_product(m, list));
-    let Inversion::Absent(_) = whole else {
+    let Err(_) = whole else {
         return Factors::Invertible;
     };
     let mut i: usize = 0;
     while i < list.len() {
         let x = list[i];
         let inversion = invert(m, x);
-        if let Inversion::Absent(g) = inversion {
+        if let Err(shared) = inversion {
             if x == 0 {
                 return Factors::Without(i, Reason::Zero);
             }
-            return Factors::Without(i, Reason::Shared(g));
+            return Factors::Without(i, Reason::Shared(shared.factor));
         }
         i += 1;
     }
@@ -254,7 +254,7 @@ pub fn column(
     requires { (0 < m) × (r ≤ length list.now) }
     ensures { answered result ≡ verdict (column_tests m first r list.now close zero shared) [] }
 {
-    let start = r - lists::excess(r, first);
+    let start = r - r.saturating_sub(first);
     let factors = invertible(m, &list[start..r]);
     if let Factors::Without(_, reason) = factors {
         let Reason::Shared(_) = reason else {
@@ -265,7 +265,7 @@ pub fn column(
     if r < first {
         return Answer::Finished;
     }
-    let Inversion::Absent(_) = invert(m, close) else {
+    let Err(_) = invert(m, close) else {
         return Answer::Finished;
     };
     if close == 0 {
@@ -289,11 +289,11 @@ fn row_inverses(
     ensures { (b : List ℕ) (close_b : ℕ) → answered result ≡ verdict
         (row_inverses first (lent m r a.now b c.now (row_of close_a close_b close_c))) [] }
 {
-    let start = r - lists::excess(r, first);
+    let start = r - r.saturating_sub(first);
     let closing = if first <= r { close_c } else { 1 };
     let product = inverses::joint_product(m, &a[..r], close_a, &c[start..r], closing);
     let whole = invert(m, product);
-    let Inversion::Absent(_) = whole else {
+    let Err(_) = whole else {
         return Answer::Finished;
     };
     let blamed = column(m, a, 0, r, close_a, 17, 10);
@@ -340,7 +340,7 @@ pub fn new_row(m: u32, place: usize, a: u32, b: u32, c: u32) -> Answer
     if m <= c {
         return Answer::Refused(9);
     }
-    let Inversion::Found(_) = invert(m, a) else {
+    let Ok(_) = invert(m, a) else {
         if a == 0 {
             return Answer::Refused(17);
         }
@@ -349,7 +349,7 @@ pub fn new_row(m: u32, place: usize, a: u32, b: u32, c: u32) -> Answer
     if place < FIRST_C {
         return Answer::Finished;
     }
-    let Inversion::Found(_) = invert(m, c) else {
+    let Ok(_) = invert(m, c) else {
         if c == 0 {
             return Answer::Refused(18);
         }

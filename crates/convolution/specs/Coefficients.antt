@@ -1,6 +1,6 @@
 -- The sum of the coefficient of x^k in start + p q + r s.
 --   ProductsInput   what it is taken of: residues, and lists of equal lengths side by side
---   Multiplying     the sum in progress: of the terms i from first to end - 1, where p_i and q_{k-i} both reach, the first t
+--   Multiplying     the sum in progress: of the terms from first to end - 1, where p_i and q_{k-i} both reach, those before i
 -- Proved: where a product has no term; the entries of two lists settle a coefficient of their product; the product with the polynomial 1;
 -- that two products fit 64 bits. How the sum begins, goes on and ends with the coefficient stands in Coefficients of proofs/.
 -- Assumes nothing.
@@ -12,7 +12,7 @@ use Rattle.std.proofs.Math.ListN.{get_or-eq_default}
 use Rattle.definitions.specs.Number.{sum}
 use Rattle.numbers.specs.Products.{Below, product_at}
 use Rattle.numbers.specs.Sums.{sum-equal, sum-zero}
-use Rattle.reduction.specs.Wrapping.{Reducible}
+use Rattle.definitions.specs.Family.{greatest_modulus}
 use Rattle.convolution.specs.Totals.{Lesser, SmallNumbers, Totalling}
 
 abbrev product_term : List ℕ → List ℕ → ℕ → ℕ → ℕ
@@ -63,8 +63,8 @@ product-one p k =
     last = ap (λ j. slice_index p k * slice_index (1 ∷ 0 ∷ []) j) here ∙ mul-one (slice_index p k)
 
 -- ---- two products
-pub record ProductsInput (m reciprocal start : ℕ) (p q r s : List ℕ) (k : ℕ) : Type 0 where
-  pub reducible : Reducible m reciprocal
+pub record ProductsInput (m start : ℕ) (p q r s : List ℕ) (k : ℕ) : Type 0 where
+  pub most : m ≤ greatest_modulus
   pub start_below : start < m
   pub p_below : Below m p
   pub q_below : Below m q
@@ -77,9 +77,8 @@ pub record ProductsInput (m reciprocal start : ℕ) (p q r s : List ℕ) (k : �
 abbrev products_term : List ℕ → List ℕ → List ℕ → List ℕ → ℕ → ℕ → ℕ
 products_term p q r s k i = product_term p q k i + product_term r s k i
 
--- of the count of terms, from first on, t are in
-pub record Multiplying (start : ℕ) (p q r s : List ℕ) (k first end count t low wraps : ℕ) : Type 0 where
+-- the terms before i are in
+pub record Multiplying (start : ℕ) (p q r s : List ℕ) (k first end i low wraps : ℕ) : Type 0 where
   pub begins : first ≡ k + 1 - length q
   pub ends : Lesser (k + 1) (length p) end
-  pub counted : count ≡ end - first
-  pub total : Totalling 0 start first end (products_term p q r s k) (first + t) low wraps
+  pub total : Totalling 0 start first end (products_term p q r s k) i low wraps

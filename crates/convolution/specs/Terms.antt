@@ -10,23 +10,23 @@ use Rattle.std.proofs.Math.Decide.{dec_lt}
 use Rattle.std.proofs.Math.Nat.{zero-add}
 use native.Mathlib.Omega.{arith}
 use Rattle.std.proofs.Math.ListN.{get_or-eq_default}
+use Rattle.definitions.specs.Family.{greatest_modulus}
 use Rattle.definitions.specs.Number.{sum}
 use Rattle.numbers.specs.Products.{Below, transposed_at}
 use Rattle.numbers.specs.Sums.{sum-equal, sum-split, sum-cut, sum_both}
 use Rattle.reduction.specs.Reciprocal.{word}
-use Rattle.reduction.specs.Wrapping.{Reducible}
 use Rattle.convolution.specs.Coefficients.{past_first, past-second}
 use Rattle.convolution.specs.Totals.{Lesser, Added, amount, amount-number}
 use Rattle.convolution.specs.Steps.{transposed_term, Small, SinglesInput, PairsInput}
 
-pub record SumInput (m reciprocal : ℕ) (p v : List ℕ) (i : ℕ) : Type 0 where
-  pub reducible : Reducible m reciprocal
+pub record SumInput (m : ℕ) (p v : List ℕ) (i : ℕ) : Type 0 where
+  pub most : m ≤ greatest_modulus
   pub p_below : Below m p
   pub v_below : Below m v
   pub reached : i + length p ≤ length v
 
-pub record TransposedInput (m reciprocal : ℕ) (p v q u : List ℕ) : Type 0 where
-  pub reducible : Reducible m reciprocal
+pub record TransposedInput (m : ℕ) (p v q u : List ℕ) : Type 0 where
+  pub most : m ≤ greatest_modulus
   pub p_below : Below m p
   pub v_below : Below m v
   pub q_below : Below m q
@@ -35,8 +35,8 @@ pub record TransposedInput (m reciprocal : ℕ) (p v q u : List ℕ) : Type 0 wh
   pub u_long : length u ≡ length v
 
 -- residues are small
-small : {m reciprocal : ℕ} → Reducible m reciprocal → (xs : List ℕ) → Below m xs → Small xs
-small h xs below j = omega (arith, below j, h.most)
+small : {m : ℕ} → m ≤ greatest_modulus → (xs : List ℕ) → Below m xs → Small xs
+small h xs below j = omega (arith, below j)
 
 -- ---- one product by halves
 -- what a slice lends that begins h places on
@@ -55,7 +55,7 @@ module _ (xs : List ℕ) (h : ℕ) (within : h ≤ length xs) where
       by (no l) = get_or-eq_default (onward xs h) 0 {n = j} (omega (arith, onward-length))
           ∙ sym (get_or-eq_default xs 0 {n = h + j} (omega arith))
 
-module _ (m reciprocal : ℕ) (p v : List ℕ) (i : ℕ) (input : SumInput m reciprocal p v i) (half : ℕ) (twice : half + half ≤ length p) where
+module _ (m : ℕ) (p v : List ℕ) (i : ℕ) (input : SumInput m p v i) (half : ℕ) (twice : half + half ≤ length p) where
   abbrev each : ℕ → ℕ
   each = transposed_term p v i
 
@@ -67,8 +67,8 @@ module _ (m reciprocal : ℕ) (p v : List ℕ) (i : ℕ) (input : SumInput m rec
     reach = record {
       multiplier = omega arith;
       list = omega (arith, input.reached);
-      p_small = small input.reducible p input.p_below;
-      v_small = small input.reducible v input.v_below;
+      p_small = small input.most p input.p_below;
+      v_small = small input.most v input.v_below;
     };
   }
 
@@ -87,14 +87,14 @@ module _ (m reciprocal : ℕ) (p v : List ℕ) (i : ℕ) (input : SumInput m rec
       first = record {
         multiplier = omega arith;
         list = omega (arith, input.reached);
-        p_small = small input.reducible p input.p_below;
-        v_small = small input.reducible v input.v_below;
+        p_small = small input.most p input.p_below;
+        v_small = small input.most v input.v_below;
       };
       second = record {
         multiplier = omega (arith, onward-length p half halves-within.0);
         list = omega (arith, onward-length v half halves-within.1, input.reached);
-        p_small = λ j. rw (onward-entry p half halves-within.0 j) (small input.reducible p input.p_below (half + j));
-        v_small = λ j. rw (onward-entry v half halves-within.1 j) (small input.reducible v input.v_below (half + j));
+        p_small = λ j. rw (onward-entry p half halves-within.0 j) (small input.most p input.p_below (half + j));
+        v_small = λ j. rw (onward-entry v half halves-within.1 j) (small input.most v input.v_below (half + j));
       };
     }
 
@@ -136,7 +136,7 @@ term-reach p v i end h = sum-cut end (length p) (transposed_term p v i) h.second
     past j a b (yes g) = let all : end ≡ length p = h.one g in omega arith
     past j a b (no g) = omega arith
 
-module _ (m reciprocal : ℕ) (p v q u : List ℕ) (input : TransposedInput m reciprocal p v q u) (i end : ℕ)
+module _ (m : ℕ) (p v q u : List ℕ) (input : TransposedInput m p v q u) (i end : ℕ)
     (ends : Lesser (length v - i) (length p) end) where
   ends-too : Lesser (length u - i) (length q) end
   ends-too = rw (input.q_long, input.u_long) ends
@@ -148,14 +148,14 @@ module _ (m reciprocal : ℕ) (p v q u : List ℕ) (input : TransposedInput m re
     first = record {
       multiplier = ends.second;
       list = ends.first;
-      p_small = small input.reducible p input.p_below;
-      v_small = small input.reducible v input.v_below;
+      p_small = small input.most p input.p_below;
+      v_small = small input.most v input.v_below;
     };
     second = record {
       multiplier = ends-too.second;
       list = ends-too.first;
-      p_small = small input.reducible q input.q_below;
-      v_small = small input.reducible u input.u_below;
+      p_small = small input.most q input.q_below;
+      v_small = small input.most u input.u_below;
     };
   }
 

@@ -5,19 +5,12 @@
 ghost use Rattle.std.specs.Prelude.{◌≡◌, ◌+◌, ◌-◌, ◌*◌, ◌%◌, ◌≤◌};
 ghost use Rattle.definitions.specs.Number.{sum};
 ghost use Rattle.numbers.specs.Products.{product_at, transposed_at};
-ghost use Rattle.convolution.specs.Totals.{Lesser, SmallNumbers, PlusInput, Added};
+ghost use Rattle.convolution.specs.Totals.{SmallNumbers, PlusInput, Added};
 ghost use Rattle.convolution.specs.Coefficients.{ProductsInput};
 ghost use Rattle.convolution.specs.Steps.{transposed_term, pair_term, Reach, SinglesInput, PairsInput, TwoPairs};
 ghost use Rattle.convolution.specs.Terms.{SumInput, TransposedInput};
 
-use lists::excess;
-use reduction::{remainder_of_sum, wraps_after};
-
-fn lesser(x: usize, y: usize) -> usize
-    ensures { Lesser x y result }
-{
-    if x < y { x } else { y }
-}
+use reduction::{Modulus, wraps_after};
 
 // x y + u v.
 fn pair(x: u32, y: u32, u: u32, v: u32) -> u64
@@ -46,8 +39,7 @@ fn plus(total: Total, x: u64) -> Total
 
 // The coefficient of x^k in start + p q + r s.
 pub fn products_at(
-    m: u32,
-    reciprocal: u64,
+    m: Modulus,
     start: u32,
     p: &[u32],
     q: &[u32],
@@ -55,27 +47,23 @@ pub fn products_at(
     s: &[u32],
     k: usize,
 ) -> u32
-    requires { ProductsInput m reciprocal start p.now q.now r.now s.now k }
+    requires { ProductsInput m.value start p.now q.now r.now s.now k }
     ensures { result ≡ (start + product_at p.now q.now k
-        + product_at r.now s.now k) % m }
+        + product_at r.now s.now k) % m.value }
 {
     let next = k + 1;
-    let first = excess(next, q.len());
-    let end = lesser(next, p.len());
-    let count = excess(end, first);
+    let first = next.saturating_sub(q.len());
+    let end = next.min(p.len());
     let mut total = Total {
         low: start as u64,
         wraps: 0,
     };
-    let mut t: usize = 0;
-    while t < count {
-        let i = first + t;
+    for i in first..end {
         let j = k - i;
         let x = pair(p[i], q[j], r[i], s[j]);
         total = plus(total, x);
-        t += 1;
     }
-    remainder_of_sum(m, reciprocal, total.low, total.wraps)
+    m.remainder_of_sum(total.low, total.wraps)
 }
 
 // The sum, and p_j v_{i+j} for j from first to end - 1 besides.
@@ -85,12 +73,10 @@ fn with_singles(total: Total, p: &[u32], v: &[u32], i: usize, first: usize, end:
         (sum (end - first) (λ t. transposed_term p.now v.now i (first + t))) result.low result.wraps }
 {
     let mut sum = total;
-    let mut j = first;
-    while j < end {
+    for j in first..end {
         let k = i + j;
         let x = pair(p[j], v[k], 0, 0);
         sum = plus(sum, x);
-        j += 1;
     }
     sum
 }
@@ -145,44 +131,35 @@ fn with_pairs(
 {
     let odd = end % 2;
     let mut sum = with_first(total, p, v, q, u, i, odd);
-    let mut j = odd;
-    while j < end {
+    for t in 0..end / 2 {
+        let j = odd + 2 * t;
         let x = two_pairs(p, v, q, u, i, j);
         sum = plus(sum, x);
-        j += 2;
     }
     sum
 }
 
 // The sum over j of p_j v_{i+j}, where v reaches as far as p asks: by halves of p, so that two products make a step.
-pub fn sum_at(m: u32, reciprocal: u64, p: &[u32], v: &[u32], i: usize) -> u32
-    requires { SumInput m reciprocal p.now v.now i }
-    ensures { result ≡ transposed_at p.now v.now i % m }
+pub fn sum_at(m: Modulus, p: &[u32], v: &[u32], i: usize) -> u32
+    requires { SumInput m.value p.now v.now i }
+    ensures { result ≡ transposed_at p.now v.now i % m.value }
 {
     let half = p.len() / 2;
     let none = Total { low: 0, wraps: 0 };
     let odd = with_singles(none, p, v, i, half + half, p.len());
     let total = with_pairs(odd, p, v, &p[half..], &v[half..], i, half);
-    remainder_of_sum(m, reciprocal, total.low, total.wraps)
+    m.remainder_of_sum(total.low, total.wraps)
 }
 
 // Term i of the transposed products of v with p and of u with q, added up: the sum over j of p_j v_{i+j} and q_j u_{i+j}, zero past the
 // end of the lists.
-pub fn transposed_at(
-    m: u32,
-    reciprocal: u64,
-    p: &[u32],
-    v: &[u32],
-    q: &[u32],
-    u: &[u32],
-    i: usize,
-) -> u32
-    requires { TransposedInput m reciprocal p.now v.now q.now u.now }
+pub fn transposed_at(m: Modulus, p: &[u32], v: &[u32], q: &[u32], u: &[u32], i: usize) -> u32
+    requires { TransposedInput m.value p.now v.now q.now u.now }
     ensures { result ≡ (transposed_at p.now v.now i
-        + transposed_at q.now u.now i) % m }
+        + transposed_at q.now u.now i) % m.value }
 {
-    let end = lesser(excess(v.len(), i), p.len());
+    let end = v.len().saturating_sub(i).min(p.len());
     let none = Total { low: 0, wraps: 0 };
     let total = with_pairs(none, p, v, q, u, i, end);
-    remainder_of_sum(m, reciprocal, total.low, total.wraps)
+    m.remainder_of_sum(total.low, total.wraps)
 }

@@ -10,20 +10,17 @@ ghost use Rattle.inverses.specs.Joint.{Joint};
 ghost use Rattle.inverses.specs.Range.{inverse_from};
 ghost use Rattle.inverses.specs.Sharing.{Sharable};
 
-use residue::{Inversion, invert, product_by, running_product};
+use reduction::Modulus;
+use residue::{invert, running_product};
 
 // The inverse of x modulo m, and 0 where there is none.
 fn inverse_or_zero(m: u32, x: u32) -> u32
     ensures { result ≡ Number.inverse m x }
 {
-    let answer = invert(m, x);
-    match answer {
-        Inversion::Found(y) => y,
-        Inversion::Absent(_) => 0,
-    }
+    invert(m, x).unwrap_or(0)
 }
 
-#[tactic(auto, using(lists::proofs::Fills::fillings, crate::proofs::Fills::running))]
+#[tactic(auto, using(lists::proofs::Fills::fillings, residue::proofs::Running::running))]
 fn one_by_one(m: u32, list: &[u32], n: usize, output: &mut [u32])
     requires { (n ≤ length list.now) × (n ≤ length output.old) }
     ensures { output.new ≡ filled (λ i. Number.inverse m (get_or list.now i 0)) n output.old }
@@ -34,17 +31,17 @@ fn one_by_one(m: u32, list: &[u32], n: usize, output: &mut [u32])
 }
 
 // Leaves the product of the entries before i at place i, for the first n places, and answers the product of all n.
-#[tactic(auto, using(lists::proofs::Fills::fillings, crate::proofs::Fills::running))]
+#[tactic(auto, using(lists::proofs::Fills::fillings, residue::proofs::Running::running))]
 fn running_products(m: u32, list: &[u32], n: usize, output: &mut [u32]) -> u32
     requires { (0 < m) × (n ≤ length list.now) × (n ≤ length output.old) }
     ensures { (result ≡ running_product m (λ i. get_or list.now i 0) n)
         × (output.new ≡ filled (running_product m (λ i. get_or list.now i 0)) n output.old) }
 {
-    let reciprocal = reduction::reciprocal(m);
+    let modulus = Modulus::new(m);
     let mut whole: u32 = 1;
     for i in 0..n {
         output[i] = whole;
-        whole = product_by(m, reciprocal, whole, list[i]);
+        whole = modulus.product(whole, list[i]);
     }
     whole
 }
@@ -54,11 +51,11 @@ fn share_inverse(m: u32, list: &[u32], n: usize, inverse: u32, output: &mut [u32
     requires { Sharable m list.now n inverse output.old }
     ensures { output.new ≡ filled (λ i. Number.inverse m (get_or list.now i 0)) n output.old }
 {
-    let reciprocal = reduction::reciprocal(m);
+    let modulus = Modulus::new(m);
     let mut shared = inverse;
     for i in (0..n).rev() {
-        output[i] = product_by(m, reciprocal, shared, output[i]);
-        shared = product_by(m, reciprocal, shared, list[i]);
+        output[i] = modulus.product(shared, output[i]);
+        shared = modulus.product(shared, list[i]);
     }
 }
 
@@ -72,7 +69,7 @@ fn all_inverses(m: u32, list: &[u32], n: usize, output: &mut [u32])
         return;
     }
     let whole = invert(m, running_products(m, list, n, output));
-    let Inversion::Found(inverse) = whole else {
+    let Ok(inverse) = whole else {
         one_by_one(m, list, n, output);
         return;
     };
@@ -80,24 +77,17 @@ fn all_inverses(m: u32, list: &[u32], n: usize, output: &mut [u32])
 }
 
 // The inverses of the entries from place first to n - 1, each 0 where there is none, and 0 at the places below first.
-#[tactic(auto, using(lists::proofs::Fills::fillings, crate::proofs::Fills::running))]
+#[tactic(auto, using(lists::proofs::Fills::fillings, residue::proofs::Running::running))]
 pub fn of_list(m: u32, list: &[u32], first: usize, n: usize, output: &mut [u32])
     requires { (n ≤ length list.now) × (n ≤ length output.old) }
     ensures { output.new ≡ filled (inverse_from m first list.now) n output.old }
 {
-    let count = lists::excess(n, first);
+    let count = n.saturating_sub(first);
     let start = n - count;
     for i in 0..start {
         output[i] = 0;
     }
     all_inverses(m, &list[start..], count, &mut output[start..]);
-}
-
-// How many pairs of entries both of two lists have.
-fn pair_count(a: usize, c: usize) -> usize
-    ensures { (result + result ≤ a) × (result + result ≤ c) }
-{
-    if a < c { a / 2 } else { c / 2 }
 }
 
 // A product of x and all entries of a, and of y and all entries of c, modulo m. Four products run side by side, each of every second
@@ -106,34 +96,22 @@ pub fn joint_product(m: u32, a: &[u32], x: u32, c: &[u32], y: u32) -> u32
     requires { 0 < m }
     ensures { Joint m a.now x c.now y result }
 {
-    let reciprocal = reduction::reciprocal(m);
-    let pairs = pair_count(a.len(), c.len());
+    let modulus = Modulus::new(m);
+    let pairs = a.len().min(c.len()) / 2;
     let mut p = x;
     let mut q: u32 = 1;
     let mut s = y;
     let mut t: u32 = 1;
-    let mut k: usize = 0;
-    while k < pairs {
+    for k in 0..pairs {
         let i = 2 * k;
         let j = 2 * k + 1;
-        p = product_by(m, reciprocal, p, a[i]);
-        q = product_by(m, reciprocal, q, a[j]);
-        s = product_by(m, reciprocal, s, c[i]);
-        t = product_by(m, reciprocal, t, c[j]);
-        k += 1;
+        p = modulus.product(p, a[i]);
+        q = modulus.product(q, a[j]);
+        s = modulus.product(s, c[i]);
+        t = modulus.product(t, c[j]);
     }
     let rest = 2 * pairs;
-    let first = product_by(
-        m,
-        reciprocal,
-        product_by(m, reciprocal, p, q),
-        running_product(m, &a[rest..]),
-    );
-    let second = product_by(
-        m,
-        reciprocal,
-        product_by(m, reciprocal, s, t),
-        running_product(m, &c[rest..]),
-    );
-    product_by(m, reciprocal, first, second)
+    let first = modulus.product(modulus.product(p, q), running_product(m, &a[rest..]));
+    let second = modulus.product(modulus.product(s, t), running_product(m, &c[rest..]));
+    modulus.product(first, second)
 }

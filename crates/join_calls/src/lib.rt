@@ -10,7 +10,6 @@ ghost use Rattle.joining.specs.Calls.{list_tests, JoinCall};
 ghost use Rattle.join_calls.specs.Pairs.{PairAnswer};
 
 use definitions::Answer;
-use residue::Inversion;
 
 // What the tests of two moduli answer: the inverse of the first modulo the second, or a refusal.
 #[derive(Drop)]
@@ -32,8 +31,8 @@ pub fn moduli(m1: u32, m2: u32) -> Pairing
         return Pairing::Refused(k);
     }
     match residue::invert(m2, m1) {
-        Inversion::Found(k) => Pairing::Apart(k),
-        Inversion::Absent(_) => Pairing::Refused(19),
+        Ok(k) => Pairing::Apart(k),
+        Err(_) => Pairing::Refused(19),
     }
 }
 

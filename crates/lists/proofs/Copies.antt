@@ -1,5 +1,5 @@
 -- What `copy` leaves: the front of the one list before the rest of the other.
-use Rattle.std.proofs.Common.{◌≡◌, refl, ap, ◌∙◌, List, [], ◌∷◌, ◌++◌, ℕ, zero, suc, ◌≤◌, length, take, drop, get_or, arith, le_of_suc-le-suc}
+use Rattle.std.proofs.Common.{◌≡◌, refl, ap, List, [], ◌∷◌, ◌++◌, ℕ, zero, suc, ◌≤◌, length, take, drop, get_or, arith, le_of_suc-le-suc}
 use Rattle.definitions.specs.Number.{table}
 use Rattle.numbers.specs.Lists.{filled}
 

@@ -1,5 +1,5 @@
 -- A loop that fills a list, for the check to apply: its invariant is one equation, `out ≡ filled f k old`.
-use Rattle.std.proofs.Common.{◌≡◌, ap, ◌∙◌, arith, List, ℕ, ◌+◌, ◌*◌, ◌%◌, ◌<◌, ◌≤◌, length, get_or}
+use Rattle.std.proofs.Common.{◌≡◌, ap, ◌∙◌, arith, List, ℕ, ◌+◌, ◌<◌, ◌≤◌, length}
 use Rattle.std.proofs.Math.ListN.{set}
 use Rattle.numbers.specs.Lists.{filled, filled_none, filled_more}
 

@@ -2,9 +2,10 @@
 // part; the entries past the count stay.
 #![tactic(auto)]
 
-ghost use Rattle.std.specs.Prelude.{◌≡◌, ◌-◌, ◌≤◌, length, get_or, take, replicate};
+ghost use Rattle.std.specs.Prelude.{◌≡◌, ◌+◌, ◌≤◌, length, get_or, take, replicate};
 ghost use Rattle.definitions.specs.Answers.{cleared};
 ghost use Rattle.numbers.specs.Lists.{filled};
+ghost use Rattle.numbers.specs.Regions.{written};
 
 use std::marker::Model;
 
@@ -29,17 +30,10 @@ impl<'a> Model for Family<'a> {
 }
 
 // A local list, all zeros.
-pub fn zeros() -> [u32; 128]
-    ensures { result ≡ replicate 128 0 }
+pub fn zeros<const N: usize>() -> [u32; N]
+    ensures { result ≡ replicate N 0 }
 {
-    [0u32; 128]
-}
-
-// x - y, and 0 if y is greater.
-pub fn excess(x: usize, y: usize) -> usize
-    ensures { result ≡ x - y }
-{
-    x.saturating_sub(y)
+    [0u32; N]
 }
 
 // The entry at i, and zero past the end.
@@ -64,6 +58,15 @@ pub fn copy(from: &[u32], count: usize, to: &mut [u32])
     ensures { to.new ≡ filled (λ i. get_or from.now i 0) count to.old }
 {
     to[..count].copy_from_slice(&from[..count]);
+}
+
+// The values take the place of the numbers from place at on.
+#[tactic(auto, unfolding(numbers::specs::Regions::written))]
+pub fn store<const N: usize>(w: &mut [u32], at: usize, values: [u32; N])
+    requires { at + N ≤ length w.old }
+    ensures { w.new ≡ written w.old at values.entry }
+{
+    w[at..at + N].copy_from_slice(&values);
 }
 
 // Leaves zeros in the first 16,384 numbers.

@@ -20,8 +20,6 @@ use Rattle.definitions.specs.Family.{greatest_modulus}
 use Rattle.numbers.specs.Regions.{part, written, Apart, ResiduesIn, KeptOutside, part_length, part-entry, part-past, part_slice}
 use Rattle.numbers.specs.Regions.{part-below, kept-part, kept-residues, Writing, writing-kept, writing-next, writing-ends}
 use Rattle.numbers.specs.Products.{Below, product_at, plus_products, transposed_at, transposed_sum}
-use Rattle.reduction.specs.Reciprocal.{Reciprocal}
-use Rattle.reduction.specs.Wrapping.{Reducible}
 use Rattle.convolution.specs.Coefficients.{ProductsInput, product-past, product-entries}
 use Rattle.convolution.specs.Terms.{TransposedInput, transposed-entries}
 
@@ -33,16 +31,16 @@ pub record Aside (m : ℕ) (w : List ℕ) (lo hi at n : ℕ) : Type 0 where
   pub source : Source m w at n
   pub apart : Apart lo hi at n
 
-pub record SourceInput (m reciprocal : ℕ) (w : List ℕ) (start p r pn q s qn : ℕ) : Type 0 where
-  pub reducible : Reducible m reciprocal
+pub record SourceInput (m : ℕ) (w : List ℕ) (start p r pn q s qn : ℕ) : Type 0 where
+  pub most : m ≤ greatest_modulus
   pub start_below : start < m
   pub p_source : Source m w p pn
   pub r_source : Source m w r pn
   pub q_source : Source m w q qn
   pub s_source : Source m w s qn
 
-pub record CoefficientInput (m reciprocal : ℕ) (w : List ℕ) (start p r pn q s qn k : ℕ) : Type 0 where
-  pub sources : SourceInput m reciprocal w start p r pn q s qn
+pub record CoefficientInput (m : ℕ) (w : List ℕ) (start p r pn q s qn k : ℕ) : Type 0 where
+  pub sources : SourceInput m w start p r pn q s qn
   pub reached : k < pn + qn
 
 -- the first n of the pn numbers from p on, and from r on, have the entries of all
@@ -70,8 +68,9 @@ unfoldable pub product_entry : ℕ → List ℕ → ℕ → ℕ → ℕ → ℕ 
 product_entry m w t tn p r pn q s qn k =
     (get_or (part w t tn) k 0 + product_at (part w p pn) (part w q qn) k + product_at (part w r pn) (part w s qn) k) % m
 
-pub record TermInput (m reciprocal : ℕ) (w : List ℕ) (p q pn v u vn : ℕ) : Type 0 where
-  pub reducible : Reducible m reciprocal
+pub record TermInput (m : ℕ) (w : List ℕ) (p q pn v u vn : ℕ) : Type 0 where
+  pub least : 0 < m
+  pub most : m ≤ greatest_modulus
   pub p_source : Source m w p pn
   pub q_source : Source m w q pn
   pub v_source : Source m w v vn
@@ -127,13 +126,13 @@ module _ (m : ℕ) (w : List ℕ) (at n : ℕ) (h : Source m w at n) where
   pub slice-length : length (slice w at n) ≡ n
   slice-length = ap length slice-part ∙ part_length w at n
 
-module _ (m reciprocal : ℕ) (w : List ℕ) (start p r pn q s qn k : ℕ)
-    (input : CoefficientInput m reciprocal w start p r pn q s qn k) where
-  open input.sources use {reducible, start_below, p_source, q_source, r_source, s_source}
+module _ (m : ℕ) (w : List ℕ) (start p r pn q s qn k : ℕ)
+    (input : CoefficientInput m w start p r pn q s qn k) where
+  open input.sources use {most, start_below, p_source, q_source, r_source, s_source}
 
-  pub coefficient-input : ProductsInput m reciprocal start (slice w p pn) (slice w q qn) (slice w r pn) (slice w s qn) k
+  pub coefficient-input : ProductsInput m start (slice w p pn) (slice w q qn) (slice w r pn) (slice w s qn) k
   coefficient-input = record {
-    reducible = reducible;
+    most = most;
     start_below = start_below;
     p_below = slice-below m w p pn p_source pos;
     q_below = slice-below m w q qn q_source pos;
@@ -145,7 +144,7 @@ module _ (m reciprocal : ℕ) (w : List ℕ) (start p r pn q s qn k : ℕ)
   }
     where
       pos : 0 < m
-      pos = reducible.reciprocal.positive
+      pos = omega (arith, start_below)
 
   pub coefficient-is : (v : ℕ) → v ≡ (start + product_at (slice w p pn) (slice w q qn) k + product_at (slice w r pn) (slice w s qn) k) % m
       → v ≡ (start + product_at (part w p pn) (part w q qn) k + product_at (part w r pn) (part w s qn) k) % m
@@ -155,8 +154,8 @@ module _ (m reciprocal : ℕ) (w : List ℕ) (start p r pn q s qn k : ℕ)
       (ap₂ (λ x y. product_at x y k) (slice-part m w r pn r_source) (slice-part m w s qn s_source))
 
 -- ---- past the end of both products
-module _ (m reciprocal : ℕ) (w : List ℕ) (start p r pn q s qn k : ℕ) (input : SourceInput m reciprocal w start p r pn q s qn) where
-  pub coefficient-there : k < pn + qn → CoefficientInput m reciprocal w start p r pn q s qn k
+module _ (m : ℕ) (w : List ℕ) (start p r pn q s qn k : ℕ) (input : SourceInput m w start p r pn q s qn) where
+  pub coefficient-there : k < pn + qn → CoefficientInput m w start p r pn q s qn k
   coefficient-there l = record { sources = input; reached = l }
 
   pub coefficient-past : pn + qn ≤ k
@@ -198,10 +197,10 @@ used-less w p r pn n pos u zp zr =
     }
 
 -- ---- one term of a sum of two transposed products
-module _ (m reciprocal : ℕ) (w : List ℕ) (p q pn v u vn i : ℕ) (input : TermInput m reciprocal w p q pn v u vn) where
-  pub term-input : TransposedInput m reciprocal (slice w p pn) (slice w v vn) (slice w q pn) (slice w u vn)
+module _ (m : ℕ) (w : List ℕ) (p q pn v u vn i : ℕ) (input : TermInput m w p q pn v u vn) where
+  pub term-input : TransposedInput m (slice w p pn) (slice w v vn) (slice w q pn) (slice w u vn)
   term-input = record {
-    reducible = input.reducible;
+    most = input.most;
     p_below = slice-below m w p pn input.p_source pos;
     v_below = slice-below m w v vn input.v_source pos;
     q_below = slice-below m w q pn input.q_source pos;
@@ -211,7 +210,7 @@ module _ (m reciprocal : ℕ) (w : List ℕ) (p q pn v u vn i : ℕ) (input : Te
   }
     where
       pos : 0 < m
-      pos = input.reducible.reciprocal.positive
+      pos = input.least
 
   pub term_is : (y : ℕ) → y ≡ (transposed_at (slice w p pn) (slice w v vn) i + transposed_at (slice w q pn) (slice w u vn) i) % m
       → y ≡ transposed_entry m w p q pn v u vn i
@@ -252,10 +251,10 @@ module _ (m : ℕ) (w₀ : List ℕ) (target n t tn p r pn q s qn : ℕ) (places
   abbrev coefficients : ℕ → ℕ
   coefficients = product_entry m w₀ t tn p r pn q s qn
 
-  pub product-sources : {reciprocal : ℕ} → Reciprocal m reciprocal → (start : ℕ) → start ≡ get_or (part w t tn) k 0
-      → SourceInput m reciprocal w start p r used q s held
-  product-sources reciprocal start e = record {
-    reducible = record { most = places.most; reciprocal = reciprocal };
+  pub product-sources : (start : ℕ) → start ≡ get_or (part w t tn) k 0
+      → SourceInput m w start p r used q s held
+  product-sources start e = record {
+    most = places.most;
     start_below = rw e (part-below m w t tn places.least (aside-source m w₀ target n coefficients w k h t tn places.t_aside).below k);
     p_source = front-source m w₀ target n coefficients w k h p pn used places.p_aside first.within;
     r_source = front-source m w₀ target n coefficients w k h r pn used places.r_aside first.within;
@@ -289,9 +288,10 @@ module _ (m : ℕ) (w₀ : List ℕ) (target n p q pn v u vn : ℕ) (places : Tr
 
   module _ (w : List ℕ) (i : ℕ) (l : i < n) (h : Writing w₀ target n wanted w i)
       {used held : ℕ} (multipliers : Used w₀ p q pn used) (lists : Used w₀ v u vn held) where
-    pub transposed-term : {reciprocal : ℕ} → Reciprocal m reciprocal → TermInput m reciprocal w p q used v u held
-    transposed-term reciprocal = record {
-      reducible = record { most = places.most; reciprocal = reciprocal };
+    pub transposed-term : TermInput m w p q used v u held
+    transposed-term = record {
+      least = places.least;
+      most = places.most;
       p_source = front-source m w₀ target n wanted w i h p pn used places.p_aside multipliers.within;
       q_source = front-source m w₀ target n wanted w i h q pn used places.q_aside multipliers.within;
       v_source = front-source m w₀ target n wanted w i h v vn held places.v_aside lists.within;

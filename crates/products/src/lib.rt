@@ -8,6 +8,7 @@ ghost use Rattle.products.specs.Places.{CoefficientInput, SourceInput, UsedLengt
 ghost use Rattle.products.specs.Places.{TermInput, TransposedPlaces, transposed_entry};
 
 use convolution::{products_at, transposed_at};
+use reduction::Modulus;
 
 // Entry i of the n numbers of w from place at on, and 0 past them.
 fn entry(w: &[u32], at: usize, n: usize, i: usize) -> u32
@@ -24,8 +25,7 @@ fn entry(w: &[u32], at: usize, n: usize, i: usize) -> u32
 
 // The coefficient of x^k in start + p q + r s, where p and r are parts of pn numbers, q and s of qn.
 fn coefficient(
-    m: u32,
-    reciprocal: u64,
+    m: Modulus,
     w: &[u32],
     start: u32,
     p: usize,
@@ -36,13 +36,12 @@ fn coefficient(
     qn: usize,
     k: usize,
 ) -> u32
-    requires { CoefficientInput m reciprocal w.now start p r pn q s qn k }
+    requires { CoefficientInput m.value w.now start p r pn q s qn k }
     ensures { result ≡ (start + product_at (part w.now p pn) (part w.now q qn) k
-        + product_at (part w.now r pn) (part w.now s qn) k) % m }
+        + product_at (part w.now r pn) (part w.now s qn) k) % m.value }
 {
     products_at(
         m,
-        reciprocal,
         start,
         &w[p..p + pn],
         &w[q..q + qn],
@@ -54,8 +53,7 @@ fn coefficient(
 
 // The same, where k may lie past the end of both products.
 fn coefficient_or_start(
-    m: u32,
-    reciprocal: u64,
+    m: Modulus,
     w: &[u32],
     start: u32,
     p: usize,
@@ -66,12 +64,12 @@ fn coefficient_or_start(
     qn: usize,
     k: usize,
 ) -> u32
-    requires { SourceInput m reciprocal w.now start p r pn q s qn }
+    requires { SourceInput m.value w.now start p r pn q s qn }
     ensures { result ≡ (start + product_at (part w.now p pn) (part w.now q qn) k
-        + product_at (part w.now r pn) (part w.now s qn) k) % m }
+        + product_at (part w.now r pn) (part w.now s qn) k) % m.value }
 {
     if k < pn + qn {
-        return coefficient(m, reciprocal, w, start, p, r, pn, q, s, qn, k);
+        return coefficient(m, w, start, p, r, pn, q, s, qn, k);
     }
     start
 }
@@ -81,18 +79,15 @@ pub fn used_length(w: &[u32], p: usize, r: usize, pn: usize) -> usize
     requires { (p + pn ≤ length w.now) × (r + pn ≤ length w.now) }
     ensures { UsedLength w.now p r pn result }
 {
-    let mut n = pn;
-    while 0 < n {
-        let last = n - 1;
+    for last in (0..pn).rev() {
         if entry(w, p, pn, last) != 0 {
-            return n;
+            return last + 1;
         }
         if entry(w, r, pn, last) != 0 {
-            return n;
+            return last + 1;
         }
-        n = last;
     }
-    n
+    0
 }
 
 // Writes the n first coefficients of t + p q + r s from place target on. All of them are parts of w: t has tn numbers, p and r have
@@ -116,23 +111,20 @@ pub fn add_products(
         (plus_products m n (part w.old t tn) (part w.old p pn) (part w.old q qn)
         (part w.old r pn) (part w.old s qn)) }
 {
-    let reciprocal = reduction::reciprocal(m);
+    let modulus = Modulus::new(m);
     let used = used_length(w, p, r, pn);
     let held = used_length(w, q, s, qn);
-    let mut k: usize = 0;
-    while k < n {
+    for k in 0..n {
         let start = entry(w, t, tn, k);
-        let v = coefficient_or_start(m, reciprocal, w, start, p, r, used, q, s, held, k);
+        let v = coefficient_or_start(modulus, w, start, p, r, used, q, s, held, k);
         let place = target + k;
         w[place] = v;
-        k += 1;
     }
 }
 
 // Term i of the transposed products of v with p and of u with q, added up, where p and q are parts of pn numbers, v and u of vn.
 fn term(
-    m: u32,
-    reciprocal: u64,
+    m: Modulus,
     w: &[u32],
     p: usize,
     q: usize,
@@ -142,12 +134,11 @@ fn term(
     vn: usize,
     i: usize,
 ) -> u32
-    requires { TermInput m reciprocal w.now p q pn v u vn }
-    ensures { result ≡ transposed_entry m w.now p q pn v u vn i }
+    requires { TermInput m.value w.now p q pn v u vn }
+    ensures { result ≡ transposed_entry m.value w.now p q pn v u vn i }
 {
     transposed_at(
         m,
-        reciprocal,
         &w[p..p + pn],
         &w[v..v + vn],
         &w[q..q + pn],
@@ -179,14 +170,12 @@ pub fn transposed(
         (transposed_sum m n (part w.old p pn) (part w.old v vn)
         (part w.old q pn) (part w.old u vn)) }
 {
-    let reciprocal = reduction::reciprocal(m);
+    let modulus = Modulus::new(m);
     let used = used_length(w, p, q, pn);
     let held = used_length(w, v, u, vn);
-    let mut i: usize = 0;
-    while i < n {
-        let x = term(m, reciprocal, w, p, q, used, v, u, held, i);
+    for i in 0..n {
+        let x = term(modulus, w, p, q, used, v, u, held, i);
         let place = target + i;
         w[place] = x;
-        i += 1;
     }
 }

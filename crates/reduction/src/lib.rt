@@ -3,19 +3,12 @@
 // wrapped; their remainder is for a modulus of at most 31 bits.
 #![tactic(auto)]
 
-ghost use Rattle.std.specs.Prelude.{◌≡◌, ◌+◌, ◌*◌, ◌%◌, ◌<◌};
-ghost use Rattle.reduction.specs.Reciprocal.{Reciprocal, HighHalf, LesserOf};
-ghost use Rattle.reduction.specs.Wrapping.{Reducible, WrapsAfter, Unwrapped, Shortened};
+ghost use Rattle.std.specs.Prelude.{◌≡◌, ◌+◌, ◌*◌, ◌%◌, ◌<◌, ◌≤◌};
+ghost use Rattle.definitions.specs.Family.{greatest_modulus};
+ghost use Rattle.reduction.specs.Reciprocal.{Reciprocal, HighHalf};
+ghost use Rattle.reduction.specs.Wrapping.{WrapsAfter, Unwrapped, Shortened};
 
-// The reciprocal of m: how often 2^64 - 1 holds it.
-pub fn reciprocal(m: u32) -> u64
-    requires { 0 < m }
-    ensures { Reciprocal m result }
-{
-    18446744073709551615 / (m as u64)
-}
-
-// A modulus, and how often 2^64 - 1 holds it.
+// A modulus, and its reciprocal: how often 2^64 - 1 holds it.
 #[derive(Clone, Copy)]
 pub struct Modulus {
     pub value: u32,
@@ -28,20 +21,50 @@ impl Modulus {
         requires { 0 < value }
         ensures { result.value ≡ value }
     {
-        let reciprocal = reciprocal(value);
+        let reciprocal = 18446744073709551615 / (value as u64);
         Modulus { value, reciprocal }
     }
 
+    // The remainder of x. The quotient by the reciprocal is short by one at most, so what is left is below 2 m: of that and of that
+    // less m the lesser, since a difference that wraps is the greater.
     pub fn remainder(self, x: u64) -> u32
         ensures { result ≡ x % self.value }
     {
-        remainder(self.value, self.reciprocal, x)
+        let m = self.value as u64;
+        let quotient = high_product(x, self.reciprocal);
+        let rest = x - quotient * m;
+        let less = std::num::wrapping_sub_u64(rest, m);
+        less.min(rest) as u32
     }
 
+    // The remainder of x y.
     pub fn product(self, x: u32, y: u32) -> u32
         ensures { result ≡ x * y % self.value }
     {
         self.remainder((x as u64) * (y as u64))
+    }
+
+    // A count of wraps, or its remainder where it has more than 32 bits.
+    fn shortened(self, wraps: u64) -> u64
+        requires { self.value ≤ greatest_modulus }
+        ensures { Shortened self.value wraps result }
+    {
+        if wraps < 4294967296 {
+            wraps
+        } else {
+            self.remainder(wraps) as u64
+        }
+    }
+
+    // The remainder of low + wraps 2^64: modulo m each 2^64 is what it leaves beside the multiple of m that the reciprocal gives.
+    pub fn remainder_of_sum(self, low: u64, wraps: u64) -> u32
+        requires { self.value ≤ greatest_modulus }
+        ensures { result ≡ (low + wraps * 18446744073709551616) % self.value }
+    {
+        let spare = 18446744073709551615 - self.reciprocal * (self.value as u64) + 1;
+        let more = self.shortened(wraps) * spare;
+        let sum = std::num::wrapping_add_u64(low, more);
+        self.remainder(unwrapped(sum, more, spare))
     }
 }
 
@@ -59,25 +82,6 @@ fn high_product(x: u64, y: u64) -> u64
     x1 * y1 + u / 4294967296 + v / 4294967296
 }
 
-// Of two numbers the lesser.
-pub fn lesser(x: u64, y: u64) -> u64
-    ensures { LesserOf x y result }
-{
-    if x < y { x } else { y }
-}
-
-// The remainder of x. The quotient by the reciprocal is short by one at most, so what is left is below 2 m: of that and of that
-// less m the lesser, since a difference that wraps is the greater.
-pub fn remainder(m: u32, reciprocal: u64, x: u64) -> u32
-    requires { Reciprocal m reciprocal }
-    ensures { result ≡ x % m }
-{
-    let quotient = high_product(x, reciprocal);
-    let rest = x - quotient * (m as u64);
-    let less = std::num::wrapping_sub_u64(rest, m as u64);
-    lesser(less, rest) as u32
-}
-
 // The count of wraps after x was added and the sum is low: one more, if the sum has wrapped.
 pub fn wraps_after(wraps: u64, low: u64, x: u64) -> u64
     requires { wraps < 9223372036854775808 }
@@ -92,27 +96,4 @@ fn unwrapped(sum: u64, last: u64, spare: u64) -> u64
     ensures { Unwrapped sum last spare result }
 {
     if sum < last { sum + spare } else { sum }
-}
-
-// A count of wraps, or its remainder where it has more than 32 bits.
-fn shortened(m: u32, reciprocal: u64, wraps: u64) -> u64
-    requires { Reducible m reciprocal }
-    ensures { Shortened m wraps result }
-{
-    if wraps < 4294967296 {
-        wraps
-    } else {
-        remainder(m, reciprocal, wraps) as u64
-    }
-}
-
-// The remainder of low + wraps 2^64: modulo m each 2^64 is what it leaves beside the multiple of m that the reciprocal gives.
-pub fn remainder_of_sum(m: u32, reciprocal: u64, low: u64, wraps: u64) -> u32
-    requires { Reducible m reciprocal }
-    ensures { result ≡ (low + wraps * 18446744073709551616) % m }
-{
-    let spare = 18446744073709551615 - reciprocal * (m as u64) + 1;
-    let more = shortened(m, reciprocal, wraps) * spare;
-    let sum = std::num::wrapping_add_u64(low, more);
-    remainder(m, reciprocal, unwrapped(sum, more, spare))
 }

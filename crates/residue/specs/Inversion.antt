@@ -5,7 +5,7 @@
 -- Proved: this settles the answer; which of the two it is says whether `definitions`' test for an inverse holds; and what is told, or 1 where
 -- there is an inverse, is the greatest common factor of `definitions`.
 -- Assumes nothing.
-use Rattle.std.specs.Prelude.{◌≡◌, true, false, ℕ, ◌*◌, ◌%◌, ◌<◌, ◌≤◌}
+use Rattle.std.specs.Prelude.{◌≡◌, true, false, ℕ, ◌*◌, ◌%◌, ◌<◌, ◌≤◌, Result, Ok, Err}
 use Rattle.std.proofs.Common.{sym, ◌∙◌, ap, subst, arith}
 use Rattle.definitions.specs.Number.{HasInverse, inverse, greatest_factor}
 use Rattle.definitions.specs.Refusals.{no_inverse}
@@ -13,7 +13,7 @@ use Rattle.numbers.specs.Euclid.{GreatestFactor, greatest-factor-unique}
 use Rattle.numbers.specs.Factor.{factor-is, factor-one}
 use Rattle.numbers.specs.Inverse.{inverse-right, inverse-below}
 use Rattle.acceptance.specs.Verdicts.{no_inverse-false, no_inverse-true}
-use Rattle.residue.specs.declared.Inversion.{Inversion}
+use Rattle.residue.specs.declared.SharedFactor.{SharedFactor}
 
 pub record IsInverse (m x y : ℕ) : Type 0 where
   pub below : y < m
@@ -24,23 +24,23 @@ pub record SharesFactor (m x g : ℕ) : Type 0 where
   pub none : (y : ℕ) → y < m → x * y % m ≡ 1 → ⊥
   pub factor : GreatestFactor g x m
 
-abbrev pub InversionAnswer : ℕ → ℕ → Inversion → Type 0
-InversionAnswer m x (Inversion.Found y) = IsInverse m x y
-InversionAnswer m x (Inversion.Absent g) = SharesFactor m x g
+abbrev pub InversionAnswer : ℕ → ℕ → Result ℕ SharedFactor → Type 0
+InversionAnswer m x (Ok y) = IsInverse m x y
+InversionAnswer m x (Err e) = SharesFactor m x e.factor
 
-pub inverted-unique : (m x : ℕ) (r r' : Inversion) → InversionAnswer m x r → InversionAnswer m x r' → r ≡ r'
-inverted-unique m x (Inversion.Found y) (Inversion.Found y') p q = ap Inversion.Found (p.value ∙ sym q.value)
-inverted-unique m x (Inversion.Found y) (Inversion.Absent g) p q = absurd (q.none y p.below p.product)
-inverted-unique m x (Inversion.Absent g) (Inversion.Found y) p q = absurd (p.none y q.below q.product)
-inverted-unique m x (Inversion.Absent g) (Inversion.Absent g') p q = ap Inversion.Absent (greatest-factor-unique p.factor q.factor)
+pub inverted-unique : (m x : ℕ) (r r' : Result ℕ SharedFactor) → InversionAnswer m x r → InversionAnswer m x r' → r ≡ r'
+inverted-unique m x (Ok y) (Ok y') p q = ap Ok (p.value ∙ sym q.value)
+inverted-unique m x (Ok y) (Err e) p q = absurd (q.none y p.below p.product)
+inverted-unique m x (Err e) (Ok y) p q = absurd (p.none y q.below q.product)
+inverted-unique m x (Err e) (Err e') p q = ap (λ g. Err (record { factor = g })) (greatest-factor-unique p.factor q.factor)
 
 -- an answer that is matched on, and the answer against the test of the refusals
 module _ (m x : ℕ) where
-  pub inverted-found : {r : Inversion} {y : ℕ} → InversionAnswer m x r → r ≡ Inversion.Found y → IsInverse m x y
+  pub inverted-found : {r : Result ℕ SharedFactor} {y : ℕ} → InversionAnswer m x r → r ≡ Ok y → IsInverse m x y
   inverted-found answer e = subst (InversionAnswer m x) e answer
 
-  pub inverted-absent : {r : Inversion} {g : ℕ} → InversionAnswer m x r → r ≡ Inversion.Absent g → SharesFactor m x g
-  inverted-absent answer e = subst (InversionAnswer m x) e answer
+  pub inverted-absent : {r : Result ℕ SharedFactor} {e : SharedFactor} → InversionAnswer m x r → r ≡ Err e → SharesFactor m x e.factor
+  inverted-absent answer q = subst (InversionAnswer m x) q answer
 
   pub found-has : (y : ℕ) → IsInverse m x y → HasInverse m x
   unfolding HasInverse

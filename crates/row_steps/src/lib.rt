@@ -10,6 +10,7 @@ ghost use Rattle.row_steps.specs.DecomposeRow.{DecomposeRowInput};
 ghost use Rattle.row_steps.specs.Row.{RowInput, Stepped};
 
 use lists::entry;
+use reduction::Modulus;
 use residue::combine;
 
 // One row of Expand downwards: the first count entries of current become x + (a X + b) current + c older, and older what
@@ -28,19 +29,17 @@ pub fn expand_row(
     ensures { Stepped (expand_entry m x a b c current.old older.old) count
         current.old current.new older.old older.new }
 {
-    let reciprocal = reduction::reciprocal(m);
+    let modulus = Modulus::new(m);
     let mut constant = x;
     let mut previous: u32 = 0;
-    let mut i: usize = 0;
-    while i < count {
+    for i in 0..count {
         let here = current[i];
         let old = older[i];
-        let v = combine(m, reciprocal, constant, a, previous, b, here, c, old);
+        let v = combine(modulus, constant, a, previous, b, here, c, old);
         current[i] = v;
         older[i] = here;
         constant = 0;
         previous = here;
-        i += 1;
     }
 }
 
@@ -59,16 +58,14 @@ pub fn adjoint_row(
     ensures { Stepped (adjoint_entry m a b c current.old older.old) count
         current.old current.new older.old older.new }
 {
-    let reciprocal = reduction::reciprocal(m);
-    let mut i: usize = 0;
-    while i < count {
+    let modulus = Modulus::new(m);
+    for i in 0..count {
         let here = current[i];
         let next = current[i + 1];
         let old = older[i];
-        let v = combine(m, reciprocal, 0, a, next, b, here, c, old);
+        let v = combine(modulus, 0, a, next, b, here, c, old);
         current[i] = v;
         older[i] = here;
-        i += 1;
     }
 }
 
@@ -88,22 +85,20 @@ pub fn decompose_row(
         ≡ filled (basis_entry m p rise.now stay.now fall.now current.old)
         count current.old }
 {
-    let reciprocal = reduction::reciprocal(m);
+    let modulus = Modulus::new(m);
     let mut constant = p;
     let mut lead: u32 = 0;
     let mut previous: u32 = 0;
-    let mut i: usize = 0;
-    while i < count {
+    for i in 0..count {
         let here = current[i];
         let next = entry(current, i + 1);
         let above = entry(fall, i + 1);
         let v = combine(
-            m, reciprocal, constant, lead, previous, stay[i], here, above, next,
+            modulus, constant, lead, previous, stay[i], here, above, next,
         );
         current[i] = v;
         constant = 0;
         lead = rise[i];
         previous = here;
-        i += 1;
     }
 }

@@ -20,7 +20,7 @@ use Rattle.convolution.specs.Terms.{SumInput}
 use Rattle.series.specs.Division.{reversed, CoefficientInput, reversed-inside, reversed-past, reversed-first}
 
 -- ---- one coefficient
-module _ (m reciprocal : ℕ) (g d : List ℕ) (n y : ℕ) (q : List ℕ) (k : ℕ) (input : CoefficientInput m reciprocal g d n y q k) where
+module _ (m : ℕ) (g d : List ℕ) (n y : ℕ) (q : List ℕ) (k : ℕ) (input : CoefficientInput m g d n y q k) where
   positive : 0 < m
   positive = omega (arith, input.divides.modulus.least)
 
@@ -39,9 +39,9 @@ module _ (m reciprocal : ℕ) (g d : List ℕ) (n y : ℕ) (q : List ℕ) (k : �
       = sym (ap (λ x. x * y % m) none ∙ ap (λ x. x % m) (zero-mul y) ∙ mod-eq_of_lt positive) ∙ input.divides.inverts in
       absurd (omega arith))
 
-  pub coefficient-input : (first at : ℕ) → first ≡ k - n → at ≡ n - k → SumInput m reciprocal (take (k - first) (drop first q)) d at
+  pub coefficient-input : (first at : ℕ) → first ≡ k - n → at ≡ n - k → SumInput m (take (k - first) (drop first q)) d at
   coefficient-input first at e g = rw (e, g) record {
-    reducible = record { most = input.divides.modulus.greatest; reciprocal = input.reciprocal_is };
+    most = input.divides.modulus.greatest;
     p_below = rw standing-part (part-below m q (k - n) (k - (k - n)) positive (λ i p h. input.below i (omega arith)));
     v_below = input.divides.d_below;
     reached = omega (arith, divisor-long, ap length standing-part, part_length q (k - n) (k - (k - n)));

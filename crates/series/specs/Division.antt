@@ -18,7 +18,6 @@ use Rattle.numbers.specs.Lists.{Filling, filled, table-entries, filling-start, f
 use Rattle.numbers.specs.Products.{Below}
 use Rattle.numbers.specs.Sums.{sum-equal}
 use Rattle.theory.specs.Quotient.{quotient-length, quotient-entry, quotient-next, quotient-below}
-use Rattle.reduction.specs.Reciprocal.{Reciprocal}
 
 unfoldable pub reversed : ℕ → List ℕ → List ℕ
 reversed k p = reversal k (λ i. get_or p i 0)
@@ -32,8 +31,7 @@ pub record Divides (m : ℕ) (g d : List ℕ) (n inverse : ℕ) : Type 0 where
   pub inverse_below : inverse < m
   pub inverts : get_or d n 0 * inverse % m ≡ 1
 
-pub record CoefficientInput (m reciprocal : ℕ) (g d : List ℕ) (n inverse : ℕ) (q : List ℕ) (k : ℕ) : Type 0 where
-  pub reciprocal_is : Reciprocal m reciprocal
+pub record CoefficientInput (m : ℕ) (g d : List ℕ) (n inverse : ℕ) (q : List ℕ) (k : ℕ) : Type 0 where
   pub divides : Divides m g d n inverse
   pub long : k ≤ length q
   pub below : (i : ℕ) → i < k → get_or q i 0 < m
@@ -93,10 +91,9 @@ module _ (m : ℕ) (g d : List ℕ) (n y count : ℕ) (output₀ : List ℕ) (in
   dividing-starts = record { reached = omega arith; written = filling-start }
 
   module _ (output : List ℕ) (k : ℕ) (h : Dividing m g d n count output₀ output k) where
-    pub dividing-input : (reciprocal : ℕ) → Reciprocal m reciprocal → k < count → CoefficientInput m reciprocal g d n y output k
+    pub dividing-input : k < count → CoefficientInput m g d n y output k
     unfolding quotient_entry
-    dividing-input reciprocal held l = record {
-      reciprocal_is = held;
+    dividing-input l = record {
       divides = input.divides;
       long = omega (arith, input.room, h.written.same_length);
       below = λ i p. rw (filling-below h.written i 0 p)

@@ -7,8 +7,8 @@ ghost use Rattle.definitions.specs.Orthogonality.{next_quotient, quotient};
 ghost use Rattle.series.specs.Division.{reversed, CoefficientInput, QuotientInput};
 
 use convolution::sum_at;
-use lists::excess;
-use residue::{negative, product_by};
+use reduction::Modulus;
+use residue::negative;
 
 // Coefficient i of the reversal of the first n entries, zero past its end.
 fn reversed_entry(list: &[u32], n: usize, i: usize) -> u32
@@ -21,8 +21,7 @@ fn reversed_entry(list: &[u32], n: usize, i: usize) -> u32
 // Coefficient k of the quotient, from the k that stand in q: what q times the divisor lacks of the numerator, times the inverse of the
 // divisor's first coefficient.
 fn coefficient(
-    m: u32,
-    reciprocal: u64,
+    m: Modulus,
     numerator: &[u32],
     divisor: &[u32],
     n: usize,
@@ -30,16 +29,16 @@ fn coefficient(
     q: &[u32],
     k: usize,
 ) -> u32
-    requires { CoefficientInput m reciprocal numerator.now divisor.now n inverse q.now k }
-    ensures { result ≡ next_quotient m (reversed n numerator.now) (reversed (suc n) divisor.now)
+    requires { CoefficientInput m.value numerator.now divisor.now n inverse q.now k }
+    ensures { result ≡ next_quotient m.value (reversed n numerator.now) (reversed (suc n) divisor.now)
         k q.now }
 {
-    let first = excess(k, n);
-    let at = excess(n, k);
-    let sum = sum_at(m, reciprocal, &q[first..k], divisor, at);
+    let first = k.saturating_sub(n);
+    let at = n.saturating_sub(k);
+    let sum = sum_at(m, &q[first..k], divisor, at);
     let top = reversed_entry(numerator, n, k);
-    let less = negative(m, reciprocal, sum);
-    product_by(m, reciprocal, top + less, inverse)
+    let less = negative(m, sum);
+    m.product(top + less, inverse)
 }
 
 // The first count coefficients of rev(numerator, n) / rev(divisor, n + 1); inverse is that of the divisor's coefficient n.
@@ -56,10 +55,8 @@ pub fn quotient(
     ensures { output.new ≡ quotient m (reversed n numerator.now) (reversed (suc n) divisor.now) count
         ++ drop count output.old }
 {
-    let reciprocal = reduction::reciprocal(m);
-    let mut k: usize = 0;
-    while k < count {
-        output[k] = coefficient(m, reciprocal, numerator, divisor, n, inverse, output, k);
-        k += 1;
+    let modulus = Modulus::new(m);
+    for k in 0..count {
+        output[k] = coefficient(modulus, numerator, divisor, n, inverse, output, k);
     }
 }

@@ -4,7 +4,7 @@
 --   ClimbInput, ClimbOutput  what the recursion is handed, and what it leaves: the pair from place at on, scratch behind it
 -- Proved: by a stored tree of a family it is the model's pair; it rests on nothing but the stored tree; and the recursion's steps.
 -- Assumes nothing.
-use Rattle.std.specs.Prelude.{◌≡◌, take, set}
+use Rattle.std.specs.Prelude.{◌≡◌, take}
 use Rattle.std.proofs.Math.Path.{refl, ap, ap₂}
 use Rattle.std.proofs.Common.{sym, ◌∙◌, inl, inr, add-one, arith}
 use mathlib.Core.List.{List, [], ◌∷◌}
@@ -12,7 +12,7 @@ use Prim.Native.Nat.{ℕ, zero, suc, ◌+◌, ◌*◌, ◌-◌, ◌/◌, ◌≤�
 use Rattle.std.proofs.Math.ListN.{length, get_or}
 use Rattle.definitions.specs.Family.{Family, family, greatest_modulus}
 use Rattle.tree_model.specs.Level.{span, span-suc}
-use Rattle.numbers.specs.Regions.{part, written, Apart, ResiduesIn, KeptOutside, part-residues, part-written, written_one, written-more}
+use Rattle.numbers.specs.Regions.{part, written, Apart, ResiduesIn, KeptOutside, part-residues, part-written}
 use Rattle.numbers.specs.Regions.{written-kept, kept_then, kept-part, kept-residues}
 use Rattle.numbers.specs.Products.{Below}
 use Rattle.tree_model.specs.Tree.{Pair, expand_pair, up}
@@ -87,14 +87,6 @@ module _ (m : ℕ) (w : List ℕ) (tree : ℕ) (u : List ℕ) where
       (climbed m w (tree + tree_size l) u l (t + span l)) (matrix_at w (tree + node_place l) (suc (span l)))
 
 -- ---- one pair of rows
-pub four-written : (w : List ℕ) (at x y z v : ℕ) → at + 4 ≤ length w
-    → set (set (set (set w at x) (at + 1) y) (at + 2) z) (at + 3) v ≡ written w at (x ∷ y ∷ z ∷ v ∷ [])
-four-written w at x y z v h =
-    ap (λ s. set (set (set s (at + 1) y) (at + 2) z) (at + 3) v) (written_one w at x (omega arith))
-    ∙ ap (λ s. set (set s (at + 2) z) (at + 3) v) (written-more w at (x ∷ []) y (omega arith))
-    ∙ ap (λ s. set s (at + 3) v) (written-more w at (x ∷ y ∷ []) z (omega arith))
-    ∙ written-more w at (x ∷ y ∷ z ∷ []) v (omega arith)
-
 module _ {m : ℕ} {curve : List ℕ} {n : ℕ} {w : List ℕ} {tree at level pairs t : ℕ}
     (h : ClimbInput m curve n w tree at level pairs t) where
   abbrev u : List ℕ

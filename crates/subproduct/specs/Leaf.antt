@@ -1,14 +1,14 @@
 -- The leaf of two rows.
 --   LeafInput   what is handed to the leaf
 -- Proved: the leaf's lists are written one after the other. Assumes nothing.
-use Rattle.std.specs.Prelude.{◌≡◌, ℕ, ◌+◌, ◌*◌, ◌%◌, ◌≤◌, ◌<◌, set}
+use Rattle.std.specs.Prelude.{◌≡◌, ℕ, ◌+◌, ◌*◌, ◌%◌, ◌≤◌, ◌<◌}
 use Rattle.std.proofs.Math.Path.{refl}
-use Rattle.std.proofs.Common.{◌∙◌, ap}
+use Rattle.std.proofs.Common.{◌∙◌}
 use mathlib.Core.List.{List, [], ◌∷◌, ◌++◌}
 use native.Mathlib.Omega.{arith}
 use Rattle.std.proofs.Math.ListN.{length}
 use Rattle.definitions.specs.Family.{greatest_modulus, row_of}
-use Rattle.numbers.specs.Regions.{written, written_one, written-more, written_then}
+use Rattle.numbers.specs.Regions.{written, written_then}
 use Rattle.tree_model.specs.Tree.{leaf}
 use Rattle.subproduct.specs.Layout.{matrix_list}
 
@@ -23,13 +23,6 @@ pub record LeafInput (m : ℕ) (w : List ℕ) (at pa pb pc qa qb qc : ℕ) : Typ
   pub qc_below : qc < m
 
 -- ---- a leaf
-pub three-written : (w : List ℕ) (at x y z : ℕ) → at + 3 ≤ length w
-    → set (set (set w at x) (at + 1) y) (at + 2) z ≡ written w at (x ∷ y ∷ z ∷ [])
-three-written w at x y z h =
-    ap (λ t. set (set t (at + 1) y) (at + 2) z) (written_one w at x (omega arith))
-    ∙ ap (λ t. set t (at + 2) z) (written-more w at (x ∷ []) y (omega arith))
-    ∙ written-more w at (x ∷ y ∷ []) z (omega arith)
-
 -- four lists of three numbers, one after the other
 module _ {m : ℕ} {w : List ℕ} {at pa pb pc qa qb qc : ℕ} (input : LeafInput m w at pa pb pc qa qb qc) where
   pub leaf-written : {b0 b1 c0 c1 c2 : ℕ} {w₁ w₂ w₃ w₄ : List ℕ}

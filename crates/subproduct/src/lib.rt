@@ -15,8 +15,9 @@ ghost use Rattle.subproduct.specs.Climb.{ClimbInput, ClimbOutput};
 ghost use Rattle.subproduct.specs.Descend.{LeafPlaces, DescendInput, DescendOutput};
 ghost use Rattle.subproduct.specs.AdjointPair.{AdjointPlaces};
 
-use lists::row_entry;
+use lists::{row_entry, store};
 use products::{add_products, transposed};
+use reduction::Modulus;
 use residue::combine;
 
 // The numbers that each half of the stored tree over pairs pairs of rows takes, where there are two pairs at least.
@@ -25,17 +26,6 @@ fn half_size(level: usize, pairs: usize) -> usize
     ensures { Halved level pairs result }
 {
     4 * pairs * (level + 1) - 4
-}
-
-fn store_three(w: &mut [u32], at: usize, x: u32, y: u32, z: u32)
-    requires { at + 3 ≤ length w.old }
-    ensures { w.new ≡ written w.old at (x ∷ y ∷ z ∷ []) }
-{
-    let second = at + 1;
-    let third = at + 2;
-    w[at] = x;
-    w[second] = y;
-    w[third] = z;
 }
 
 // Writes the leaf of the rows p and q at place at.
@@ -53,16 +43,16 @@ fn write_leaf(
     requires { LeafInput m w.old at pa pb pc qa qb qc }
     ensures { w.new ≡ written w.old at (matrix_list (leaf m (row_of pa pb pc) (row_of qa qb qc))) }
 {
-    let reciprocal = reduction::reciprocal(m);
-    let b0 = combine(m, reciprocal, 0, qb, pc, 0, 0, 0, 0);
-    let b1 = combine(m, reciprocal, 0, qa, pc, 0, 0, 0, 0);
-    let c0 = combine(m, reciprocal, qc, qb, pb, 0, 0, 0, 0);
-    let c1 = combine(m, reciprocal, 0, qb, pa, qa, pb, 0, 0);
-    let c2 = combine(m, reciprocal, 0, qa, pa, 0, 0, 0, 0);
-    store_three(w, at, pc, 0, 0);
-    store_three(w, at + 3, pb, pa, 0);
-    store_three(w, at + 6, b0, b1, 0);
-    store_three(w, at + 9, c0, c1, c2);
+    let modulus = Modulus::new(m);
+    let b0 = combine(modulus, 0, qb, pc, 0, 0, 0, 0);
+    let b1 = combine(modulus, 0, qa, pc, 0, 0, 0, 0);
+    let c0 = combine(modulus, qc, qb, pb, 0, 0, 0, 0);
+    let c1 = combine(modulus, 0, qb, pa, qa, pb, 0, 0);
+    let c2 = combine(modulus, 0, qa, pa, 0, 0, 0, 0);
+    store(w, at, [pc, 0, 0]);
+    store(w, at + 3, [pb, pa, 0]);
+    store(w, at + 6, [b0, b1, 0]);
+    store(w, at + 9, [c0, c1, c2]);
 }
 
 // Writes the pair t + row matrix, n coefficients of each entry, from place target on: t is a pair of lists of tn numbers, row one of
@@ -173,20 +163,6 @@ pub fn build(
     join(m, w, end, pairs + k, end - lists, right - lists, k);
 }
 
-// Writes the pair over two entries x and y of the curve: each is a polynomial of two coefficients.
-fn climb_leaf(w: &mut [u32], at: usize, x: u32, y: u32)
-    requires { at + 4 ≤ length w.old }
-    ensures { w.new ≡ written w.old at (x ∷ 0 ∷ y ∷ 0 ∷ []) }
-{
-    let second = at + 1;
-    let third = at + 2;
-    let fourth = at + 3;
-    w[at] = x;
-    w[second] = 0;
-    w[third] = y;
-    w[fourth] = 0;
-}
-
 // Writes the pair over the 2 pairs entries of the curve from t on, from place at on, by the tree that is stored from place tree on.
 // Behind the pair lie the pairs of both halves, and their scratch.
 pub fn climb(
@@ -206,7 +182,7 @@ pub fn climb(
     if pairs == 1 {
         let x = row_entry(curve, n, t, 0);
         let y = row_entry(curve, n, t + 1, 0);
-        climb_leaf(w, at, x, y);
+        store(w, at, [x, 0, y, 0]);
         return;
     }
     let half = pairs / 2;
@@ -253,18 +229,6 @@ fn adjoint_pair(
     transposed(m, w, target + n, n, row, row + qn, qn, first, second, vn);
 }
 
-fn descend_leaf(w: &mut [u32], first: usize, second: usize, at: usize)
-    requires { LeafPlaces (length w.old) first second at }
-    ensures { w.new ≡ written w.old at
-        (get_or w.old first 0 ∷ get_or w.old second 0 ∷ []) }
-{
-    let x = w[first];
-    let y = w[second];
-    let next = at + 1;
-    w[at] = x;
-    w[next] = y;
-}
-
 // Writes the 2 pairs entries of the answer from place at on, from the lists at first and second, by the tree that is stored from place
 // tree on. The left half's entries come first, and then the right half's, whose pair lies behind its scratch.
 pub fn descend(
@@ -281,7 +245,9 @@ pub fn descend(
     ensures { DescendOutput m w.old tree first second at level w.new }
 {
     if pairs == 1 {
-        descend_leaf(w, first, second, at);
+        let x = w[first];
+        let y = w[second];
+        store(w, at, [x, y]);
         return;
     }
     let half = pairs / 2;

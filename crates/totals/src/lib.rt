@@ -14,10 +14,8 @@ fn row_total(m: u32, n: usize, t: &[u32], moment: &[u32], i: usize) -> u32
     ensures { result ≡ row_total m n t.now moment.now i }
 {
     let mut total: u32 = 0;
-    let mut j: usize = 0;
-    while j < n {
+    for j in 0..n {
         total = sum(m, total, product(m, t[j], moment[i + j]));
-        j += 1;
     }
     total
 }
@@ -28,10 +26,8 @@ pub fn moment_total(m: u32, n: usize, s: &[u32], t: &[u32], moment: &[u32]) -> u
     ensures { result ≡ moment_total m n s.now t.now moment.now }
 {
     let mut total: u32 = 0;
-    let mut i: usize = 0;
-    while i < n {
+    for i in 0..n {
         total = sum(m, total, product(m, s[i], row_total(m, n, t, moment, i)));
-        i += 1;
     }
     total
 }
@@ -42,10 +38,8 @@ pub fn norm_total(m: u32, n: usize, u: &[u32], v: &[u32], norm: &[u32]) -> u32
     ensures { result ≡ norm_total m n u.now v.now norm.now }
 {
     let mut total: u32 = 0;
-    let mut i: usize = 0;
-    while i < n {
+    for i in 0..n {
         total = sum(m, total, product(m, product(m, u[i], v[i]), norm[i]));
-        i += 1;
     }
     total
 }

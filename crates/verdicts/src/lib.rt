@@ -11,7 +11,6 @@ ghost use Rattle.definitions.specs.JobWriting.{written_job, writing_tests};
 ghost use Rattle.checks.specs.Shape.{Shaped};
 
 use definitions::{Answer, InverseAnswer, Operation};
-use residue::Inversion;
 
 // 9, 17, 10, 18 and 11 of the rows of three lists, closed by 1 1 1.
 fn rows(m: u32, a: &[u32], b: &[u32], c: &[u32]) -> Answer
@@ -231,7 +230,7 @@ pub fn inverse(m: u32, x: u32) -> InverseAnswer
         return InverseAnswer::Refused(k);
     }
     match residue::invert(m, x) {
-        Inversion::Found(y) => InverseAnswer::Found(y, 1),
-        Inversion::Absent(g) => InverseAnswer::NoInverse(g),
+        Ok(y) => InverseAnswer::Found(y, 1),
+        Err(shared) => InverseAnswer::NoInverse(shared.factor),
     }
 }

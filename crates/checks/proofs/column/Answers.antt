@@ -7,33 +7,33 @@ use Rattle.checks.proofs.column.Goals as goal
 
 pub returns-in_default-reason : goal.returns-in_default-reason
 returns-in_default-reason c =
-    pass-zero _ _ _ _ _ _ _ c.requires.0 _ c.excess.ensures c.requires.1 _ c.invertible-factors.ensures _ _
+    pass-zero _ _ _ _ _ _ _ c.requires.0 _ c.saturating_sub.ensures c.requires.1 _ c.invertible-factors.ensures _ _
     c.in-Without.is c.in_default-reason.is
 
 pub returns-in-Without : goal.returns-in-Without
 returns-in-Without c =
-    pass-shared _ _ _ _ _ _ _ c.requires.0 _ c.excess.ensures c.requires.1 _ c.invertible-factors.ensures
+    pass-shared _ _ _ _ _ _ _ c.requires.0 _ c.saturating_sub.ensures c.requires.1 _ c.invertible-factors.ensures
     _ _ _ c.in-Without.is c.in-Shared.is
 
 pub returns-then-r-first : goal.returns-then-r-first
 returns-then-r-first c =
-    closing-passes _ _ _ _ _ _ _ c.requires.0 _ c.excess.ensures c.requires.1 _
+    closing-passes _ _ _ _ _ _ _ c.requires.0 _ c.saturating_sub.ensures c.requires.1 _
     c.invertible-factors.ensures c.in_default.is (λ l. absurd (omega arith))
 
 pub returns-in_default-invert : goal.returns-in_default-invert
 returns-in_default-invert c =
-    closing-passes _ _ _ _ _ _ _ c.requires.0 _ c.excess.ensures c.requires.1 _
+    closing-passes _ _ _ _ _ _ _ c.requires.0 _ c.saturating_sub.ensures c.requires.1 _
     c.invertible-factors.ensures c.in_default.is
     (λ l. found-has _ _ _ (inverted-found _ _ c.invert.ensures c.in_default-invert.is))
 
 pub returns-then-close-eq0 : goal.returns-then-close-eq0
 returns-then-close-eq0 c =
-    closing-zero _ _ _ _ _ _ _ c.requires.0 _ c.excess.ensures c.requires.1 _ c.invertible-factors.ensures
+    closing-zero _ _ _ _ _ _ _ c.requires.0 _ c.saturating_sub.ensures c.requires.1 _ c.invertible-factors.ensures
     c.in_default.is c.if-r-first.false (absent-fails _ _ _ c.requires.0
-    (inverted-absent _ _ c.invert.ensures c.in-Absent.is)) c.if-close-eq0.true
+    (inverted-absent _ _ c.invert.ensures c.in-Err.is)) c.if-close-eq0.true
 
 pub returns : goal.returns
 returns c =
-    closing-shared _ _ _ _ _ _ _ c.requires.0 _ c.excess.ensures c.requires.1 _ c.invertible-factors.ensures
+    closing-shared _ _ _ _ _ _ _ c.requires.0 _ c.saturating_sub.ensures c.requires.1 _ c.invertible-factors.ensures
     c.in_default.is c.if-r-first.false (absent-fails _ _ _ c.requires.0
-    (inverted-absent _ _ c.invert.ensures c.in-Absent.is)) c.if-close-eq0.false
+    (inverted-absent _ _ c.invert.ensures c.in-Err.is)) c.if-close-eq0.false

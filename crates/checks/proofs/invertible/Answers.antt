@@ -22,13 +22,13 @@ invert-inversion-requires c = tt
 
 pub returns-then-x-eq0 : goal.returns-then-x-eq0
 returns-then-x-eq0 c =
-    let absent = inverted-absent _ _ c.invert-inversion.ensures c.in-Absent-inversion.is in
+    let absent = inverted-absent _ _ c.invert-inversion.ensures c.in-Err-inversion.is in
     let here = passed_first _ _ _ c.loop-i.invariant c.loop-i-test.true (absent-fails _ _ _ c.requires absent) in
     (here, c.if-x-eq0.true)
 
-pub returns-in-Absent-inversion : goal.returns-in-Absent-inversion
-returns-in-Absent-inversion c =
-    let absent = inverted-absent _ _ c.invert-inversion.ensures c.in-Absent-inversion.is in
+pub returns-in-Err-inversion : goal.returns-in-Err-inversion
+returns-in-Err-inversion c =
+    let absent = inverted-absent _ _ c.invert-inversion.ensures c.in-Err-inversion.is in
     let here = passed_first _ _ _ c.loop-i.invariant c.loop-i-test.true (absent-fails _ _ _ c.requires absent) in
     (here, record { not_zero = c.if-x-eq0.false; factor = absent.factor })
 

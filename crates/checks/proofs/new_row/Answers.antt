@@ -29,21 +29,21 @@ pub returns-then-place-lt-FIRST_C : goal.returns-then-place-lt-FIRST_C
 returns-then-place-lt-FIRST_C c =
     let below = all-below c.if-m-a.false c.if-m-b.false c.if-m-c.false in
     row-passes _ _ _ c.requires below
-    (found-has _ _ _ (inverted-found _ _ c.invert.ensures c.in-Found.is))
+    (found-has _ _ _ (inverted-found _ _ c.invert.ensures c.in-Ok.is))
     (λ l. absurd (omega arith))
 
 pub returns-then-c-eq0 : goal.returns-then-c-eq0
 returns-then-c-eq0 c =
     let below = all-below c.if-m-a.false c.if-m-b.false c.if-m-c.false in
     row-c-zero _ _ _ c.requires below
-    (found-has _ _ _ (inverted-found _ _ c.invert.ensures c.in-Found.is))
+    (found-has _ _ _ (inverted-found _ _ c.invert.ensures c.in-Ok.is))
     (λ some. absurd (omega (arith, some c.if-place-lt-FIRST_C.false, c.if-c-eq0.true)))
 
 pub returns-in_default-invert : goal.returns-in_default-invert
 returns-in_default-invert c =
     let below = all-below c.if-m-a.false c.if-m-b.false c.if-m-c.false in
     row-c-lacks _ _ _ c.requires below
-    (found-has _ _ _ (inverted-found _ _ c.invert.ensures c.in-Found.is))
+    (found-has _ _ _ (inverted-found _ _ c.invert.ensures c.in-Ok.is))
     (λ l. omega (arith, c.if-c-eq0.false))
     (λ has. lacks _ _ _ c.requires (inverted-absent _ _ c.invert-2.ensures c.in_default-invert.is) (has c.if-place-lt-FIRST_C.false))
 
@@ -51,5 +51,5 @@ pub returns : goal.returns
 returns c =
     let below = all-below c.if-m-a.false c.if-m-b.false c.if-m-c.false in
     row-passes _ _ _ c.requires below
-    (found-has _ _ _ (inverted-found _ _ c.invert.ensures c.in-Found.is))
-    (λ l. found-has _ _ _ (inverted-found _ _ c.invert-2.ensures c.in-Found-invert.is))
+    (found-has _ _ _ (inverted-found _ _ c.invert.ensures c.in-Ok.is))
+    (λ l. found-has _ _ _ (inverted-found _ _ c.invert-2.ensures c.in-Ok-invert.is))

@@ -14,7 +14,7 @@ slice_bounds-joint_product-end c = sym (length-take-le _ _ c.requires.1)
 
 pub returns-in_default : goal.returns-in_default
 returns-in_default c = λ b close_b.
-    joint-passes _ _ _ _ _ _ _ c.requires.0 c.requires.1 c.requires.2 _ _ _ _ _ c.excess.ensures
+    joint-passes _ _ _ _ _ _ _ c.requires.0 c.requires.1 c.requires.2 _ _ _ _ _ c.saturating_sub.ensures
     (λ l. elim c.if-first-r.branch [ then-first-r w ↦ w.closing-is | else-first-r w ↦ absurd (omega arith) ]) c.joint_product-product.ensures
     (found-has _ _ _ (inverted-found _ _ c.invert-whole.ensures c.in_default.is))
 

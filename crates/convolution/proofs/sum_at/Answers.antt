@@ -4,13 +4,13 @@ use Rattle.convolution.specs.Terms.{odd-input, halves-input, sum-ends}
 use Rattle.convolution.proofs.sum_at.Goals as goal
 
 pub with_singles-odd-requires : goal.with_singles-odd-requires
-with_singles-odd-requires c = odd-input _ _ _ _ _ c.requires _ (omega arith)
+with_singles-odd-requires c = odd-input _ _ _ _ c.requires _ (omega arith)
 
 pub with_pairs-total-requires : goal.with_pairs-total-requires
 with_pairs-total-requires c =
-    halves-input _ _ _ _ _ c.requires _ (omega arith) (omega (arith, c.well_formed)) c.with_singles-odd.ensures
+    halves-input _ _ _ _ c.requires _ (omega arith) (omega (arith, c.well_formed)) c.with_singles-odd.ensures
 
 pub returns : goal.returns
 returns c =
-    sum-ends _ _ _ _ _ c.requires _ (omega arith) (omega (arith, c.well_formed)) c.with_singles-odd.ensures
+    sum-ends _ _ _ _ c.requires _ (omega arith) (omega (arith, c.well_formed)) c.with_singles-odd.ensures
     c.with_pairs-total.ensures _ c.remainder_of_sum.ensures

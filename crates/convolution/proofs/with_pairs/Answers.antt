@@ -1,28 +1,29 @@
 -- `convolution::with_pairs` meets its contract: the laws of `Pairs` at the loop. Assumes nothing.
-use Rattle.std.proofs.Common.{arith}
+use Rattle.std.proofs.Common.{◌≡◌, ◌+◌, ◌*◌, ◌%◌, add-zero, arith}
 use Rattle.convolution.proofs.Steps.{pairs_first, pairs_start, pairs-reach, pairs-plus, pairs_next, pairs_end}
 use Rattle.convolution.proofs.with_pairs.Goals as goal
 
 pub with_first-sum-requires : goal.with_first-sum-requires
 with_first-sum-requires c = pairs_first c.requires
 
-pub loop-j-init : goal.loop-j-init
-loop-j-init c = pairs_start c.requires c.with_first-sum.ensures
+pub loop-t-init : goal.loop-t-init
+loop-t-init c = rw (add-zero (c.args.end % 2)) (pairs_start c.requires c.with_first-sum.ensures)
 
 pub two_pairs-x-requires : goal.two_pairs-x-requires
 two_pairs-x-requires c =
-    pairs-reach c.requires c.with_first-sum.ensures c.loop-j.invariant c.loop-j-test.true
+    pairs-reach c.requires c.with_first-sum.ensures c.loop-t.invariant (omega arith)
 
 pub plus-sum-requires : goal.plus-sum-requires
 plus-sum-requires c =
-    pairs-plus c.requires c.with_first-sum.ensures c.loop-j.invariant (omega (arith, c.well_formed))
+    pairs-plus c.requires c.with_first-sum.ensures c.loop-t.invariant (omega (arith, c.well_formed))
     c.two_pairs-x.ensures
 
-pub loop-j-preserved : goal.loop-j-preserved
-loop-j-preserved c =
-    pairs_next c.requires c.with_first-sum.ensures c.loop-j.invariant c.loop-j-test.true
-    c.two_pairs-x.ensures c.plus-sum.ensures
+pub loop-t-preserved : goal.loop-t-preserved
+loop-t-preserved c =
+    let next : c.args.end % 2 + 2 * c.loop-t.t + 2 ≡ c.args.end % 2 + 2 * (c.loop-t.t + 1) = omega arith in
+    rw (← next) (pairs_next c.requires c.with_first-sum.ensures c.loop-t.invariant (omega arith)
+    c.two_pairs-x.ensures c.plus-sum.ensures)
 
 pub returns : goal.returns
 returns c =
-    pairs_end c.requires c.with_first-sum.ensures c.loop-j.invariant c.loop-j-test.false
+    pairs_end c.requires c.with_first-sum.ensures c.loop-t.invariant (omega arith)

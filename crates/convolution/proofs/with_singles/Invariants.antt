@@ -1,5 +1,4 @@
--- The loop of `convolution::with_singles`: the terms before j are in (`Totalling`). The measure is what is left of them. Assumes nothing.
-use Rattle.std.proofs.Common.{◌-◌}
+-- The loop of `convolution::with_singles`: the terms before j are in (`Totalling`). Assumes nothing.
 use Rattle.convolution.specs.Totals.{Totalling, amount}
 use Rattle.convolution.specs.Steps.{transposed_term}
 use Rattle.convolution.proofs.with_singles.Given as goal
@@ -7,6 +6,3 @@ use Rattle.convolution.proofs.with_singles.Given as goal
 abbrev pub invariant-loop-j : goal.invariant-loop-j
 invariant-loop-j l =
     Totalling l.initial.sum.wraps (amount l.initial.sum.low l.initial.sum.wraps) l.first l.end (transposed_term l.p l.v l.i) l.j l.sum.low l.sum.wraps
-
-abbrev pub decreases-loop-j : goal.decreases-loop-j
-decreases-loop-j l = l.end - l.j

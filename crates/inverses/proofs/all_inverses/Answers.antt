@@ -12,7 +12,7 @@ returns-in_default c =
 pub share_inverse-requires : goal.share_inverse-requires
 share_inverse-requires c =
     sharable _ _ _ _ _ (omega arith) c.requires.0 c.requires.1 c.running_products.ensures.1 _ _
-    c.running_products.ensures.0 (inverted-found _ _ c.invert-whole.ensures c.in-Found.is)
+    c.running_products.ensures.0 (inverted-found _ _ c.invert-whole.ensures c.in-Ok.is)
 
 pub returns : goal.returns
 returns c =

@@ -7,5 +7,5 @@ use Rattle.inverses.proofs.of_list.Goals as goal
 
 pub returns : goal.returns
 returns c =
-    range-filled _ _ _ _ c.excess-count.ensures _ _ c.requires.1 _ _ (filled_end _ _ _ _ _ c.loop-i.invariant (omega arith) (omega arith))
+    range-filled _ _ _ _ c.saturating_sub-count.ensures _ _ c.requires.1 _ _ (filled_end _ _ _ _ _ c.loop-i.invariant (omega arith) (omega arith))
     c.all_inverses.ensures

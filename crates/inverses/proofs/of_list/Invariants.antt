@@ -1,5 +1,5 @@
--- The loop of `of_list`: it fills the output with zeros from the front. The measure is what is left of the zeros. Assumes nothing.
-use Rattle.std.proofs.Common.{◌≡◌, get_or}
+-- The loop of `of_list`: it fills the output with zeros from the front. Assumes nothing.
+use Rattle.std.proofs.Common.{◌≡◌}
 use Rattle.numbers.specs.Lists.{filled}
 use Rattle.inverses.proofs.of_list.Given as goal
 

@@ -1,4 +1,4 @@
--- The loop of `one_by_one`: it fills the output with inverses from the front. The measure is what is left of the count. Assumes nothing.
+-- The loop of `one_by_one`: it fills the output with inverses from the front. Assumes nothing.
 use Rattle.std.proofs.Common.{◌≡◌, get_or}
 use Rattle.definitions.specs.Number.{inverse}
 use Rattle.numbers.specs.Lists.{filled}

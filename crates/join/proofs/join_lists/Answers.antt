@@ -13,9 +13,8 @@ pub loop-i-init : goal.loop-i-init
 loop-i-init c = joined-starts _ _ _ _ _
 
 pub join_value-requires : goal.join_value-requires
-join_value-requires c = (
+join_value-requires c = rw c.new-modulus.ensures (
   prepare _ _ _ c.requires.0,
-  c.reciprocal-reciprocal.ensures,
   c.requires.1.first_below _ (omega (arith, c.loop-i-test.true)),
   c.requires.1.second_below _ (omega (arith, c.loop-i-test.true)),
 )
@@ -23,8 +22,8 @@ join_value-requires c = (
 pub loop-i-preserved : goal.loop-i-preserved
 loop-i-preserved c =
     joined-next _ _ _ _ _ _ _ c.loop-i.invariant _ (omega arith)
-    (to_z-of_z w64 _ (record { sfits = c.join_value.type_inv }) ∙ c.join_value.ensures)
+    (to_z-of_z w64 _ (record { sfits = c.join_value.type_inv }) ∙ rw c.new-modulus.ensures at c.join_value.ensures)
 
 pub returns : goal.returns
 returns c =
-    joined-ends _ _ _ _ _ _ _ c.loop-i.invariant c.loop-i-test.false c.requires.1.first_long c.requires.1.second_long
+    joined-ends _ _ _ _ _ _ _ c.loop-i.invariant (omega arith) c.requires.1.first_long c.requires.1.second_long

@@ -1,11 +1,6 @@
--- The loop of `join_lists`: the places passed are joined (`Joined`). The measure is what is left of the output. Assumes nothing.
-use Prim.Native.Nat.{◌-◌}
-use lib.ListN.{length}
+-- The loop of `join_lists`: the places passed are joined (`Joined`). Assumes nothing.
 use Rattle.join.specs.Joining.{Joined}
 use Rattle.join.proofs.join_lists.Given as goal
 
 abbrev pub invariant-loop-i : goal.invariant-loop-i
 invariant-loop-i l = Joined l.m1 l.m2 l.first l.second l.initial.output l.output l.i
-
-abbrev pub decreases-loop-i : goal.decreases-loop-i
-decreases-loop-i l = length l.initial.output - l.i

@@ -1,12 +1,6 @@
--- The loop of `reduce_list`: the places passed are reduced, the others as they were (`Reducing`). The measure is what is left of the list.
--- Assumes nothing.
-use Prim.Native.Nat.{◌-◌}
-use lib.ListN.{length}
+-- The loop of `reduce_list`: the places passed are reduced, the others as they were (`Reducing`). Assumes nothing.
 use Rattle.join.specs.Reducing.{Reducing}
 use Rattle.join.proofs.reduce_list.Given as goal
 
 abbrev pub invariant-loop-i : goal.invariant-loop-i
 invariant-loop-i l = Reducing l.m l.list l.initial.out l.out l.i
-
-abbrev pub decreases-loop-i : goal.decreases-loop-i
-decreases-loop-i l = length l.list - l.i

@@ -11,12 +11,12 @@ returns-in-Refused-second c =
     second-refused _ _ _ c.modulus-first.ensures c.in_default.is _ c.modulus-second.ensures _
     c.in-Refused-second.is
 
-pub returns-in-Found : goal.returns-in-Found
-returns-in-Found c =
+pub returns-in-Ok : goal.returns-in-Ok
+returns-in-Ok c =
     pair_found _ _ _ c.modulus-first.ensures c.in_default.is _ c.modulus-second.ensures
-    c.in_default-second.is _ (inverted-found _ _ c.invert.ensures c.in-Found.is)
+    c.in_default-second.is _ (inverted-found _ _ c.invert.ensures c.in-Ok.is)
 
-pub returns-in-Absent : goal.returns-in-Absent
-returns-in-Absent c =
+pub returns-in-Err : goal.returns-in-Err
+returns-in-Err c =
     pair-shares _ _ _ c.modulus-first.ensures c.in_default.is _ c.modulus-second.ensures
-    c.in_default-second.is _ (inverted-absent _ _ c.invert.ensures c.in-Absent.is)
+    c.in_default-second.is _ (inverted-absent _ _ c.invert.ensures c.in-Err.is)

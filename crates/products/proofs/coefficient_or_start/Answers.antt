@@ -7,7 +7,7 @@ pub overflow_add-pn : goal.overflow_add-pn
 overflow_add-pn c = omega (arith, c.requires.p_source.inside, c.requires.q_source.inside, c.well_formed)
 
 pub coefficient-requires : goal.coefficient-requires
-coefficient-requires c = coefficient-there _ _ _ _ _ _ _ _ _ _ _ c.requires (omega arith)
+coefficient-requires c = coefficient-there _ _ _ _ _ _ _ _ _ _ c.requires (omega arith)
 
 pub returns : goal.returns
-returns c = coefficient-past _ _ _ _ _ _ _ _ _ _ _ c.requires (omega arith)
+returns c = coefficient-past _ _ _ _ _ _ _ _ _ _ c.requires (omega arith)

@@ -4,7 +4,7 @@ use Rattle.products.proofs.term.Goals as goal
 
 pub transposed_at-requires : goal.transposed_at-requires
 transposed_at-requires c =
-    term-input _ _ _ _ _ _ _ _ _ c.args.i c.requires
+    term-input _ _ _ _ _ _ _ _ c.args.i c.requires
 
 pub returns : goal.returns
-returns c = term_is _ _ _ _ _ _ _ _ _ _ c.requires _ c.transposed_at.ensures
+returns c = term_is _ _ _ _ _ _ _ _ _ c.requires _ c.transposed_at.ensures

@@ -4,9 +4,6 @@ use Rattle.numbers.specs.Regions.{writing-starts}
 use Rattle.products.specs.Places.{transposed-term, transposed-next, transposed-ends}
 use Rattle.products.proofs.transposed.Goals as goal
 
-pub reciprocal-reciprocal-requires : goal.reciprocal-reciprocal-requires
-reciprocal-reciprocal-requires c = c.requires.least
-
 pub used_length-used-requires : goal.used_length-used-requires
 used_length-used-requires c = (c.requires.p_aside.source.inside, c.requires.q_aside.source.inside)
 
@@ -19,13 +16,13 @@ loop-i-init c = writing-starts _ _ _ _ c.requires.room
 
 pub term-x-requires : goal.term-x-requires
 term-x-requires c =
-    transposed-term _ _ _ _ _ _ _ _ _ _ c.requires _ _ c.loop-i-test.true c.loop-i.invariant
-    c.used_length-used.ensures.used c.used_length-held.ensures.used c.reciprocal-reciprocal.ensures
+    rw c.new-modulus.ensures (transposed-term _ _ _ _ _ _ _ _ _ _ c.requires _ _ c.loop-i-test.true c.loop-i.invariant
+    c.used_length-used.ensures.used c.used_length-held.ensures.used)
 
 pub loop-i-preserved : goal.loop-i-preserved
 loop-i-preserved c =
     transposed-next _ _ _ _ _ _ _ _ _ _ c.requires _ _ c.loop-i-test.true c.loop-i.invariant
-    c.used_length-used.ensures.used c.used_length-held.ensures.used _ c.term-x.ensures
+    c.used_length-used.ensures.used c.used_length-held.ensures.used _ (rw c.new-modulus.ensures at c.term-x.ensures)
 
 pub returns : goal.returns
 returns c = transposed-ends _ _ _ _ _ _ _ _ _ _ _ _ c.loop-i-test.false c.loop-i.invariant

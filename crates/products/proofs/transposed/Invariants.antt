@@ -1,12 +1,7 @@
--- The loop of `products::transposed`: i terms stand from place target on, and the rest is as it was (`Writing`). The measure is what is
--- left of them. Assumes nothing.
-use Prim.Native.Nat.{◌-◌}
+-- The loop of `products::transposed`: i terms stand from place target on, and the rest is as it was (`Writing`). Assumes nothing.
 use Rattle.numbers.specs.Regions.{Writing}
 use Rattle.products.specs.Places.{transposed_entry}
 use Rattle.products.proofs.transposed.Given as goal
 
 abbrev pub invariant-loop-i : goal.invariant-loop-i
 invariant-loop-i l = Writing l.initial.w l.target l.n (transposed_entry l.m l.initial.w l.p l.q l.pn l.v l.u l.vn) l.w l.i
-
-abbrev pub decreases-loop-i : goal.decreases-loop-i
-decreases-loop-i l = l.n - l.i

@@ -1,28 +1,33 @@
 -- `products::used_length` meets its contract: it ends at a number that is not zero, or with nothing. Assumes nothing.
-use mathlib.Core.Path.{sym, ◌∙◌}
+use Rattle.std.proofs.Common.{◌≡◌, ℕ, ◌+◌, ◌-◌, ◌<◌, sym, ◌∙◌, arith}
 use Rattle.products.specs.Places.{used_all, used-none, used-less}
 use Rattle.products.proofs.used_length.Goals as goal
 
-pub loop-n-init : goal.loop-n-init
-loop-n-init c = used_all _ _ _ _
+last_place : {n : ℕ} → 0 < n → n - 1 + 1 ≡ n
+last_place some = omega arith
+
+pub loop-last-init : goal.loop-last-init
+loop-last-init c = used_all _ _ _ _
 
 pub returns-then-entry-ne0 : goal.returns-then-entry-ne0
-returns-then-entry-ne0 c = record {
-  used = c.loop-n.invariant;
+returns-then-entry-ne0 c = rw (last_place c.loop-last-test.true) record {
+  used = c.loop-last.invariant;
   least = λ _ zero _. c.if-entry-ne0.true (c.entry.ensures ∙ zero);
 }
 
 pub returns-then-entry-ne0-2 : goal.returns-then-entry-ne0-2
-returns-then-entry-ne0-2 c = record {
-  used = c.loop-n.invariant;
-  least = λ _ _ zero. c.if-entry-ne0-2.true (c.entry-in-loop-n.ensures ∙ zero);
+returns-then-entry-ne0-2 c = rw (last_place c.loop-last-test.true) record {
+  used = c.loop-last.invariant;
+  least = λ _ _ zero. c.if-entry-ne0-2.true (c.entry-in-loop-last.ensures ∙ zero);
 }
 
-pub loop-n-preserved : goal.loop-n-preserved
-loop-n-preserved c = used-less _ _ _ _ _ c.loop-n-test.true
-    c.loop-n.invariant
+pub loop-last-preserved : goal.loop-last-preserved
+loop-last-preserved c = used-less _ _ _ _ _ c.loop-last-test.true
+    c.loop-last.invariant
     (sym c.entry.ensures ∙ c.if-entry-ne0.false)
-    (sym c.entry-in-loop-n.ensures ∙ c.if-entry-ne0-2.false)
+    (sym c.entry-in-loop-last.ensures ∙ c.if-entry-ne0-2.false)
 
 pub returns : goal.returns
-returns c = used-none c.loop-n-test.false c.loop-n.invariant
+returns c =
+    let none : c.loop-last.last ≡ 0 = omega arith in
+    rw none at (used-none c.loop-last-test.false c.loop-last.invariant)

@@ -8,8 +8,8 @@ use Rattle.definitions.specs.Number.{negative}
 use Rattle.residue.proofs.negative.Goals as goal
 
 pub overflow_sub-result : goal.overflow_sub-result
-overflow_sub-result c = omega (arith, mod-lt c.args.x c.requires.positive, c.remainder.ensures)
+overflow_sub-result c = omega (arith, mod-lt c.args.x c.args.m.is.positive, c.remainder.ensures)
 
 pub returns : goal.returns
 unfolding negative
-returns c = ap (λ r. c.args.m - r) c.remainder.ensures
+returns c = ap (λ r. c.args.m.value - r) c.remainder.ensures

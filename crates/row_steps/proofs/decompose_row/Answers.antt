@@ -3,25 +3,23 @@ use native.Mathlib.Omega.{arith}
 use Rattle.row_steps.specs.DecomposeRow.{multiplying-starts, multiplying-summands, multiplying-next, multiplying-ends}
 use Rattle.row_steps.proofs.decompose_row.Goals as goal
 
-pub reciprocal-reciprocal-requires : goal.reciprocal-reciprocal-requires
-reciprocal-reciprocal-requires c = omega (arith, c.requires.p_below)
+pub new-modulus-requires : goal.new-modulus-requires
+new-modulus-requires c = omega (arith, c.requires.p_below)
 
 pub loop-i-init : goal.loop-i-init
 loop-i-init c = multiplying-starts _ _ _ _ _ _ _ c.requires
 
 pub combine-v-requires : goal.combine-v-requires
-combine-v-requires c = (
-  multiplying-summands _ _ _ _ _ _ _ c.requires _ _ _ _ _
-      c.loop-i-test.true c.loop-i.invariant _ _
-      c.entry-above.ensures c.entry-next.ensures,
-  c.reciprocal-reciprocal.ensures,
-)
+combine-v-requires c = rw c.new-modulus.ensures (
+    multiplying-summands _ _ _ _ _ _ _ c.requires _ _ _ _ _
+    c.loop-i-test.true c.loop-i.invariant _ _
+    c.entry-above.ensures c.entry-next.ensures)
 
 pub loop-i-preserved : goal.loop-i-preserved
 loop-i-preserved c =
     multiplying-next _ _ _ _ _ _ _ c.requires _ _ _ _ _
     c.loop-i-test.true c.loop-i.invariant _ _
-    c.entry-above.ensures c.entry-next.ensures _ c.combine-v.ensures
+    c.entry-above.ensures c.entry-next.ensures _ (rw c.new-modulus.ensures at c.combine-v.ensures)
 
 pub shape_of-current : goal.shape_of-current
 shape_of-current c = c.loop-i.invariant.filling.same_length

@@ -6,15 +6,15 @@ use Rattle.series.proofs.coefficient.Goals as goal
 
 pub sum_at-sum-requires : goal.sum_at-sum-requires
 sum_at-sum-requires c =
-    coefficient-input _ _ _ _ _ _ _ _ c.requires _ _ c.excess-first.ensures
-    c.excess-at.ensures
+    coefficient-input _ _ _ _ _ _ _ c.requires _ _ c.saturating_sub-first.ensures
+    c.saturating_sub-at.ensures
 
 pub overflow_add-top : goal.overflow_add-top
 overflow_add-top c =
-    omega (arith, coefficient-fits _ _ _ _ _ _ _ _ c.requires _ _ _ c.reversed_entry-top.ensures c.negative-less.ensures)
+    omega (arith, coefficient-fits _ _ _ _ _ _ _ c.requires _ _ _ c.reversed_entry-top.ensures c.negative-less.ensures)
 
 pub returns : goal.returns
 returns c =
-    coefficient-is _ _ _ _ _ _ _ _ c.requires _ _ _ _ _ _ c.excess-first.ensures
-    c.excess-at.ensures c.sum_at-sum.ensures
-    c.reversed_entry-top.ensures c.negative-less.ensures c.product_by.ensures
+    coefficient-is _ _ _ _ _ _ _ c.requires _ _ _ _ _ _ c.saturating_sub-first.ensures
+    c.saturating_sub-at.ensures c.sum_at-sum.ensures
+    c.reversed_entry-top.ensures c.negative-less.ensures c.product.ensures

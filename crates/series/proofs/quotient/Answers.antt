@@ -3,23 +3,21 @@ use native.Mathlib.Omega.{arith}
 use Rattle.series.specs.Division.{dividing-starts, dividing-input, dividing-next, dividing-ends}
 use Rattle.series.proofs.quotient.Goals as goal
 
-pub reciprocal-reciprocal-requires : goal.reciprocal-reciprocal-requires
-reciprocal-reciprocal-requires c = omega (arith, c.requires.divides.modulus.least)
+pub new-modulus-requires : goal.new-modulus-requires
+new-modulus-requires c = omega (arith, c.requires.divides.modulus.least)
 
 pub loop-k-init : goal.loop-k-init
 loop-k-init c = dividing-starts _ _ _ _ _ _ _ c.requires
 
 pub coefficient-requires : goal.coefficient-requires
 coefficient-requires c =
-    dividing-input _ _ _ _ _ _ _ c.requires _ _ c.loop-k.invariant _
-    c.reciprocal-reciprocal.ensures
-    c.loop-k-test.true
+    rw c.new-modulus.ensures (dividing-input _ _ _ _ _ _ _ c.requires _ _ c.loop-k.invariant c.loop-k-test.true)
 
 pub loop-k-preserved : goal.loop-k-preserved
 loop-k-preserved c =
     dividing-next _ _ _ _ _ _ _ c.requires _ _ c.loop-k.invariant
     c.loop-k-test.true _
-    c.coefficient.ensures
+    (rw c.new-modulus.ensures at c.coefficient.ensures)
 
 pub shape_of-output : goal.shape_of-output
 shape_of-output c = c.loop-k.invariant.written.same_length

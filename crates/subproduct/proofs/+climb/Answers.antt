@@ -8,7 +8,7 @@ use Rattle.subproduct.proofs.+climb.Goals as goal
 pub returns-then-pairs-eq1 : goal.returns-then-pairs-eq1
 returns-then-pairs-eq1 t c =
     climb-one c.requires c.if-pairs-eq1.true
-    c.row_entry-x.ensures c.row_entry-y.ensures c.climb_leaf.ensures
+    c.row_entry-x.ensures c.row_entry-y.ensures c.store.ensures
 
 pub climb-requires : goal.climb-requires
 climb-requires t c =

@@ -5,12 +5,18 @@ use native.Mathlib.Omega.{arith}
 use Rattle.subproduct.specs.Descend.{descend-one, descend-one-output, descend-left, descend-pair, descend-right, descend-output}
 use Rattle.subproduct.proofs.+descend.Goals as goal
 
-pub descend_leaf-requires : goal.descend_leaf-requires
-descend_leaf-requires t c = descend-one c.requires c.if-pairs-eq1.true
+pub bounds-w-first : goal.bounds-w-first
+bounds-w-first t c = (descend-one c.requires c.if-pairs-eq1.true).first_inside
+
+pub bounds-w-second : goal.bounds-w-second
+bounds-w-second t c = (descend-one c.requires c.if-pairs-eq1.true).second_inside
+
+pub store-requires : goal.store-requires
+store-requires t c = (omega arith, (descend-one c.requires c.if-pairs-eq1.true).inside)
 
 pub returns-then-pairs-eq1 : goal.returns-then-pairs-eq1
 returns-then-pairs-eq1 t c =
-    descend-one-output c.requires c.if-pairs-eq1.true c.descend_leaf.ensures
+    descend-one-output c.requires c.if-pairs-eq1.true c.store.ensures
 
 pub descend-requires : goal.descend-requires
 descend-requires t c =

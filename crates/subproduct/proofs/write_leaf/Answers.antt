@@ -14,6 +14,6 @@ overflow_add-at-3 c =
 pub returns : goal.returns
 returns c =
     leaf-written c.requires
-    c.combine-b0.ensures c.combine-b1.ensures
-    c.combine-c0.ensures c.combine-c1.ensures c.combine-c2.ensures
-    c.store_three.ensures c.store_three-2.ensures c.store_three-3.ensures c.store_three-4.ensures
+    (rw c.new-modulus.ensures at c.combine-b0.ensures) (rw c.new-modulus.ensures at c.combine-b1.ensures)
+    (rw c.new-modulus.ensures at c.combine-c0.ensures) (rw c.new-modulus.ensures at c.combine-c1.ensures) (rw c.new-modulus.ensures at c.combine-c2.ensures)
+    c.store.ensures c.store-2.ensures c.store-3.ensures c.store-4.ensures

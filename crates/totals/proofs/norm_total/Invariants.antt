@@ -1,11 +1,8 @@
--- The loop of `norm_total`: it adds one term a turn (`Totalling`). The measure is what is left of n. Assumes nothing.
-use Prim.Native.Nat.{◌*◌, ◌-◌}
+-- The loop of `norm_total`: it adds one term a turn (`Totalling`). Assumes nothing.
+use Prim.Native.Nat.{◌*◌}
 use lib.ListN.{get_or}
 use Rattle.totals.specs.Totals.{Totalling}
 use Rattle.totals.proofs.norm_total.Given as goal
 
 abbrev pub invariant-loop-i : goal.invariant-loop-i
 invariant-loop-i l = Totalling l.m l.n (λ k. get_or l.u k 0 * get_or l.v k 0 * get_or l.norm k 0) l.total l.i
-
-abbrev pub decreases-loop-i : goal.decreases-loop-i
-decreases-loop-i l = l.n - l.i

@@ -11,12 +11,12 @@ returns-in-Refused-below c =
     above-refused _ _ _ c.modulus-range.ensures c.in_default.is _ c.number_below-below.ensures _
     c.in-Refused-below.is
 
-pub returns-in-Found : goal.returns-in-Found
-returns-in-Found c =
+pub returns-in-Ok : goal.returns-in-Ok
+returns-in-Ok c =
     inverse-found _ _ _ c.modulus-range.ensures c.in_default.is _ c.number_below-below.ensures
-    c.in_default-below.is _ (inverted-found _ _ c.invert.ensures c.in-Found.is)
+    c.in_default-below.is _ (inverted-found _ _ c.invert.ensures c.in-Ok.is)
 
-pub returns-in-Absent : goal.returns-in-Absent
-returns-in-Absent c =
+pub returns-in-Err : goal.returns-in-Err
+returns-in-Err c =
     inverse-absent _ _ _ c.modulus-range.ensures c.in_default.is _ c.number_below-below.ensures
-    c.in_default-below.is _ (inverted-absent _ _ c.invert.ensures c.in-Absent.is)
+    c.in_default-below.is _ (inverted-absent _ _ c.invert.ensures c.in-Err.is)

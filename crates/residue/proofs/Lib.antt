@@ -1,0 +1,2 @@
+-- Lemmas of this crate. Assumes nothing.
+pub mod Running
