@@ -1,15 +1,17 @@
 -- A family, its closing row and the inverses, lent whole, are what the steps take: n is the number of rows and one more.
 -- Proved: the rows with the closing row, and these from the second on, can be lent to the tree; what it leaves of both is F_n and G_{n-1};
 -- what the moments and Decompose assume. Assumes nothing.
-use Rattle.std.proofs.Common.{◌≡◌, ◌∙◌, ap, ap₂, sym, List, ◌++◌, ℕ, suc, ◌+◌, ◌*◌, ◌-◌, ◌<◌, ◌≤◌, length, take, drop, take_all, length-take-le, subst, get_or, get_or-take, replicate, set, add-one, arith}
+use Rattle.std.proofs.Common.{◌≡◌, ◌∙◌, refl, ap, ap₂, sym, List, ◌++◌, ℕ, suc, ◌+◌, ◌*◌, ◌-◌, ◌<◌, ◌≤◌, length, take, drop, take_all, length-take-le, subst, get_or, get_or-take, replicate, set, add-one, arith}
 use Rattle.definitions.specs.Answers.{cleared}
-use Rattle.definitions.specs.Conversion.{expand}
-use Rattle.definitions.specs.Family.{Family, Row, RowBelow, Curve, family, ones, rows, size}
+use Rattle.definitions.specs.Conversion.{expand, decompose}
+use Rattle.definitions.specs.Family.{Family, Row, RowBelow, Curve, family, ones}
 use Rattle.definitions.specs.Refusals.{work_length}
-use Rattle.lists.specs.Held.{Holds, Output}
+use Rattle.lists.specs.Held.{Output}
 use Rattle.lists.specs.Inverses.{Inverts}
 use Rattle.lists.specs.Lent.{LentRows, lent}
 use Rattle.lists.specs.Lending.{Lending, taken-lending}
+use Rattle.lists.specs.Whole.{written-whole}
+use Rattle.theory.specs.Closing.{closed_by}
 use Rattle.tree_model.specs.Extended.{last_unit}
 use Rattle.tree_model.proofs.Extended.{last_unit-length}
 use Rattle.tree_model.specs.Tree.{tree_expand}
@@ -85,6 +87,12 @@ module _ {m : ℕ} {a b c : List ℕ} {close : Row} (lending : Lending (family m
     work_long = working;
   }
 
+  pub decompose-whole : (u : List ℕ) {output output' work work' : List ℕ} → length u ≡ n → length output ≡ n
+      → Output (decompose (lent m (n - 1) a b c close) (take n u)) n output output' work work'
+      → output' ≡ decompose (record { m = m; a = a; b = b; c = c; close = close }) u
+  decompose-whole u {output} long room left =
+      left.written ∙ written-whole _ output n room ∙ ap₂ decompose closed-lent (take_all n u (omega (arith, long)))
+
   -- ---- the rows with the closing row, and these from the second on
   module _ {xs ys zs : List ℕ} (ex : Extends a (length a) close.a xs) (ey : Extends b (length b) close.b ys)
       (ez : Extends c (length c) close.c zs) where
@@ -136,13 +144,16 @@ module _ {m : ℕ} {a b c : List ℕ} {close : Row} (lending : Lending (family m
         wiped = wiped;
       }
 
+      more : n ≡ suc (n - 1)
+      more = omega (arith, count)
+
       numerator-left : Output (tree_expand (lent m (n - 1) (rest xs) (rest ys) (rest zs) ones) (last_unit (n - 1))) (suc (n - 1))
           numerator (numerator' ++ drop n numerator) work' work''
       numerator-left = record {
         written = ap₂ (λ t k. t ++ drop k numerator)
             (second ∙ by-tree others-lending
             ∙ ap (λ r. tree_expand others_of (last_unit r)) (length-take-le (n - 1) (drop 1 xs) other-rows.a_holds.long)
-            ∙ ap (λ g. tree_expand g (last_unit (n - 1))) (sym others-are)) (omega (arith, count));
+            ∙ ap (λ g. tree_expand g (last_unit (n - 1))) (sym others-are)) more;
         wiped = again;
       }
 
@@ -154,3 +165,11 @@ module _ {m : ℕ} {a b c : List ℕ} {close : Row} (lending : Lending (family m
           divisor (divisor' ++ drop (n + 1) divisor) numerator (numerator' ++ drop n numerator) work work'') same
           (subst (λ f. Polynomials f n divisor (divisor' ++ drop (n + 1) divisor) numerator (numerator' ++ drop n numerator) work work'')
           closed-lent (polynomials-are closed dx dy dz input divisor-left numerator-left))
+
+-- what Decompose assumes, of a curve and its family
+pub decompose-asked : {m : ℕ} {a b c : List ℕ} {close : Row} {v w u output work : List ℕ} {y z : ℕ} → Lending (family m a b c)
+    → ClosedBy (family m a b c) close v y → Inverts m 1 (length a) c w close.c z → Curve (closed_by close (family m a b c)) u → length u ≤ 128
+    → length output ≡ length u → work_length ≤ length work → DecomposeInput m a b c v w close y z u (length u) output work
+decompose-asked lending beside c_inverts curve few room working =
+    decompose-input lending beside.closing (omega (arith, curve.long)) few beside.a_inverts c_inverts refl
+    (λ i l. curve.below i (omega (arith, curve.long))) room working

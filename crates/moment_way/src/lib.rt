@@ -21,7 +21,8 @@ ghost use Rattle.moment_way.specs.Polynomials.{Extends};
 
 use lists::{Family, clear, copy, row_entry, zeros};
 use products::{transposed, used_length};
-use residue::{negative, product_by};
+use reduction::Modulus;
+use residue::negative;
 use series::quotient;
 use std::marker::Model;
 use tree::{adjoint, expand};
@@ -55,28 +56,13 @@ impl<'a> Model for Inverted<'a> {
     ghost invariant = { λ f. ClosedBy f.family (F.row_of f.close.a f.close.b f.close.c) f.a_inverses.now f.close_a_inverse };
 }
 
-// A local list with room for every moment, all zeros.
-fn blank() -> [u32; 255]
-    ensures { result ≡ replicate 255 0 }
-{
-    [0u32; 255]
-}
-
-// A local list for the product of the coefficients with the Hankel matrix of the moments, all zeros: room for 128 terms, from place 128
-// on for 255 moments, and from place 383 on for 128 coefficients.
-fn hankel_room() -> [u32; 511]
-    ensures { result ≡ replicate 511 0 }
-{
-    [0u32; 511]
-}
-
 // The entries of a list, and then one more.
 fn extend(list: &[u32], last: u32) -> [u32; 128]
     requires { length list.now < 128 }
     ensures { Extends list.now (length list.now) last result }
 {
     let count = list.len();
-    let mut rows = zeros();
+    let mut rows = zeros::<128>();
     copy(list, count, &mut rows);
     rows[count] = last;
     rows
@@ -91,7 +77,7 @@ fn last_polynomial(family: &Family, output: &mut [u32], work: &mut [u32])
     ensures wiped { work.new ≡ cleared work.old }
 {
     let r = family.a.len();
-    let mut curve = blank();
+    let mut curve = zeros::<255>();
     curve[r] = 1;
     expand(family, &curve[..r + 1], output, work);
 }
@@ -130,11 +116,11 @@ fn leading_inverse(m: u32, a_inverses: &[u32], close_a_inverse: u32, n: usize) -
     ensures { result ≡ running_product m (entry_or a_inverses.now (n - 1) close_a_inverse) n }
 {
     let last = n - 1;
-    let reciprocal = reduction::reciprocal(m);
+    let modulus = Modulus::new(m);
     let mut result: u32 = 1;
     for i in 0..n {
         let factor = row_entry(a_inverses, last, i, close_a_inverse);
-        result = product_by(m, reciprocal, result, factor);
+        result = modulus.product(result, factor);
     }
     result
 }
@@ -148,40 +134,54 @@ pub fn moments(inverted: &Inverted, output: &mut [u32], work: &mut [u32])
     ensures wiped { work.new ≡ cleared work.old }
 {
     let n = inverted.family.a.len() + 1;
-    let top = leading_inverse(inverted.family.modulus, inverted.a_inverses, inverted.close_a_inverse, n);
-    let mut divisor = blank();
-    let mut numerator = blank();
+    let top = leading_inverse(
+        inverted.family.modulus,
+        inverted.a_inverses,
+        inverted.close_a_inverse,
+        n,
+    );
+    let mut divisor = zeros::<255>();
+    let mut numerator = zeros::<255>();
     polynomials(inverted, &mut divisor, &mut numerator, work);
-    quotient(inverted.family.modulus, &numerator, &divisor, n, top, 2 * n - 1, output);
+    quotient(
+        inverted.family.modulus,
+        &numerator,
+        &divisor,
+        n,
+        top,
+        2 * n - 1,
+        output,
+    );
 }
 
-// Each entry times the inverse of its norm, (-1)^i a_{i+1} / (c_2 .. c_{i+1}); c_inverses[i] is the inverse of c_{i+1}.
+// Each of the n entries times the inverse of its norm, (-1)^i a_{i+1} / (c_2 .. c_{i+1}); c_inverses[i] is the inverse of c_{i+1}.
 fn divide_by_norms(
-    inverted: &Inverted,
+    m: u32,
+    a: &[u32],
     c_inverses: &[u32],
+    close_a: u32,
     close_c_inverse: u32,
     output: &mut [u32],
 )
-    requires { DivideInput inverted.now.m inverted.now.a c_inverses.now (size inverted.now) output.old }
+    requires { DivideInput m a.now c_inverses.now (length output.old) output.old }
     ensures { output.new ≡ filled
-        (divided inverted.now.m inverted.now.a c_inverses.now inverted.now.close.a close_c_inverse (size inverted.now) output.old)
-        (size inverted.now) output.old }
+        (divided m a.now c_inverses.now close_a close_c_inverse (length output.old) output.old) (length output.old) output.old }
 {
-    let m = inverted.family.modulus;
-    let n = inverted.family.a.len() + 1;
+    let n = output.len();
     let last = n - 1;
-    let reciprocal = reduction::reciprocal(m);
+    let modulus = Modulus::new(m);
     let mut signed: u32 = 1;
     for i in 0..n {
-        let x = row_entry(inverted.family.a, last, i, inverted.close.a);
-        let y = product_by(m, reciprocal, signed, x);
-        output[i] = product_by(m, reciprocal, output[i], y);
+        let x = row_entry(a, last, i, close_a);
+        let y = modulus.product(signed, x);
+        output[i] = modulus.product(output[i], y);
         let w = row_entry(c_inverses, last, i + 1, close_c_inverse);
-        signed = product_by(m, reciprocal, signed, negative(m, reciprocal, w));
+        signed = modulus.product(signed, negative(modulus, w));
     }
 }
 
-// Decompose of n coefficients, from n = 2 on, by F^t H F = D: the product with the moments, Adjoint, and the norms.
+// Decompose of n coefficients, from n = 2 on, by F^t H F = D: the product with the moments, Adjoint, and the norms. The product is taken in
+// one local list: room for 128 terms, from place 128 on for 255 moments, and from place 383 on for 128 coefficients.
 fn decompose_tree(
     inverted: &Inverted,
     c_inverses: &[u32],
@@ -201,7 +201,7 @@ fn decompose_tree(
 {
     let m = inverted.family.modulus;
     let n = coefficients.len();
-    let mut lists = hankel_room();
+    let mut lists = zeros::<511>();
     moments(inverted, &mut lists[128..127 + 2 * n], work);
     copy(coefficients, n, &mut lists[383..]);
     let used = used_length(&lists, 383, 383, n);
@@ -219,7 +219,14 @@ fn decompose_tree(
         n + half - 1,
     );
     adjoint(&inverted.family, &lists[..n], output, work);
-    divide_by_norms(inverted, c_inverses, close_c_inverse, output);
+    divide_by_norms(
+        m,
+        inverted.family.a,
+        c_inverses,
+        inverted.close.a,
+        close_c_inverse,
+        output,
+    );
 }
 
 // The curve of the n coefficients in powers of x. With one coefficient there is no tree, and the answer is that of F_0.
@@ -245,5 +252,12 @@ pub fn decompose(
         clear(work);
         return;
     }
-    decompose_tree(inverted, c_inverses, close_c_inverse, coefficients, output, work);
+    decompose_tree(
+        inverted,
+        c_inverses,
+        close_c_inverse,
+        coefficients,
+        output,
+        work,
+    );
 }

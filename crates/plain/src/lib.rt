@@ -15,7 +15,8 @@ ghost use Rattle.plain.specs.Decomposing.{Decomposes, negative_product};
 ghost use Rattle.plain.specs.Input.{NormsCoreInput};
 
 use lists::{Family, copy, row_entry, zeros};
-use residue::{negative, product_by};
+use reduction::Modulus;
+use residue::negative;
 use row_steps::{adjoint_row, decompose_row, expand_row};
 
 // The coefficients in powers of x, downwards (Clenshaw): after i steps current is B_{n-i}, of i coefficients, and older
@@ -28,8 +29,8 @@ pub fn expand(family: &Family, curve: &[u32], output: &mut [u32])
 {
     let n = curve.len();
     let last = n - 1;
-    let mut current = zeros();
-    let mut older = zeros();
+    let mut current = zeros::<128>();
+    let mut older = zeros::<128>();
     for i in 0..n {
         let k = last - i;
         let x = curve[k];
@@ -52,8 +53,8 @@ pub fn adjoint(family: &Family, curve: &[u32], output: &mut [u32])
     let m = family.modulus;
     let n = curve.len();
     let last = n - 1;
-    let mut current = zeros();
-    let mut older = zeros();
+    let mut current = zeros::<128>();
+    let mut older = zeros::<128>();
     copy(curve, n, &mut current);
     for j in 0..n {
         output[j] = current[0];
@@ -106,9 +107,9 @@ fn negative_products(m: u32, list: &[u32], factors: &[u32], output: &mut [u32])
     ensures { output.new
         ≡ filled (negative_product m list.now factors.now) (length list.now) output.old }
 {
-    let reciprocal = reduction::reciprocal(m);
+    let modulus = Modulus::new(m);
     for i in 0..list.len() {
-        output[i] = product_by(m, reciprocal, negative(m, reciprocal, list[i]), factors[i]);
+        output[i] = modulus.product(negative(modulus, list[i]), factors[i]);
     }
 }
 
@@ -128,10 +129,10 @@ pub fn decompose(inverted: &Family, coefficients: &[u32], output: &mut [u32])
         return;
     }
     let last = n - 1;
-    let mut rise = zeros();
-    let mut stay = zeros();
-    let mut fall = zeros();
-    let mut current = zeros();
+    let mut rise = zeros::<128>();
+    let mut stay = zeros::<128>();
+    let mut fall = zeros::<128>();
+    let mut current = zeros::<128>();
     copy(inverted.a, last, &mut rise);
     negative_products(inverted.modulus, inverted.b, inverted.a, &mut stay);
     negative_products(inverted.modulus, inverted.c, inverted.a, &mut fall);
@@ -167,12 +168,12 @@ pub fn norms(
 {
     let n = output.len();
     let last = n - 1;
-    let reciprocal = reduction::reciprocal(m);
+    let modulus = Modulus::new(m);
     let mut signed: u32 = 1;
     for i in 0..n {
         let p = row_entry(a_inverses, last, i, close_a_inverse);
-        output[i] = product_by(m, reciprocal, signed, p);
+        output[i] = modulus.product(signed, p);
         let r = row_entry(c, last, i + 1, close_c);
-        signed = product_by(m, reciprocal, signed, negative(m, reciprocal, r));
+        signed = modulus.product(signed, negative(modulus, r));
     }
 }

@@ -3,7 +3,7 @@
 // curve: n entries of the curve and of the output, n - 1 rows.
 #![tactic(auto)]
 
-ghost use Rattle.std.specs.Prelude.{◌≡◌, [], ◌∷◌, ◌++◌, ◌+◌, ◌-◌, ◌≤◌, length, take, drop};
+ghost use Rattle.std.specs.Prelude.{◌≡◌, ◌++◌, ◌+◌, ◌≤◌, length, take, drop};
 ghost use Rattle.definitions.specs.Answers.{cleared};
 ghost use Rattle.definitions.specs.Conversion.{expand, adjoint};
 ghost use Rattle.definitions.specs.Family.{Curve};
@@ -16,8 +16,9 @@ ghost use Rattle.tree.specs.RootPair.{StretchInput, stretched, PairInput, PairOu
 ghost use Rattle.tree.specs.Core.{TreeOutput, expand_vectors, adjoint_vectors};
 
 use convolution::products_at;
-use lists::{Family, clear, copy, row_entry};
+use lists::{Family, clear, copy, row_entry, store};
 use products::transposed;
+use reduction::Modulus;
 use subproduct::{build, climb, descend};
 
 // The level of the least tree that covers n rows.
@@ -39,22 +40,20 @@ fn pairs_for(level: usize) -> usize
 
 // The coefficient of x^k in v_0 F_0 + v_1 F_1, where v_0 and v_1 are the lists of span numbers from place at on, and first is F_1.
 fn root_coefficient(
-    m: u32,
-    reciprocal: u64,
+    m: Modulus,
     w: &[u32],
     at: usize,
     span: usize,
     first: &[u32],
     k: usize,
 ) -> u32
-    requires { CoefficientInput m reciprocal w.now at span first.now k }
-    ensures { result ≡ root_entry m w.now at span first.now k }
+    requires { CoefficientInput m.value w.now at span first.now k }
+    ensures { result ≡ root_entry m.value w.now at span first.now k }
 {
     let one = [1u32, 0];
     let second = at + span;
     products_at(
         m,
-        reciprocal,
         0,
         &w[at..at + span],
         &one,
@@ -78,9 +77,9 @@ fn expand_root(
     ensures { output.new ≡ plus_product m n (part w.now at span) (part w.now (at + span) span)
         first.now ++ drop n output.old }
 {
-    let reciprocal = reduction::reciprocal(m);
+    let modulus = Modulus::new(m);
     for k in 0..n {
-        output[k] = root_coefficient(m, reciprocal, w, at, span, first, k);
+        output[k] = root_coefficient(modulus, w, at, span, first, k);
     }
 }
 
@@ -95,15 +94,6 @@ fn stretch(curve: &[u32], n: usize, first: usize, w: &mut [u32], at: usize, span
     }
 }
 
-fn store_two(w: &mut [u32], at: usize, x: u32, y: u32)
-    requires { at + 2 ≤ length w.old }
-    ensures { w.new ≡ written w.old at (x ∷ y ∷ []) }
-{
-    let next = at + 1;
-    w[at] = x;
-    w[next] = y;
-}
-
 // Writes the pair of the root from place at on: the transposed products of the curve with F_0 = 1, which is the curve, and with
 // F_1 = b + a x, of which b meets the curve and a the curve from its second entry on. Behind the pair b and a are left, and behind them the
 // curve from its second entry on.
@@ -115,7 +105,7 @@ fn root_pair(m: u32, b: u32, a: u32, curve: &[u32], n: usize, w: &mut [u32], at:
     let behind = second + span;
     let onward = behind + 2;
     stretch(curve, n, 0, w, at, span);
-    store_two(w, behind, b, a);
+    store(w, behind, [b, a]);
     stretch(curve, n, 1, w, onward, span);
     transposed(m, w, second, span, behind, behind + 1, 1, at, onward, span);
 }

@@ -10,11 +10,11 @@ pub expand-requires-clause-curve : goal.expand-requires-clause-curve
 expand-requires-clause-curve c =
     let few = rw (← c.family.view_is) at c.requires.few in
     let room = rw (← c.family.view_is) at c.requires.room in
-    rw (← c.family.view_is) (unit-curve c.blank-curve.ensures c.family.invariant few _ _ room c.requires.work)
+    rw (← c.family.view_is) (unit-curve c.zeros-curve.ensures c.family.invariant few _ _ room c.requires.work)
 
 pub returns-clause-written : goal.returns-clause-written
 returns-clause-written c =
     let few = rw (← c.family.view_is) at c.requires.few in
     let room = rw (← c.family.view_is) at c.requires.room in
-    c.expand.ensures.written ∙ ap (expand c.args.family.now) (unit c.blank-curve.ensures c.family.invariant few _ _ room c.requires.work)
+    c.expand.ensures.written ∙ ap (expand c.args.family.now) (unit c.zeros-curve.ensures c.family.invariant few _ _ room c.requires.work)
     ∙ ap (λ f. expand c.args.family.now (last_unit (rows f))) c.family.view_is

@@ -15,18 +15,19 @@ quotient-requires c =
     let made = rw (← c.inverted-inside.view_is) at (rw (← c.inverted.view_is) at c.polynomials.ensures) in
     moments-quotient
     (moments-input c.inverted-inside.invariant beside.closing refl (omega (arith, few)) beside.a_inverts (rw add-one room) c.requires.work)
-    c.blank-divisor.ensures c.blank-numerator.ensures
+    c.zeros-divisor.ensures c.zeros-numerator.ensures
     (polynomials-lent c.inverted-inside.invariant beside.closing refl (omega (arith, few)) made) c.leading_inverse-top.ensures
 
 pub returns-clause-written : goal.returns-clause-written
 returns-clause-written c =
     let few = rw (← c.inverted-inside.view_is) at (rw (← c.inverted.view_is) at c.requires.few) in
-    let room = rw add-one (rw (← c.inverted-inside.view_is) at (rw (← c.inverted.view_is) at c.requires.room)) in
+    let room = rw (← c.inverted-inside.view_is) at (rw (← c.inverted.view_is) at c.requires.room) in
     let beside = rw (← c.inverted-inside.view_is) at c.inverted.invariant in
     let made = rw (← c.inverted-inside.view_is) at (rw (← c.inverted.view_is) at c.polynomials.ensures) in
+    let closed = closed-lent c.inverted-inside.invariant beside.closing refl (omega (arith, few)) in
+    let input = moments-input c.inverted-inside.invariant beside.closing refl (omega (arith, few)) beside.a_inverts (room ∙ rw add-one refl)
+    c.requires.work in
+    let left = moments-are input c.zeros-divisor.ensures c.zeros-numerator.ensures
+    (polynomials-lent c.inverted-inside.invariant beside.closing refl (omega (arith, few)) made) c.quotient.ensures in
     rw (← c.inverted.view_is) (rw (← c.inverted-inside.view_is)
-    ((moments-are
-    (moments-input c.inverted-inside.invariant beside.closing refl (omega (arith, few)) beside.a_inverts room c.requires.work)
-    c.blank-divisor.ensures c.blank-numerator.ensures
-    (polynomials-lent c.inverted-inside.invariant beside.closing refl (omega (arith, few)) made) c.quotient.ensures).written
-    ∙ written-whole _ c.args.output.now _ room ∙ ap moments (closed-lent c.inverted-inside.invariant beside.closing refl (omega (arith, few)))))
+    (left.written ∙ written-whole _ c.args.output.now _ (room ∙ rw add-one refl) ∙ ap moments closed))

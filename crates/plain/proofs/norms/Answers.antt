@@ -11,8 +11,8 @@ pub loop-i-preserved : goal.loop-i-preserved
 loop-i-preserved c =
     norming-next c.requires c.loop-i-test.true
     c.loop-i.invariant
-    c.row_entry-p.ensures c.product_by.ensures
-    c.row_entry-r.ensures c.negative.ensures c.product_by-signed.ensures
+    c.row_entry-p.ensures (rw c.new-modulus.ensures at c.product.ensures)
+    c.row_entry-r.ensures (rw c.new-modulus.ensures at c.negative.ensures) (rw c.new-modulus.ensures at c.product-signed.ensures)
 
 pub shape_of-output : goal.shape_of-output
 shape_of-output c = c.loop-i.invariant.written.same_length
