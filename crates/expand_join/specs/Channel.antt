@@ -2,15 +2,14 @@
 -- Proved: what the core asks and writes where its lists begin with remainders (channel-input, channel-result); what joining asks of two outputs that
 -- begin with expanded curves, and what it writes (both-held, both-joined); what each channel asks, from the call's tests (channel-asked).
 -- Assumes nothing.
-use Rattle.std.specs.Prelude.{List, [], ◌++◌, ◌≡◌, refl, ℕ, suc, ◌-◌, ◌<◌, ◌≤◌, ℤ, length, get_or, take, drop, replicate}
+use Rattle.std.specs.Prelude.{List, [], ◌++◌, ◌≡◌, refl, ℕ, suc, ◌-◌, ◌<◌, ◌≤◌, ℤ, length, get_or, take, drop, replicate, Ok}
 use Rattle.std.proofs.Common.{sym, ◌∙◌, ap, ap₂, arith, length-append, take_at}
 use Rattle.std.proofs.lemmas.List.{length-map, length-replicate}
 use Rattle.std.proofs.Math.ListN.{get_or-append}
-use Rattle.definitions.specs.Answers.{answered}
+use Rattle.definitions.specs.Answers.{Answer, answered}
 use Rattle.definitions.specs.Conversion.{expand}
 use Rattle.definitions.specs.Family.{Modulus, family, ones}
 use Rattle.definitions.specs.Refusals.{verdict}
-use Rattle.definitions.specs.declared.Answer.{Answer}
 use Rattle.acceptance.specs.Stages.{stage-none}
 use Rattle.acceptance.specs.Verdicts.{none-append}
 use Rattle.lists.specs.Held.{Holds}
@@ -95,7 +94,7 @@ module _ (m : ℕ) (two : 2 ≤ m) (s : Signed) (u : List ℤ) (long : length u 
 -- ---- both channels, after the tests
 module _ (m m' k : ℕ) (pair : Paired m m' k) (a b c u : List ℤ) (output : ℕ) (r : Answer)
     (is : answered r ≡ verdict (size_tests (length a) (length b) (length c) (length u) output
-    ++ both_rows (reduced m (signed a b c)) (reduced m' (signed a b c))) []) (q : r ≡ Answer.Finished) where
+    ++ both_rows (reduced m (signed a b c)) (reduced m' (signed a b c))) []) (q : r ≡ Ok tt) where
   input : ExpandJoinInput m m' (signed a b c) u output
   unfolding expand_join_tests
   input = (expand-join-passes m m' (signed a b c) u output).0 ((none-append (moduli_tests m m') _).1 (pair-none pair, stage-none _ r is q))

@@ -12,14 +12,13 @@
 --   ThereAndBack, Agreed   of two conversions, back and forth or by both ways
 --   HandedOut          of Expand for u and for v, Moments and Norms;  Weighed  of these and the two totals
 -- The scope paper, 'The definitions'. Assumes nothing.
-use Rattle.std.specs.Prelude.{◌≡◌, List, [], ◌∷◌, ◌++◌, ℕ, ◌≤◌, length}
-use Rattle.definitions.specs.Answers.{answered, after, cleared}
+use Rattle.std.specs.Prelude.{◌≡◌, List, [], ◌∷◌, ◌++◌, ℕ, ◌≤◌, length, Err}
+use Rattle.definitions.specs.Answers.{Answer, number_of, answered, after, cleared}
 use Rattle.definitions.specs.Conversion.{expand}
 use Rattle.definitions.specs.Family.{Family, Accepted, Curve, size}
 use Rattle.definitions.specs.Orthogonality.{moments, moment_count, norms, moment_total, norm_total, ProductLaw}
 use Rattle.definitions.specs.Refusals.{Test, Verdict, finished, refused, verdict, work_length, plain_tests, tree_tests, moments_tests}
 use Rattle.definitions.specs.Refusals.{norms_tests}
-use Rattle.definitions.specs.declared.Answer.{Answer}
 use Rattle.laws.specs.declared.Totals.{Totals}
 use Rattle.laws.specs.declared.Way.{Way}
 
@@ -48,7 +47,7 @@ pub record ProductLawInput (f : Family) (u v : List ℕ) (lent : Lists) : Type 0
 -- the values and numbers of `Totals`
 abbrev pub told : Totals → Verdict
 told (Totals.Weighed x y) = finished (x ∷ y ∷ [])
-told (Totals.Refused k) = refused k
+told (Err k) = refused (number_of k)
 
 -- the uncut product weighed with the moments, and the products of the entries weighed with the norms
 abbrev pub both_totals : Family → (u v : List ℕ) → Lists → List ℕ

@@ -13,7 +13,7 @@ ghost use Rattle.prepared.specs.Held.{held};
 ghost use Rattle.prepared_model.specs.Parts.{fields};
 ghost use Rattle.prepared_model.specs.Rightness.{Sized};
 
-use definitions::Answer;
+use definitions::Refusal;
 use prepared::Prepared;
 
 // 14, 6, 7 and 12.
@@ -28,24 +28,15 @@ fn plain_verdict<'a>(
     norms: &'a [u32],
     curve: &[u32],
     output: usize,
-) -> Answer
+) -> Result<(), Refusal>
     requires { Sized (fields modulus rows a.now b.now c.now a_inverses.now c_inverses.now norms.now) }
     ensures { answered result ≡ verdict (prepared_plain_tests (fields modulus rows a.now b.now c.now
         a_inverses.now c_inverses.now norms.now) curve.now output) [] }
 {
-    let right = record_check::record(modulus, rows, a, b, c, a_inverses, c_inverses, norms);
-    let Answer::Finished = right else {
-        return right;
-    };
+    record_check::record(modulus, rows, a, b, c, a_inverses, c_inverses, norms)?;
     let n = rows as usize + 1;
-    let entries = checks::curve_length(n, curve.len());
-    let Answer::Finished = entries else {
-        return entries;
-    };
-    let place = checks::output_length(n, output);
-    let Answer::Finished = place else {
-        return place;
-    };
+    checks::curve_length(n, curve.len())?;
+    checks::output_length(n, output)?;
     checks::curve_entries(modulus, curve)
 }
 
@@ -60,25 +51,22 @@ fn norms_verdict<'a>(
     c_inverses: &'a [u32],
     norms: &'a [u32],
     output: usize,
-) -> Answer
+) -> Result<(), Refusal>
     requires { Sized (fields modulus rows a.now b.now c.now a_inverses.now c_inverses.now norms.now) }
     ensures { answered result ≡ verdict (prepared_norms_tests (fields modulus rows a.now b.now c.now
         a_inverses.now c_inverses.now norms.now) output) [] }
 {
-    let right = record_check::record(modulus, rows, a, b, c, a_inverses, c_inverses, norms);
-    let Answer::Finished = right else {
-        return right;
-    };
+    record_check::record(modulus, rows, a, b, c, a_inverses, c_inverses, norms)?;
     checks::output_length(rows as usize + 1, output)
 }
 
 // Expand, row by row. Refused with 14: the record is not right; with 6 and 7: curve or output is not n long; with 12: a curve entry is not
 // below m.
-pub fn plain_expand(family: Prepared, curve: &[u32], output: &mut [u32]) -> Answer
+pub fn plain_expand(family: Prepared, curve: &[u32], output: &mut [u32]) -> Result<(), Refusal>
     ensures { PreparedPlainCall expand (held family) curve.now (answered result)
         output.old output.new }
 {
-    let tested = plain_verdict(
+    plain_verdict(
         family.modulus,
         family.rows,
         &family.a,
@@ -89,23 +77,20 @@ pub fn plain_expand(family: Prepared, curve: &[u32], output: &mut [u32]) -> Answ
         &family.norms,
         curve,
         output.len(),
-    );
-    let Answer::Finished = tested else {
-        return tested;
-    };
+    )?;
     let b = family.b;
     let c = family.c;
     let n = family.rows as usize + 1;
     plain::expand(family.modulus, &family.a, &b, &c, curve, n, output);
-    Answer::Finished
+    Ok(())
 }
 
 // Adjoint, row by row. Refused as plain_expand is.
-pub fn plain_adjoint(family: Prepared, curve: &[u32], output: &mut [u32]) -> Answer
+pub fn plain_adjoint(family: Prepared, curve: &[u32], output: &mut [u32]) -> Result<(), Refusal>
     ensures { PreparedPlainCall adjoint (held family) curve.now (answered result)
         output.old output.new }
 {
-    let tested = plain_verdict(
+    plain_verdict(
         family.modulus,
         family.rows,
         &family.a,
@@ -116,23 +101,20 @@ pub fn plain_adjoint(family: Prepared, curve: &[u32], output: &mut [u32]) -> Ans
         &family.norms,
         curve,
         output.len(),
-    );
-    let Answer::Finished = tested else {
-        return tested;
-    };
+    )?;
     let b = family.b;
     let c = family.c;
     let n = family.rows as usize + 1;
     plain::adjoint(family.modulus, &family.a, &b, &c, curve, n, output);
-    Answer::Finished
+    Ok(())
 }
 
 // Decompose, from the top power, by the stored inverses of the a. Refused as plain_expand is, with the coefficients in the curve's place.
-pub fn plain_decompose(family: Prepared, coefficients: &[u32], output: &mut [u32]) -> Answer
+pub fn plain_decompose(family: Prepared, coefficients: &[u32], output: &mut [u32]) -> Result<(), Refusal>
     ensures { PreparedPlainCall decompose (held family) coefficients.now (answered result)
         output.old output.new }
 {
-    let tested = plain_verdict(
+    plain_verdict(
         family.modulus,
         family.rows,
         &family.a,
@@ -143,10 +125,7 @@ pub fn plain_decompose(family: Prepared, coefficients: &[u32], output: &mut [u32
         &family.norms,
         coefficients,
         output.len(),
-    );
-    let Answer::Finished = tested else {
-        return tested;
-    };
+    )?;
     let b = family.b;
     let c = family.c;
     let n = family.rows as usize + 1;
@@ -159,14 +138,14 @@ pub fn plain_decompose(family: Prepared, coefficients: &[u32], output: &mut [u32
         n,
         output,
     );
-    Answer::Finished
+    Ok(())
 }
 
 // Norms: those that are stored. Refused with 14: the record is not right; with 7: the output is not n long.
-pub fn norms(family: Prepared, output: &mut [u32]) -> Answer
+pub fn norms(family: Prepared, output: &mut [u32]) -> Result<(), Refusal>
     ensures { PreparedNormsCall (held family) (answered result) output.old output.new }
 {
-    let tested = norms_verdict(
+    norms_verdict(
         family.modulus,
         family.rows,
         &family.a,
@@ -176,10 +155,7 @@ pub fn norms(family: Prepared, output: &mut [u32]) -> Answer
         &family.c_inverses,
         &family.norms,
         output.len(),
-    );
-    let Answer::Finished = tested else {
-        return tested;
-    };
+    )?;
     lists::copy(&family.norms, family.rows as usize + 1, output);
-    Answer::Finished
+    Ok(())
 }

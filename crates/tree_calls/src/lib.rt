@@ -6,7 +6,7 @@ ghost use Rattle.definitions.specs.Answers.{answered, TreeCall, MomentsCall};
 ghost use Rattle.definitions.specs.Conversion.{expand, adjoint, decompose};
 ghost use Rattle.definitions.specs.Family.{family};
 
-use definitions::Answer;
+use definitions::Refusal;
 
 // Expand by the subproduct tree (Figure 1 of the report): the same list as plain_expand's. After an accepted call the first 16,384
 // numbers of the working list are zero. Refused as plain_expand is, and with 8: the working list is too short.
@@ -18,16 +18,13 @@ pub fn tree_expand(
     curve: &[u32],
     output: &mut [u32],
     work: &mut [u32],
-) -> Answer
+) -> Result<(), Refusal>
     ensures { TreeCall expand (family m a.now b.now c.now) curve.now (answered result)
         output.old output.new work.old work.new }
 {
-    let tested = verdicts::tree(m, a, b, c, curve, output.len(), work.len());
-    let Answer::Finished = tested else {
-        return tested;
-    };
+    verdicts::tree(m, a, b, c, curve, output.len(), work.len())?;
     tree::expand(m, a, b, c, curve, a.len() + 1, output, work);
-    Answer::Finished
+    Ok(())
 }
 
 // Adjoint by the subproduct tree (Figure 2 of the report): the same list as plain_adjoint's. The working list and the refusals are as
@@ -40,16 +37,13 @@ pub fn tree_adjoint(
     curve: &[u32],
     output: &mut [u32],
     work: &mut [u32],
-) -> Answer
+) -> Result<(), Refusal>
     ensures { TreeCall adjoint (family m a.now b.now c.now) curve.now (answered result)
         output.old output.new work.old work.new }
 {
-    let tested = verdicts::tree(m, a, b, c, curve, output.len(), work.len());
-    let Answer::Finished = tested else {
-        return tested;
-    };
+    verdicts::tree(m, a, b, c, curve, output.len(), work.len())?;
     tree::adjoint(m, a, b, c, curve, a.len() + 1, output, work);
-    Answer::Finished
+    Ok(())
 }
 
 // Decompose by the moments and the subproduct tree (Figure 3 of the report): the same list as plain_decompose's. The working list
@@ -62,14 +56,11 @@ pub fn tree_decompose(
     coefficients: &[u32],
     output: &mut [u32],
     work: &mut [u32],
-) -> Answer
+) -> Result<(), Refusal>
     ensures { TreeCall decompose (family m a.now b.now c.now) coefficients.now (answered result)
         output.old output.new work.old work.new }
 {
-    let tested = verdicts::tree(m, a, b, c, coefficients, output.len(), work.len());
-    let Answer::Finished = tested else {
-        return tested;
-    };
+    verdicts::tree(m, a, b, c, coefficients, output.len(), work.len())?;
     let mut a_inverses = lists::zeros();
     inverses::of_list(m, a, 0, a.len(), &mut a_inverses);
     let mut c_inverses = lists::zeros();
@@ -91,7 +82,7 @@ pub fn tree_decompose(
         output,
         work,
     );
-    Answer::Finished
+    Ok(())
 }
 
 // Moments: the 2n - 1 first coefficients of rev(G_{n-1}, n) / rev(F_n, n + 1), with the closing row 1 1 1 as row n. The working list is
@@ -104,14 +95,11 @@ pub fn moments(
     c: &[u32],
     output: &mut [u32],
     work: &mut [u32],
-) -> Answer
+) -> Result<(), Refusal>
     ensures { MomentsCall (family m a.now b.now c.now) (answered result)
         output.old output.new work.old work.new }
 {
-    let tested = verdicts::moments(m, a, b, c, output.len(), work.len());
-    let Answer::Finished = tested else {
-        return tested;
-    };
+    verdicts::moments(m, a, b, c, output.len(), work.len())?;
     let mut a_inverses = lists::zeros();
     inverses::of_list(m, a, 0, a.len(), &mut a_inverses);
     moment_way::moments(
@@ -128,5 +116,5 @@ pub fn moments(
         output,
         work,
     );
-    Answer::Finished
+    Ok(())
 }

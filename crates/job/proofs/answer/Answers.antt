@@ -19,7 +19,7 @@ returns-in_default c =
 pub slice_bounds-write_answer-end : goal.slice_bounds-write_answer-end
 slice_bounds-write_answer-end c =
     count_fits _ _ _ _ _ _ _ _ _ _ c.requires _ c.result_count-count.ensures
-    _ _ _ _ c.convert_parts-tested.ensures c.in-Finished.is
+    _ _ _ _ c.convert_parts-tested.ensures c.in-Ok.is
 
 pub write_answer-length-requires : goal.write_answer-length-requires
 write_answer-length-requires c =
@@ -28,4 +28,4 @@ write_answer-length-requires c =
 pub returns : goal.returns
 returns c =
     replied _ _ _ _ _ _ _ _ _ _ c.requires _ c.result_count-count.ensures
-    _ _ _ _ c.convert_parts-tested.ensures c.in-Finished.is _ _ c.write_answer-length.ensures
+    _ _ _ _ c.convert_parts-tested.ensures c.in-Ok.is _ _ c.write_answer-length.ensures

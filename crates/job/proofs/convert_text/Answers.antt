@@ -10,26 +10,26 @@ returns-in_default c =
 
 pub returns-in_default-job_form : goal.returns-in_default-job_form
 returns-in_default-job_form c =
-    no-form _ _ _ (short-text _ _ _ _ c.text_length-fits.ensures c.in-Finished.is)
+    no-form _ _ _ (short-text _ _ _ _ c.text_length-fits.ensures c.in-Ok.is)
     (subst (Formed _ _ _ _ _ _ _ _ _) c.in_default-job_form.is c.job_form.ensures)
 
 pub returns-in_default-sized : goal.returns-in_default-sized
 returns-in_default-sized c =
-    sizes-refused _ _ _ _ _ _ _ _ _ _ _ _ _ _ _ _ _ (short-text _ _ _ _ c.text_length-fits.ensures c.in-Finished.is)
+    sizes-refused _ _ _ _ _ _ _ _ _ _ _ _ _ _ _ _ _ (short-text _ _ _ _ c.text_length-fits.ensures c.in-Ok.is)
     (subst (Formed _ _ _ _ _ _ _ _ _) c.in-Job.is c.job_form.ensures)
     c.zeros-xs.ensures c.zeros-ys.ensures c.zeros-zs.ensures c.zeros-us.ensures
     _ c.sizes-sized.ensures _ c.in_default-sized.is _ c.with_length-in_default-sized.ensures
 
 pub answer-requires : goal.answer-requires
 answer-requires c =
-    ready _ _ _ _ _ _ _ _ _ _ _ _ _ _ _ _ _ (short-text _ _ _ _ c.text_length-fits.ensures c.in-Finished.is)
+    ready _ _ _ _ _ _ _ _ _ _ _ _ _ _ _ _ _ (short-text _ _ _ _ c.text_length-fits.ensures c.in-Ok.is)
     (subst (Formed _ _ _ _ _ _ _ _ _) c.in-Job.is c.job_form.ensures)
     c.zeros-xs.ensures c.zeros-ys.ensures c.zeros-zs.ensures c.zeros-us.ensures
-    _ c.sizes-sized.ensures c.in-Finished-sized.is
+    _ c.sizes-sized.ensures c.in-Ok-sized.is
 
 pub returns : goal.returns
 returns c =
-    text-answered _ _ _ _ _ _ _ _ _ _ _ _ _ _ _ _ _ (short-text _ _ _ _ c.text_length-fits.ensures c.in-Finished.is)
+    text-answered _ _ _ _ _ _ _ _ _ _ _ _ _ _ _ _ _ (short-text _ _ _ _ c.text_length-fits.ensures c.in-Ok.is)
     (subst (Formed _ _ _ _ _ _ _ _ _) c.in-Job.is c.job_form.ensures)
     c.zeros-xs.ensures c.zeros-ys.ensures c.zeros-zs.ensures c.zeros-us.ensures
-    _ c.sizes-sized.ensures c.in-Finished-sized.is _ _ _ c.answer.ensures
+    _ c.sizes-sized.ensures c.in-Ok-sized.is _ _ _ c.answer.ensures

@@ -8,8 +8,8 @@ returns-in_default c =
 
 pub write_text-length-requires : goal.write_text-length-requires
 write_text-length-requires c =
-    job-room _ _ _ c.writing-tested.ensures c.in-Finished.is
+    job-room _ _ _ c.writing-tested.ensures c.in-Ok.is
 
 pub returns : goal.returns
 returns c =
-    job-written _ _ _ c.writing-tested.ensures c.in-Finished.is _ _ c.write_text-length.ensures
+    job-written _ _ _ c.writing-tested.ensures c.in-Ok.is _ _ c.write_text-length.ensures

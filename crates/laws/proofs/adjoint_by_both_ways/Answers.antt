@@ -2,15 +2,9 @@
 use Rattle.laws.specs.Ways.{plain-refused, ways-agree}
 use Rattle.laws.proofs.adjoint_by_both_ways.Goals as goal
 
-pub returns-in_default : goal.returns-in_default
-returns-in_default c =
-    plain-refused _ _ _ _ _ _ _ _
-    c.plain_adjoint-answer.ensures _
-    c.in_default.is
-
 pub returns : goal.returns
 returns c =
     ways-agree _ _ _ _ _ _ _ _
-    c.plain_adjoint-answer.ensures
-    c.in-Finished.is _ _ _
+    c.plain_adjoint.ensures
+    c.in_ok-plain_adjoint.was _ _ _
     c.tree_adjoint.ensures

@@ -3,15 +3,9 @@ use Rattle.laws.specs.RoundTrips.{decompose-undoes-expand}
 use Rattle.laws.proofs.RoundTrips.{first-refused, both-made}
 use Rattle.laws.proofs.decompose_after_expand.Goals as goal
 
-pub returns-in_default : goal.returns-in_default
-returns-in_default c =
-    first-refused decompose-undoes-expand _ _ _ _ _ _ _ _ _ _
-    c.expand_by-answer.ensures _
-    c.in_default.is
-
 pub returns : goal.returns
 returns c =
     both-made decompose-undoes-expand _ _ _ _ _ _ _ _ _ _
-    c.expand_by-answer.ensures
-    c.in-Finished.is _ _ _
+    c.expand_by.ensures
+    c.in_ok-expand_by.was _ _ _
     c.decompose_by.ensures

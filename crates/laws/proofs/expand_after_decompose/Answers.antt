@@ -3,15 +3,9 @@ use Rattle.laws.specs.RoundTrips.{expand-undoes-decompose}
 use Rattle.laws.proofs.RoundTrips.{first-refused, both-made}
 use Rattle.laws.proofs.expand_after_decompose.Goals as goal
 
-pub returns-in_default : goal.returns-in_default
-returns-in_default c =
-    first-refused expand-undoes-decompose _ _ _ _ _ _ _ _ _ _
-    c.decompose_by-answer.ensures _
-    c.in_default.is
-
 pub returns : goal.returns
 returns c =
     both-made expand-undoes-decompose _ _ _ _ _ _ _ _ _ _
-    c.decompose_by-answer.ensures
-    c.in-Finished.is _ _ _
+    c.decompose_by.ensures
+    c.in_ok-decompose_by.was _ _ _
     c.expand_by.ensures

@@ -3,11 +3,11 @@ use native.Mathlib.Omega.{arith}
 use Rattle.laws.proofs.Totalled.{rows_few, refused-weighed, moment-total-input, norm-total-input, totals-weighed}
 use Rattle.laws.proofs.product_law.Goals as goal
 
-pub returns-in-Refused : goal.returns-in-Refused
-returns-in-Refused c =
+pub returns-in-Err : goal.returns-in-Err
+returns-in-Err c =
     refused-weighed _ _ _ _ _ _ _ _
     c.hand_out-answer.ensures _
-    c.in-Refused.is
+    c.in-Err.is
 
 pub overflow_add-n : goal.overflow_add-n
 overflow_add-n c = omega (

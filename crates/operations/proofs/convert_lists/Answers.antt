@@ -33,8 +33,8 @@ returns-in-Moments c =
     moments-promised _ _ _ _ _ c.requires _ _ _
     c.in-Moments.is c.moments.ensures
 
-pub returns-in-Finished : goal.returns-in-Finished
-returns-in-Finished c =
+pub returns-in-Ok : goal.returns-in-Ok
+returns-in-Ok c =
     norms-promised _ _ _ _ _ c.requires _ _ _
     c.in-Norms.is
-    (rw c.in-Finished.is at c.norms-tested.ensures) c.clear.ensures
+    (rw c.in-Ok.is at c.norms-tested.ensures) c.clear.ensures

@@ -4,13 +4,10 @@ use Rattle.acceptance.specs.Promises.{tests-refuse}
 use Rattle.prepared_plain.specs.RecordCore.{plain-core, plain-made}
 use Rattle.prepared_plain.proofs.plain_expand.Goals as goal
 
-pub returns-in_default : goal.returns-in_default
-returns-in_default c = tests-refuse _ _ c.plain_verdict-tested.ensures _ c.in_default.is
-
 pub expand-requires : goal.expand-requires
 expand-requires c =
-    plain-core _ _ _ c.plain_verdict-tested.ensures c.in-Finished.is
+    plain-core _ _ _ c.plain_verdict.ensures c.in_ok-plain_verdict.was
 
 pub returns : goal.returns
 returns c =
-    plain-made _ _ _ c.plain_verdict-tested.ensures c.in-Finished.is expand c.expand.ensures
+    plain-made _ _ _ c.plain_verdict.ensures c.in_ok-plain_verdict.was expand c.expand.ensures

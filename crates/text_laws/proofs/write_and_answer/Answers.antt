@@ -11,12 +11,12 @@ returns-in_default c =
 
 pub slice_bounds-convert_text-end : goal.slice_bounds-convert_text-end
 slice_bounds-convert_text-end c =
-    text-inside _ _ [] [] _ _ c.write_job-written.ensures _ c.in-Value.is
+    text-inside _ _ [] [] _ _ c.write_job-written.ensures _ c.in-Ok.is
 
 pub slice_bounds-convert_text-end-2 : goal.slice_bounds-convert_text-end-2
 slice_bounds-convert_text-end-2 c =
-    sym (length-take-le _ _ (text-inside _ _ [] [] _ _ c.write_job-written.ensures _ c.in-Value.is))
+    sym (length-take-le _ _ (text-inside _ _ [] [] _ _ c.write_job-written.ensures _ c.in-Ok.is))
 
 pub returns : goal.returns
 returns c =
-    write-answered _ _ _ _ _ _ c.write_job-written.ensures _ c.in-Value.is _ _ _ c.convert_text.ensures
+    write-answered _ _ _ _ _ _ c.write_job-written.ensures _ c.in-Ok.is _ _ _ c.convert_text.ensures

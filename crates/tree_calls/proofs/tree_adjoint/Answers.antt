@@ -2,18 +2,14 @@
 -- definition's list and leaves the working list clear. Assumes nothing.
 use Rattle.definitions.specs.Conversion.{adjoint}
 use Rattle.tree_model.specs.Tree.{tree_adjoint}
-use Rattle.acceptance.specs.Promises.{both-kept}
 use Rattle.tree_calls.specs.TreeCore.{tree-input, core-input, tree-made, adjoint-is}
 use Rattle.tree_calls.proofs.tree_adjoint.Goals as goal
 
-pub returns-in_default : goal.returns-in_default
-returns-in_default c = both-kept c.tree-tested.ensures c.in_default.is
-
 pub adjoint-requires : goal.adjoint-requires
 adjoint-requires c =
-    core-input (tree-input c.tree-tested.ensures c.in-Finished.is)
+    core-input (tree-input c.tree.ensures c.in_ok-tree.was)
 
 pub returns : goal.returns
 returns c =
-    let input = tree-input c.tree-tested.ensures c.in-Finished.is in
-    tree-made input tree_adjoint adjoint (adjoint-is input) c.tree-tested.ensures c.in-Finished.is c.adjoint.ensures
+    let input = tree-input c.tree.ensures c.in_ok-tree.was in
+    tree-made input tree_adjoint adjoint (adjoint-is input) c.tree.ensures c.in_ok-tree.was c.adjoint.ensures

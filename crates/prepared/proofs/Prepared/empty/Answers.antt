@@ -9,9 +9,9 @@ returns-in_default c =
 
 pub prepare-requires : goal.prepare-requires
 prepare-requires c =
-    empty-preparable _ _ c.modulus-tested.ensures c.in-Finished.is _ c.no_rows-none.ensures
+    empty-preparable _ _ c.modulus-tested.ensures c.in-Ok.is _ c.no_rows-none.ensures
 
 pub returns : goal.returns
 returns c =
-    empty-made _ _ c.modulus-tested.ensures c.in-Finished.is _ c.no_rows-none.ensures
+    empty-made _ _ c.modulus-tested.ensures c.in-Ok.is _ c.no_rows-none.ensures
     _ c.prepare.ensures
