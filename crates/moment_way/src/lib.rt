@@ -7,13 +7,14 @@
 ghost use Rattle.std.specs.Prelude.{◌≡◌, ◌*◌, ◌-◌, ◌≤◌, ◌<◌, length, replicate};
 ghost use Rattle.definitions.specs.Answers.{cleared};
 ghost use Rattle.definitions.specs.Conversion.{expand, decompose};
-ghost use Rattle.definitions.specs.Family.{Curve, rows, size};
+ghost use Rattle.definitions.specs.Family.{Curve, ones, rows, size};
 ghost use Rattle.definitions.specs.Orthogonality.{moments};
 ghost use Rattle.definitions.specs.Refusals.{work_length};
 ghost use Rattle.tree_model.specs.Extended.{last_unit};
 ghost use Rattle.numbers.specs.Lists.{filled};
 ghost use Rattle.numbers.specs.RunningProduct.{running_product};
 ghost use Rattle.lists.specs.Inverses.{Inverts};
+ghost use Rattle.theory.specs.Closing.{closed_by};
 ghost use Rattle.moment_way.specs.Decompose.{DivideInput, divided};
 ghost use Rattle.moment_way.specs.Input.{PolynomialsInput, Polynomials};
 ghost use Rattle.moment_way.specs.Moments.{entry_or};
@@ -54,6 +55,21 @@ impl<'a> Model for Inverted<'a> {
     ghost view = { λ f. closed_by (F.row_of f.close.a f.close.b f.close.c) f.family };
 
     ghost invariant = { λ f. ClosedBy f.family (F.row_of f.close.a f.close.b f.close.c) f.a_inverses.now f.close_a_inverse };
+}
+
+impl<'a> Inverted<'a> {
+    // Closed by 1 1 1.
+    pub fn by_ones(family: Family<'a>, a_inverses: &'a [u32]) -> Self
+        requires { Inverts family.m 0 (rows family) family.a a_inverses.now 1 1 }
+        ensures { result ≡ closed_by ones family.entry }
+    {
+        Inverted {
+            family,
+            close: Row { a: 1, b: 1, c: 1 },
+            a_inverses,
+            close_a_inverse: 1,
+        }
+    }
 }
 
 // The entries of a list, and then one more.

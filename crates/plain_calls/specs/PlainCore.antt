@@ -6,9 +6,8 @@ use Rattle.definitions.specs.Family.{Family, Accepted, Curve, family, ones}
 use Rattle.definitions.specs.Conversion.{decompose}
 use Rattle.definitions.specs.Orthogonality.{norms}
 use Rattle.acceptance.specs.Acceptance.{PlainInput, NormsInput}
-use Rattle.inverses.specs.InverseArray.{InverseArray, one-closes}
+use Rattle.inverses.specs.InverseArray.{InverseArray, family-inverts}
 use Rattle.lists.specs.Held.{Holds}
-use Rattle.lists.specs.Inverses.{accepted-inverts-a}
 use Rattle.lists.specs.Lending.{Lending, taken-lending}
 use Rattle.lists.specs.Lent.{Long, lent, lent-whole, accepted-rows}
 use Rattle.plain.proofs.Taken.{decomposed-by}
@@ -60,8 +59,7 @@ module _ {m : ℕ} {a b c v : List ℕ} (accepted : Accepted (family m a b c)) (
   pub inverted-made : {out : List ℕ} (u : List ℕ) → Decomposes (family m (take (length a) v) b c) u out
       → out ≡ decompose (family m a b c) u
   inverted-made {out} u made =
-      decomposed-by a b c u (accepted-inverts-a m (length a) a b c ones (accepted-long accepted) (accepted-lent accepted) v 1
-      array.holds.long (λ i l. array.is i (omega arith) l) (one-closes accepted)) (subst (λ f. Decomposes f u out) by-inverses made)
+      decomposed-by a b c u (family-inverts accepted array) (subst (λ f. Decomposes f u out) by-inverses made)
       ∙ ap (λ f. decompose f u) (lent-whole m a b c accepted.b_length accepted.c_length)
 
 module _ {m : ℕ} {a b c : List ℕ} (output : List ℕ) (input : NormsInput (family m a b c) (length output)) where

@@ -3,10 +3,11 @@
 // curve: n entries of the curve and of the output, n - 1 rows.
 #![tactic(auto)]
 
-ghost use Rattle.std.specs.Prelude.{◌≡◌, ◌++◌, ◌+◌, ◌≤◌, length, take, drop};
+ghost use Rattle.std.specs.Prelude.{◌≡◌, List, ◌++◌, ℕ, ◌+◌, ◌≤◌, length, take, drop};
 ghost use Rattle.definitions.specs.Answers.{cleared};
 ghost use Rattle.definitions.specs.Conversion.{expand, adjoint};
 ghost use Rattle.definitions.specs.Family.{Curve};
+ghost use Rattle.definitions.specs.Family as definition;
 ghost use Rattle.definitions.specs.Refusals.{work_length};
 ghost use Rattle.numbers.specs.Regions.{part, written};
 ghost use Rattle.numbers.specs.Products.{plus_product};
@@ -219,4 +220,39 @@ pub fn adjoint(family: &Family, curve: &[u32], output: &mut [u32], work: &mut [u
     }
     adjoint_tree(family, curve, output, work);
     clear(work);
+}
+
+// A conversion by the tree, on input that is already checked.
+pub trait Conversion {
+    ghost converted: { definition.Family → List ℕ → List ℕ };
+
+    fn convert(family: &Family, curve: &[u32], output: &mut [u32], work: &mut [u32])
+        requires curve { Curve family.now curve.now }
+        requires few { length curve.now ≤ 256 }
+        requires room { length output.old ≡ length curve.now }
+        requires work { work_length ≤ length work.old }
+        ensures written { output.new ≡ converted family.now curve.now }
+        ensures wiped { work.new ≡ cleared work.old };
+}
+
+#[derive(Clone, Copy)]
+pub struct Expanding;
+
+impl Conversion for Expanding {
+    ghost converted = { expand };
+
+    fn convert(family: &Family, curve: &[u32], output: &mut [u32], work: &mut [u32]) {
+        expand(family, curve, output, work);
+    }
+}
+
+#[derive(Clone, Copy)]
+pub struct Adjoining;
+
+impl Conversion for Adjoining {
+    ghost converted = { adjoint };
+
+    fn convert(family: &Family, curve: &[u32], output: &mut [u32], work: &mut [u32]) {
+        adjoint(family, curve, output, work);
+    }
 }
