@@ -1,5 +1,4 @@
 -- The answer text of an operation on lists whose sizes are in order.
---   with_length n r  the answer r, with the length n in its finished kind
 --   Ready            the lists have the fronts that are taken for a family and a curve, and the tests on sizes pass
 --   reply_text       the answer text of an operation on a family and a curve
 --   Replied          what `answer` promises: the length of that text, which is written, or a refusal by the tests that are left
@@ -22,10 +21,6 @@ use Rattle.operations.specs.Results.{result_count, result-length, result-few}
 use Rattle.operations.specs.Lists.{Parts, ConvertedFront, sized-by-tests}
 use Rattle.writer.specs.Answer.{Room, AnswerWritten}
 use Rattle.definitions.specs.declared.Refusal.{Refusal}
-
-abbrev pub with_length : ℕ → Answer → Valued
-with_length n (Ok tt) = Ok n
-with_length n (Err k) = Err k
 
 pub record Ready (operation : Operation) (m : ℕ) (a b c : List ℕ) (r : ℕ) (u : List ℕ) (entries : ℕ) (output work : List ℕ) : Type 0 where
   pub rows_front : Long r a b c
@@ -72,13 +67,13 @@ module _ (operation : Operation) (m : ℕ) (a b c : List ℕ) (r : ℕ) (us : Li
     -- the conversion has answered, and its list stands at the front of list'
     module _ (tested : Answer) (list list' work' : List ℕ)
         (done : ConvertedFront operation f u count (answered tested) list list' work work') where
-      pub values-refused : (k : Refusal) → tested ≡ Err k → (v : Valued) → v ≡ with_length 0 tested → Replied operation f u v output output work work'
-      values-refused (number_of k) q v is =
+      pub values-refused : (k : Refusal) → tested ≡ Err k → (v : Valued) → v ≡ Err k → Replied operation f u v output output work work'
+      values-refused k q v is =
           let n = length (reply_text operation f u) in
           let no : refused (number_of k) ≡ verdict (value_tests f u) (n ∷ []) =
           sym (verdict-values (n ∷ []) (value_tests f u) ∙ ap (with_values (n ∷ [])) (sym done.answer ∙ ap answered q)) in
           let stays : work' ≡ work = done.wiped ∙ ap (λ s. after (answered s) (cleared work) work) q in
-          rw (is ∙ ap (with_length 0) q, stays) (record { answer = no; written = refl; wiped = refl })
+          rw (is, stays) (record { answer = no; written = refl; wiped = refl })
 
       module _ (q : tested ≡ Ok tt) where
         stored : list' ≡ converted operation f u ++ drop count list

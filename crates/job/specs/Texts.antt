@@ -21,7 +21,7 @@ use Rattle.lists.specs.Lent.{lent}
 use Rattle.verdicts.specs.Sizes.{Fits, sizes-fit, curve-few}
 use Rattle.reader.specs.Storing.{Stored, kept-front}
 use Rattle.form.specs.JobForm.{JobAt}
-use Rattle.job.specs.Replies.{with_length, Ready, reply_text, Replied}
+use Rattle.job.specs.Replies.{Ready, reply_text, Replied}
 use Rattle.definitions.specs.declared.Refusal.{Refusal}
 
 -- ---- a refusal, and the tests that are left
@@ -35,15 +35,15 @@ pub record Short (t output work : List ℕ) : Type 0 where
   pub left : Remaining (tests t output work) (formed t output work)
 
 module _ (t output work : List ℕ) where
-  refused-text : (k : ℕ) → refused (number_of k) ≡ verdict (tests t output work) (length (reply t) ∷ [])
+  refused-text : (k : Refusal) → refused (number_of k) ≡ verdict (tests t output work) (length (reply t) ∷ [])
       → TextConverted t (Err k) output output work work
   refused-text k e = record { answer = e; written = refl; wiped = refl }
 
   module _ (r : Answer) (says : answered r ≡ verdict (text_length_test (length t) ∷ []) []) where
-    pub too_long : (k : Refusal) → r ≡ Err k → (x : Valued) → x ≡ with_length 0 r → TextConverted t x output output work work
+    pub too_long : (k : Refusal) → r ≡ Err k → (x : Valued) → x ≡ Err k → TextConverted t x output output work work
     unfolding text_tests
     too_long k q x is =
-        rw (is ∙ ap (with_length 0) q)
+        rw is
         (refused-text k (stage-refuses-with (text_length_test (length t) ∷ []) (formed t output work) all-remain r says _ k q))
 
     pub short-text : r ≡ Ok tt → Short t output work
@@ -56,7 +56,7 @@ module _ (t output work : List ℕ) where
 
     pub no-form : read_job t ≡ malformed → TextConverted t (Err Refusal.Malformed) output output work work
     unfolding form_tests
-    no-form e = refused-text 2 (sym (verdict-here (test 2 true) [] _ refl) ∙ (left_as malformed e).same _)
+    no-form e = refused-text Refusal.Malformed (sym (verdict-here (test 2 true) [] _ refl) ∙ (left_as malformed e).same _)
 
     past-form : (w : WrittenJob) → read_job t ≡ found w → Remaining (tests t output work) (job_tests (meant w) (length output) (length work))
     unfolding form_tests
@@ -97,9 +97,9 @@ module _ (t : List ℕ) (modulus : ℕ) (operation : Operation) (na nb nc nv : �
       (past-form t output work short w stands.read)
 
   module _ (r : Answer) (says : answered r ≡ verdict sizes []) where
-    pub sizes-refused : (k : Refusal) → r ≡ Err k → (x : Valued) → x ≡ with_length 0 r → TextConverted t x output output work work
-    sizes-refused (number_of k) q x is =
-        rw (is ∙ ap (with_length 0) q) (refused-text t output work k (stage-refuses-with sizes _ left r says _ k q))
+    pub sizes-refused : (k : Refusal) → r ≡ Err k → (x : Valued) → x ≡ Err k → TextConverted t x output output work work
+    sizes-refused k q x is =
+        rw is (refused-text t output work k (stage-refuses-with sizes _ left r says _ k q))
 
     module _ (q : r ≡ Ok tt) where
       passed : None sizes

@@ -13,7 +13,6 @@ use Rattle.acceptance.specs.Stages.{stage-none}
 use Rattle.acceptance.specs.Verdicts.{None, verdict-finished, with_values, verdict-values}
 use Rattle.verdicts.specs.Sizes.{curve-few}
 use Rattle.job_text.specs.Parts.{JobRoom, TextWritten}
-use Rattle.job.specs.Replies.{with_length}
 use Rattle.definitions.specs.declared.Refusal.{Refusal}
 
 module _ (w : WrittenJob) (output : List ℕ) (tested : Answer) where
@@ -21,11 +20,11 @@ module _ (w : WrittenJob) (output : List ℕ) (tested : Answer) where
   tests = writing_tests (meant w) (length output)
 
   module _ (says : answered tested ≡ verdict tests []) where
-    pub job-refused : (k : Refusal) → tested ≡ Err k → (r : Valued) → r ≡ with_length 0 tested → JobWritten w r output output
-    job-refused (number_of k) q r is =
+    pub job-refused : (k : Refusal) → tested ≡ Err k → (r : Valued) → r ≡ Err k → JobWritten w r output output
+    job-refused k q r is =
         let no : refused (number_of k) ≡ verdict tests (length (job_text w) ∷ []) =
         sym (verdict-values (length (job_text w) ∷ []) tests ∙ ap (with_values (length (job_text w) ∷ [])) (sym says ∙ ap answered q)) in
-        rw (is ∙ ap (with_length 0) q) (record { answer = no; written = refl })
+        rw is (record { answer = no; written = refl })
 
     module _ (q : tested ≡ Ok tt) where
       none : None tests

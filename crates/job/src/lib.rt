@@ -3,25 +3,15 @@
 // a 'requires'.
 #![tactic(auto)]
 
-ghost use Rattle.std.specs.Prelude.{◌≡◌, take};
+ghost use Rattle.std.specs.Prelude.{take};
 ghost use Rattle.definitions.specs.Family.{ones};
 ghost use Rattle.definitions.specs.TextCall.{TextConverted};
 ghost use Rattle.definitions.specs.JobWriting.{written_job, JobWritten};
 ghost use Rattle.lists.specs.Lent.{lent};
-ghost use Rattle.job.specs.Replies.{with_length, Ready, Replied};
+ghost use Rattle.job.specs.Replies.{Ready, Replied};
 
 use definitions::{Operation, Refusal};
 use form::JobForm;
-
-// An answer with a length in its finished kind.
-fn with_length(answer: Result<(), Refusal>, length: u32) -> Result<u32, Refusal>
-    ensures { result ≡ with_length length answer }
-{
-    match answer {
-        Ok(()) => Ok(length),
-        Err(k) => Err(k),
-    }
-}
 
 // The answer text of an operation on the fronts of the lists, once its sizes are in order: the tests on values are still to be made.
 fn answer(
@@ -42,14 +32,10 @@ fn answer(
 {
     let mut list = [0u32; 255];
     let count = operations::result_count(operation, rows);
-    let tested = operations::convert_parts(
+    operations::convert_parts(
         operation, modulus, a, b, c, rows, curve, entries, &mut list, count, work,
-    );
-    let Ok(()) = tested else {
-        return with_length(tested, 0);
-    };
-    let length = writer::write_answer(output, operation, &list[0..count]) as u32;
-    Ok(length)
+    )?;
+    Ok(writer::write_answer(output, operation, &list[0..count]) as u32)
 }
 
 // The text call: the answer text of a job text, and its length. After an accepted call the first 16,384 numbers of the working list
@@ -60,10 +46,7 @@ fn answer(
 pub fn convert_text(text: &[u8], output: &mut [u8], work: &mut [u32]) -> Result<u32, Refusal>
     ensures { TextConverted text.now result output.old output.new work.old work.new }
 {
-    let fits = checks::text_length(text.len());
-    let Ok(()) = fits else {
-        return with_length(fits, 0);
-    };
+    checks::text_length(text.len())?;
     let mut xs = lists::zeros();
     let mut ys = lists::zeros();
     let mut zs = lists::zeros();
@@ -79,10 +62,7 @@ pub fn convert_text(text: &[u8], output: &mut [u8], work: &mut [u32]) -> Result<
     else {
         return Err(Refusal::Malformed);
     };
-    let sized = verdicts::sizes(modulus, operation, a, b, c, curve, output.len(), work.len());
-    let Ok(()) = sized else {
-        return with_length(sized, 0);
-    };
+    verdicts::sizes(modulus, operation, a, b, c, curve, output.len(), work.len())?;
     answer(
         operation, modulus, &xs, &ys, &zs, a, &us, curve, output, work,
     )
@@ -104,10 +84,6 @@ pub fn write_job(
     ensures { JobWritten (written_job m a.now b.now c.now operation curve.now) result
         output.old output.new }
 {
-    let tested = verdicts::writing(m, a, b, c, operation, curve, output.len());
-    let Ok(()) = tested else {
-        return with_length(tested, 0);
-    };
-    let length = job_text::write_text(output, m, a, b, c, operation, curve) as u32;
-    Ok(length)
+    verdicts::writing(m, a, b, c, operation, curve, output.len())?;
+    Ok(job_text::write_text(output, m, a, b, c, operation, curve) as u32)
 }

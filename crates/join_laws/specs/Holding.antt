@@ -179,7 +179,7 @@ module _ (m m' : ℕ) (s : Signed) (u : List ℤ) (one two : Lists) (first secon
   both-finishes p = both.answer ∙ (expand-join-finished m m' s u (length output)).1 p.input
 
   pub both-refused : (k : Refusal) → r₀ ≡ Err k → Promise (answered r₀) first second joined
-  both-refused (number_of k) q = record { holds = λ p. absurd (never r₀ k q (both-finishes p)) }
+  both-refused k q = record { holds = λ p. absurd (never r₀ k q (both-finishes p)) }
 
   module _ (r₁ : Answer) (first' : List ℕ) (made₁ : PlainCall expand (family m one.a one.b one.c) one.curve (answered r₁) first first') where
     one-finishes : Input → answered r₁ ≡ finished []
@@ -187,7 +187,7 @@ module _ (m m' : ℕ) (s : Signed) (u : List ℤ) (one two : Lists) (first secon
         channel-finishes m s u p.input.accepted p.input.curve_length one p.one_is r₁ first first' p.first_length made₁
 
     pub first-refused : (k : Refusal) → r₁ ≡ Err k → Promise (answered r₁) first' second joined
-    first-refused (number_of k) q = record { holds = λ p. absurd (never r₁ k q (one-finishes p)) }
+    first-refused k q = record { holds = λ p. absurd (never r₁ k q (one-finishes p)) }
 
     module _ (r₂ : Answer) (second' : List ℕ)
         (made₂ : PlainCall expand (family m' two.a two.b two.c) two.curve (answered r₂) second second') where
@@ -196,7 +196,7 @@ module _ (m m' : ℕ) (s : Signed) (u : List ℤ) (one two : Lists) (first secon
           channel-finishes m' s u p.input.accepted' p.input.curve_length two p.two_is r₂ second second' p.second_length made₂
 
       pub second-refused : (k : Refusal) → r₂ ≡ Err k → Promise (answered r₂) first' second' joined
-      second-refused (number_of k) q = record { holds = λ p. absurd (never r₂ k q (two-finishes p)) }
+      second-refused k q = record { holds = λ p. absurd (never r₂ k q (two-finishes p)) }
 
       pub channels-law : (r₃ : Answer) (joined' : List ℤ) → JoinCall m m' first' second' (answered r₃) joined joined'
           → Promise (answered r₃) first' second' joined'

@@ -44,7 +44,7 @@ module _ {there back : Family → List ℕ → List ℕ} (undoes : Undoes there 
       }
 
   pub first-refused : (k : Refusal) → s ≡ Err k → ThereAndBack there back first second f u s one one' two two work w₁
-  first-refused (number_of k) q =
+  first-refused k q =
       let e = stage-refuses T₁ later all-remain s made₁.answer k q in
       let stays = sym (ap (λ x. after (answered x) (back f one') two) q) in
       record {

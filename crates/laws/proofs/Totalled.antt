@@ -17,9 +17,8 @@ use Rattle.acceptance.specs.Verdicts.{None, verdict-finished, none-append, with_
 use Rattle.totals.specs.Totals.{MomentTotalInput, NormTotalInput}
 use Rattle.laws.specs.ByWay.{way-input, two-calls-pass, cleared-after}
 use Rattle.acceptance.specs.Stages.{stage-none, list-new}
-use Rattle.laws.specs.Laws.{Lists, ProductLawInput, told, both_totals, ProductLawHolds, way_tests, work_left}
+use Rattle.laws.specs.Laws.{Totals, Lists, ProductLawInput, told, both_totals, ProductLawHolds, way_tests, work_left}
 use Rattle.laws.specs.Laws.{tests₁, tests₂, tests₃, law_tests, work₁, work₂, ListsHanded, HandedOut, Weighed}
-use Rattle.laws.specs.declared.Totals.{Totals}
 use Rattle.laws.specs.declared.Way.{Way}
 use Rattle.definitions.specs.declared.Refusal.{Refusal}
 
@@ -156,10 +155,10 @@ module _ (first second : Way) (f : Family) (u v : List ℕ) (lent : Lists) where
           record { positive = positive; u_long = omega arith; v_long = omega arith; norm_long = omega arith }
 
       pub totals-weighed : (x y : ℕ) → x ≡ moment_total f.m (rows f + 1) handed.s handed.t handed.moment
-          → y ≡ norm_total f.m (rows f + 1) u v handed.norm → Weighed first second f u v lent (Totals.Weighed x y) handed
+          → y ≡ norm_total f.m (rows f + 1) u v handed.norm → Weighed first second f u v lent (Ok (x, y)) handed
       totals-weighed x y ex ey =
           let n-is : rows f + 1 ≡ suc (rows f) = omega arith in
-          weighed (Totals.Weighed x y)
+          weighed (Ok (x, y))
           (ap₂ (λ p o. finished (p ∷ o ∷ []))
           (ex ∙ ap (λ n. moment_total f.m n handed.s handed.t handed.moment) n-is)
           (ey ∙ ap (λ n. norm_total f.m n u v handed.norm) n-is)

@@ -58,7 +58,7 @@ module _ (first second : Way) (f : Family) (u v : List ℕ) (lent : Lists) (r₁
 
   pub first-refused : (k : Refusal) → r₁ ≡ Err k
       → HandedOut first second f u v lent r₁ (lists s' lent.t lent.moment lent.norm w₁)
-  first-refused (number_of k) q =
+  first-refused k q =
       let e₂ = stage-refuses T₁ later₂ all-remain r₁ one.answer k q in
       let e₃ = stage-refuses T₂ later₃ all-remain r₁ e₂ k q in
       let e₄ = stage-refuses T₃ later₄ all-remain r₁ e₃ k q in
@@ -91,7 +91,7 @@ module _ (first second : Way) (f : Family) (u v : List ℕ) (lent : Lists) (r₁
 
     pub second-refused : (k : Refusal) → r₂ ≡ Err k
         → HandedOut first second f u v lent r₂ (lists s' t' lent.moment lent.norm w₂)
-    second-refused (number_of k) q =
+    second-refused k q =
         let e₃ = stage-refuses T₂ later₃ all-remain r₂ e₂ k q in
         let e₄ = stage-refuses T₃ later₄ all-remain r₂ e₃ k q in
         record {
@@ -122,7 +122,7 @@ module _ (first second : Way) (f : Family) (u v : List ℕ) (lent : Lists) (r₁
       third-worked = settles T₃ r₃ (cleared w₂) w₂ e₃ w₃ three.wiped ∙ ap (λ w. after (verdict T₃ []) (cleared w) w) second-worked
 
       pub third-refused : (k : Refusal) → r₃ ≡ Err k → HandedOut first second f u v lent r₃ (lists s' t' moment' lent.norm w₃)
-      third-refused (number_of k) q =
+      third-refused k q =
           let e₄ = stage-refuses T₃ later₄ all-remain r₃ e₃ k q in
           record {
             answer = e₄;

@@ -11,17 +11,10 @@ ghost use Rattle.laws.specs.Laws.{lists, Made, ThereAndBack, Agreed, HandedOut, 
 use definitions::Refusal;
 
 // A way of Expand and of Decompose.
-#[derive(Drop)]
+#[derive(Clone, Copy, Debug, PartialEq, Eq)]
 pub enum Way {
     Plain,
     Tree,
-}
-
-// What product_law answers: the total by the moments and the total by the norms, or the refusal of the call that refused.
-#[derive(Drop)]
-pub enum Totals {
-    Weighed(u32, u32),
-    Refused(u32),
 }
 
 // Expand by the way that is asked for.
@@ -185,7 +178,7 @@ fn hand_out(
 }
 
 // The product law, demand 3: the uncut product of what Expand hands out for u and for v, weighed with the moments, and the products of
-// the entries of u and v, weighed with the norms. Both totals are answered, and are equal; each norm has an inverse.
+// the entries of u and v, weighed with the norms. Both totals are answered, that by the moments first, and are equal; each norm has an inverse.
 pub fn product_law(
     first: Way,
     second: Way,
@@ -205,10 +198,7 @@ pub fn product_law(
         (lists s.old t.old moment.old norm.old work.old) result
         (lists s.new t.new moment.new norm.new work.new) }
 {
-    let answer = hand_out(first, second, m, a, b, c, u, v, s, t, moment, norm, work);
-    if let Err(k) = answer {
-        return Err(k);
-    }
+    hand_out(first, second, m, a, b, c, u, v, s, t, moment, norm, work)?;
     let n = a.len() + 1;
     let by_moments = totals::moment_total(m, n, s, t, moment);
     let by_norms = totals::norm_total(m, n, u, v, norm);

@@ -47,10 +47,7 @@ fn convert_lists(
         Operation::Decompose => tree_calls::tree_decompose(m, a, b, c, curve, output, work),
         Operation::Moments => tree_calls::moments(m, a, b, c, output, work),
         Operation::Norms => {
-            let tested = plain_calls::norms(m, a, b, c, output);
-            let Ok(()) = tested else {
-                return tested;
-            };
+            plain_calls::norms(m, a, b, c, output)?;
             lists::clear(work);
             Ok(())
         }

@@ -53,7 +53,7 @@ module _ (d : Direction) (xs one one' two : List ℕ) (s : Answer) (made₁ : Or
       }
 
   pub trip-refused : (k : Refusal) → s ≡ Err k → OrderTrip d xs (answered s) one one' two two
-  trip-refused (number_of k) q =
+  trip-refused k q =
       let e = stage-refuses T₁ later all-remain s made₁.answer k q in
       let stays = list-stays s k (arranged (opposite d) one') two q in
       record { answer = e; first_is = first-is; second_is = stays; holds = trip-holds s two e stays }
@@ -112,7 +112,7 @@ module _ (way : Way) (f : Family) (u expanded expanded' output work work' : List
       }
 
   pub expand-refused : (k : Refusal) → s ≡ Err k → EvenExpanded way f u (answered s) expanded expanded' output output work work'
-  expand-refused (number_of k) q =
+  expand-refused k q =
       let e = stage-refuses E₁ afterwards all-remain s made₁.answer k q in
       let stays = list-stays s k (even_first (expand f u)) output q in
       record { answer = e; expanded_is = expanded-is; output_is = stays; worked = worked-is; holds = zeros-hold s output e stays }

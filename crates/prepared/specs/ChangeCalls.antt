@@ -68,7 +68,7 @@ module _ (p : Prepared) (r : Answer) (is : answered r ≡ verdict (record_test p
 -- ---- what a change hands out
 module _ (tests : List Test) (new old : Prepared) (r : Answer) (is : answered r ≡ verdict tests []) where
   pub change-refused : (k : Refusal) → r ≡ Err k → Changed tests new old (answered r) old
-  change-refused (number_of k) q = record { answer = is; handed = sym (ap (λ x. handed_back (answered x) new old) q) }
+  change-refused k q = record { answer = is; handed = sym (ap (λ x. handed_back (answered x) new old) q) }
 
   pub change-made : (out : Prepared) → r ≡ Ok tt → out ≡ new → Changed tests new old (answered (Ok tt)) out
   change-made out q e = record { answer = sym (ap answered q) ∙ is; handed = e }

@@ -83,7 +83,7 @@ module _ (m : ℕ) (a b c : List ℕ) (i : ℕ) (q : Prepared) (grown : Grown m 
         }
 
     pub grown-refused : (k : ℕ) → v ≡ refused (number_of k) → ByAppends m a b c v out
-    grown-refused (number_of k) q' = record {
+    grown-refused k q' = record {
       finishes = (
         λ done. absurd (refused-not-finished k [] (sym q' ∙ done)),
         λ accepted. call.answer ∙ (append-finished q (listed a b c i) []).1 (row-taken accepted h),

@@ -33,7 +33,7 @@ module _ (w : WrittenJob) (text output work : List ℕ) (first : Valued) (text' 
   written-only e = ((writing-finished (meant w) (length text) []).0 e).job
 
   pub write-refused : (k : Refusal) → first ≡ Err k → (r : Valued) → r ≡ first → WrittenAndAnswered w text output work r text' output work
-  write-refused (number_of k) q r is =
+  write-refused k q r is =
       let no : verdict tests (long ∷ []) ≡ refused (number_of k) = sym call.answer ∙ ap valued q in
       let none : verdict tests [] ≡ refused (number_of k) = revalued tests (long ∷ []) [] ∙ ap (with_values []) no in
       rw (is ∙ q) (record {
