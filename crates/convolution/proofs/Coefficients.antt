@@ -3,7 +3,7 @@
 -- remainder of the sum is the coefficient of start + p q + r s. These rest on Totals of proofs/. Assumes nothing.
 use Rattle.std.specs.Prelude.{◌≡◌, ℕ, suc, ◌+◌, ◌-◌, ◌*◌, ◌%◌, ◌<◌, ◌≤◌, List, length, slice_index}
 use Rattle.std.proofs.Math.Path.{sym, ap}
-use Rattle.std.proofs.Common.{◌∙◌, ap₂, add_assoc, arith}
+use Rattle.std.proofs.Common.{◌∙◌, ap₂, add_assoc, add-zero, arith}
 use Rattle.std.proofs.Math.Decide.{dec_lt}
 use Rattle.definitions.specs.Number.{sum}
 use Rattle.numbers.specs.Products.{product_at}
@@ -23,13 +23,15 @@ both_zero e f = ap₂ ◌+◌ e f
 abbrev products_term : List ℕ → List ℕ → List ℕ → List ℕ → ℕ → ℕ → ℕ
 products_term p q r s k i = product_term p q k i + product_term r s k i
 
-module _ {m start : ℕ} {p q r s : List ℕ} {k : ℕ} (input : ProductsInput m start p q r s k) {first end : ℕ} where
-  pub multiplying-starts : first ≡ k + 1 - length q → Lesser (k + 1) (length p) end → Multiplying start p q r s k first end first start 0
-  multiplying-starts e ends = record {
+module _ {m start : ℕ} {p q r s : List ℕ} {k : ℕ} (input : ProductsInput m start p q r s k) {first end count : ℕ} where
+  pub multiplying-starts : first ≡ k + 1 - length q → Lesser (k + 1) (length p) end → count ≡ end - first
+      → Multiplying start p q r s k first end count 0 start 0
+  multiplying-starts e ends c = record {
     begins = e;
     ends = ends;
-    total = totalling-starts 0 start first end (products_term p q r s k) start 0
-        (omega (arith, input.start_below, input.most)) (omega arith) (amount-number start) within_end;
+    counted = c;
+    total = rw (add-zero first) (totalling-starts 0 start first end (products_term p q r s k) start 0
+        (omega (arith, input.start_below, input.most)) (omega arith) (amount-number start) within_end);
   }
     where
       within : Dec (end < k + 1) → first ≤ end
@@ -39,30 +41,32 @@ module _ {m start : ℕ} {p q r s : List ℕ} {k : ℕ} (input : ProductsInput m
       within_end : first ≤ end
       within_end = within (dec_lt end (k + 1))
 
-  module _ {i low wraps : ℕ} (h : Multiplying start p q r s k first end i low wraps) where
-    pub multiplying-small : SmallNumbers (slice_index p i) (slice_index q (k - i)) (slice_index r i) (slice_index s (k - i))
+  module _ {t low wraps : ℕ} (h : Multiplying start p q r s k first end count t low wraps) where
+    pub multiplying-small : SmallNumbers (slice_index p (first + t)) (slice_index q (k - (first + t))) (slice_index r (first + t))
+        (slice_index s (k - (first + t)))
     multiplying-small = small input.most (input.p_below _) (input.q_below _) (input.r_below _) (input.s_below _)
 
-    pub multiplying-plus : {x : ℕ} → length p ≤ 2305843009213693952 → x ≡ products_term p q r s k i → PlusInput low wraps x
+    pub multiplying-plus : {x : ℕ} → length p ≤ 2305843009213693952 → x ≡ products_term p q r s k (first + t) → PlusInput low wraps x
     multiplying-plus long e = record {
       fits = h.total.fits;
       small = rw e (pair_fits _ _ _ _ multiplying-small);
       few = omega (arith, h.total.few, h.total.reached, h.ends.second);
     }
 
-    pub multiplying-next : {x next w : ℕ} → i < end → x ≡ products_term p q r s k i → Added low wraps 1 x next w
-        → Multiplying start p q r s k first end (i + 1) next w
+    pub multiplying-next : {x next w : ℕ} → t < count → x ≡ products_term p q r s k (first + t) → Added low wraps 1 x next w
+        → Multiplying start p q r s k first end count (t + 1) next w
     multiplying-next l e a = record {
       begins = h.begins;
       ends = h.ends;
-      total = totalling-next 0 start first end (products_term p q r s k) 1 (omega arith)
-          (omega arith) h.total (e ∙ one-term (products_term p q r s k) i) a;
+      counted = h.counted;
+      total = rw (← add_assoc first t 1) (totalling-next 0 start first end (products_term p q r s k) 1 (omega arith)
+          (omega (arith, h.counted)) h.total (e ∙ one-term (products_term p q r s k) (first + t)) a);
     }
 
-    pub multiplying-ends : end ≤ i → (v : ℕ) → v ≡ (low + wraps * word) % m → v ≡ (start + product_at p q k + product_at r s k) % m
+    pub multiplying-ends : count ≤ t → (v : ℕ) → v ≡ (low + wraps * word) % m → v ≡ (start + product_at p q k + product_at r s k) % m
     unfolding product_at amount
     multiplying-ends l v e =
-        e ∙ ap (λ x. x % m) (totalling-ends 0 start first end (products_term p q r s k) i low wraps l
+        e ∙ ap (λ x. x % m) (totalling-ends 0 start first end (products_term p q r s k) (first + t) low wraps (omega (arith, h.counted))
         h.total
         ∙ ap (λ x. start + x) (sym all ∙ sum_both (suc k) (product_term p q k) (product_term r s k)) ∙ sym (add_assoc start _ _))
       where

@@ -1,6 +1,6 @@
 -- The sum of the coefficient of x^k in start + p q + r s.
 --   ProductsInput   what it is taken of: residues, and lists of equal lengths side by side
---   Multiplying     the sum in progress: of the terms from first to end - 1, where p_i and q_{k-i} both reach, those before i
+--   Multiplying     the sum in progress: of the terms i from first to end - 1, where p_i and q_{k-i} both reach, the first t
 -- Proved: where a product has no term; the entries of two lists settle a coefficient of their product; the product with the polynomial 1;
 -- that two products fit 64 bits. How the sum begins, goes on and ends with the coefficient stands in Coefficients of proofs/.
 -- Assumes nothing.
@@ -77,8 +77,9 @@ pub record ProductsInput (m start : ℕ) (p q r s : List ℕ) (k : ℕ) : Type 0
 abbrev products_term : List ℕ → List ℕ → List ℕ → List ℕ → ℕ → ℕ → ℕ
 products_term p q r s k i = product_term p q k i + product_term r s k i
 
--- the terms before i are in
-pub record Multiplying (start : ℕ) (p q r s : List ℕ) (k first end i low wraps : ℕ) : Type 0 where
+-- of the count of terms, from first on, t are in
+pub record Multiplying (start : ℕ) (p q r s : List ℕ) (k first end count t low wraps : ℕ) : Type 0 where
   pub begins : first ≡ k + 1 - length q
   pub ends : Lesser (k + 1) (length p) end
-  pub total : Totalling 0 start first end (products_term p q r s k) i low wraps
+  pub counted : count ≡ end - first
+  pub total : Totalling 0 start first end (products_term p q r s k) (first + t) low wraps

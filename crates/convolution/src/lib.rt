@@ -37,7 +37,7 @@ fn plus(total: Total, x: u64) -> Total
     Total { low, wraps }
 }
 
-// The coefficient of x^k in start + p q + r s.
+// The coefficient of x^k in start + p q + r s. The loop counts from 0: of one from first to end the compiler makes slower code.
 pub fn products_at(
     m: Modulus,
     start: u32,
@@ -54,11 +54,13 @@ pub fn products_at(
     let next = k + 1;
     let first = next.saturating_sub(q.len());
     let end = next.min(p.len());
+    let count = end.saturating_sub(first);
     let mut total = Total {
         low: start as u64,
         wraps: 0,
     };
-    for i in first..end {
+    for t in 0..count {
+        let i = first + t;
         let j = k - i;
         let x = pair(p[i], q[j], r[i], s[j]);
         total = plus(total, x);

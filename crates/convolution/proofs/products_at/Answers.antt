@@ -4,37 +4,38 @@ use Rattle.convolution.proofs.Coefficients.{multiplying-starts, multiplying-smal
 use Rattle.convolution.proofs.Coefficients.{multiplying-ends}
 use Rattle.convolution.proofs.products_at.Goals as goal
 
-pub loop-i-init : goal.loop-i-init
-loop-i-init c =
+pub loop-t-init : goal.loop-t-init
+loop-t-init c =
     multiplying-starts c.requires (omega arith) (record { first = omega arith; second = omega arith; one = λ l. omega arith })
+    (omega arith)
 
 pub overflow_sub-j : goal.overflow_sub-j
-overflow_sub-j c = omega (arith, c.loop-i.invariant.ends.first)
+overflow_sub-j c = omega (arith, c.loop-t.invariant.counted, c.loop-t.invariant.ends.first)
 
 pub bounds-p-i : goal.bounds-p-i
-bounds-p-i c = omega (arith, c.loop-i.invariant.ends.second)
+bounds-p-i c = omega (arith, c.loop-t.invariant.counted, c.loop-t.invariant.ends.second)
 
 pub bounds-q-j : goal.bounds-q-j
 bounds-q-j c =
-    omega (arith, c.loop-i.invariant.begins, c.loop-i.invariant.total.from, c.loop-i.invariant.ends.first)
+    omega (arith, c.loop-t.invariant.begins, c.loop-t.invariant.counted, c.loop-t.invariant.ends.first)
 
 pub bounds-r-i : goal.bounds-r-i
-bounds-r-i c = omega (arith, c.loop-i.invariant.ends.second, c.requires.r_long)
+bounds-r-i c = omega (arith, c.loop-t.invariant.counted, c.loop-t.invariant.ends.second, c.requires.r_long)
 
 pub bounds-s-j : goal.bounds-s-j
 bounds-s-j c =
-    omega (arith, c.loop-i.invariant.begins, c.loop-i.invariant.total.from, c.loop-i.invariant.ends.first, c.requires.s_long)
+    omega (arith, c.loop-t.invariant.begins, c.loop-t.invariant.counted, c.loop-t.invariant.ends.first, c.requires.s_long)
 
 pub pair-x-requires : goal.pair-x-requires
-pair-x-requires c = multiplying-small c.requires c.loop-i.invariant
+pair-x-requires c = multiplying-small c.requires c.loop-t.invariant
 
 pub plus-total-requires : goal.plus-total-requires
 plus-total-requires c =
-    multiplying-plus c.requires c.loop-i.invariant (omega (arith, c.well_formed)) c.pair-x.ensures
+    multiplying-plus c.requires c.loop-t.invariant (omega (arith, c.well_formed)) c.pair-x.ensures
 
-pub loop-i-preserved : goal.loop-i-preserved
-loop-i-preserved c =
-    multiplying-next c.requires c.loop-i.invariant c.loop-i-test.true
+pub loop-t-preserved : goal.loop-t-preserved
+loop-t-preserved c =
+    multiplying-next c.requires c.loop-t.invariant c.loop-t-test.true
     c.pair-x.ensures c.plus-total.ensures
 
 pub remainder_of_sum-requires : goal.remainder_of_sum-requires
@@ -42,4 +43,4 @@ remainder_of_sum-requires c = c.requires.most
 
 pub returns : goal.returns
 returns c =
-    multiplying-ends c.requires c.loop-i.invariant c.loop-i-test.false _ c.remainder_of_sum.ensures
+    multiplying-ends c.requires c.loop-t.invariant c.loop-t-test.false _ c.remainder_of_sum.ensures

@@ -20,3 +20,6 @@ overflow_mul-c c = let small = products-small _ _ _ _ _ _ _ _ c.requires in omeg
 
 pub overflow_add-s-3 : goal.overflow_add-s-3
 overflow_add-s-3 c = let small = products-small _ _ _ _ _ _ _ _ c.requires in omega arith
+
+pub returns : goal.returns
+returns c = c.remainder.ensures
