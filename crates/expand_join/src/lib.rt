@@ -13,7 +13,7 @@ ghost use Rattle.joining.specs.Calls.{size_tests, both_rows, ExpandJoinCall};
 ghost use Rattle.expand_join.specs.Input.{Sized, ChannelInput};
 
 use definitions::{FIRST_C, Refusal};
-use lists::zeros;
+use lists::{Family, zeros};
 
 // 4, 5, 6 and 7 of the lengths of the rows' lists, the curve and the output, where m has passed its test.
 fn sizes(m: u32, a: usize, b: usize, c: usize, curve: usize, output: usize) -> Result<(), Refusal>
@@ -32,7 +32,7 @@ fn column(m: u32, list: &[i32], first: usize, zero: Refusal, shared: Refusal) ->
     ensures { answered result ≡ verdict
         (column_tests m first (length list.now) (reduced_list m list.now) 1 (number_of zero) (number_of shared)) [] }
 {
-    let mut x = zeros();
+    let mut x = zeros::<128>();
     join::reduce_list(m, list, &mut x);
     checks::column(m, &x, first, list.len(), 1, zero, shared)
 }
@@ -68,15 +68,23 @@ fn expand_channel(m: u32, a: &[i32], b: &[i32], c: &[i32], curve: &[i32], output
         ≡ reduced_expand m (signed a.now b.now c.now) curve.now
         ++ drop (length curve.now) output.old }
 {
-    let mut x = zeros();
-    let mut y = zeros();
-    let mut z = zeros();
-    let mut u = zeros();
+    let mut x = zeros::<128>();
+    let mut y = zeros::<128>();
+    let mut z = zeros::<128>();
+    let mut u = zeros::<128>();
     join::reduce_list(m, a, &mut x);
     join::reduce_list(m, b, &mut y);
     join::reduce_list(m, c, &mut z);
     join::reduce_list(m, curve, &mut u);
-    plain::expand(m, &x, &y, &z, &u, curve.len(), output);
+    let rows = a.len();
+    let n = curve.len();
+    let family = Family {
+        modulus: m,
+        a: &x[..rows],
+        b: &y[..rows],
+        c: &z[..rows],
+    };
+    plain::expand(&family, &u[..n], &mut output[..n]);
 }
 
 // Expand and join, row by row on each channel: output[k] becomes the joined value of the coefficients of x^k modulo m1 and modulo m2. Where the
@@ -97,8 +105,8 @@ pub fn expand_join(
 {
     let inverse = join_calls::moduli(m1, m2)?;
     tests(m1, m2, a, b, c, curve.len(), output.len())?;
-    let mut x = zeros();
-    let mut y = zeros();
+    let mut x = zeros::<128>();
+    let mut y = zeros::<128>();
     expand_channel(m1, a, b, c, curve, &mut x);
     expand_channel(m2, a, b, c, curve, &mut y);
     join::join_lists(m1, m2, inverse, &x, &y, output);

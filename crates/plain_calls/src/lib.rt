@@ -92,9 +92,16 @@ pub fn plain_decompose(
         output.old output.new }
 {
     verdicts::plain(m, a, b, c, coefficients, output.len())?;
-    let mut a_inverses = lists::zeros();
-    inverses::of_list(m, a, 0, a.len(), &mut a_inverses);
-    plain::decompose(m, &a_inverses, b, c, coefficients, a.len() + 1, output);
+    let rows = a.len();
+    let mut a_inverses = lists::zeros::<128>();
+    inverses::of_list(m, a, 0, rows, &mut a_inverses);
+    let inverted = Family {
+        modulus: m,
+        a: &a_inverses[..rows],
+        b,
+        c,
+    };
+    plain::decompose(&inverted, coefficients, output);
     Ok(())
 }
 
@@ -105,8 +112,8 @@ pub fn norms(m: u32, a: &[u32], b: &[u32], c: &[u32], output: &mut [u32]) -> Res
         output.old output.new }
 {
     verdicts::norms(m, a, b, c, output.len())?;
-    let mut a_inverses = lists::zeros();
+    let mut a_inverses = lists::zeros::<128>();
     inverses::of_list(m, a, 0, a.len(), &mut a_inverses);
-    plain::norms(m, &a_inverses, c, 1, 1, a.len() + 1, output);
+    plain::norms(m, &a_inverses, c, 1, 1, output);
     Ok(())
 }

@@ -129,7 +129,7 @@ impl Prepared {
     pub fn empty(m: u32) -> Change
         ensures { EmptyCall m (answered result.answer) (held result.family) }
     {
-        let none = preparing::no_rows();
+        let none = lists::zeros::<127>();
         let tested = checks::modulus(m);
         let Ok(()) = tested else {
             let norms = lists::zeros();

@@ -7,6 +7,33 @@ ghost use Rattle.definitions.specs.Conversion.{expand, adjoint, decompose};
 ghost use Rattle.definitions.specs.Family.{family};
 
 use definitions::Refusal;
+use lists::{Family, zeros};
+use moment_way::Inverted;
+use tree::{Adjoining, Conversion, Expanding};
+
+// A conversion by the tree: its tests, and then its core.
+fn call<C: Conversion>(
+    m: u32,
+    a: &[u32],
+    b: &[u32],
+    c: &[u32],
+    curve: &[u32],
+    output: &mut [u32],
+    work: &mut [u32],
+) -> Result<(), Refusal>
+    ensures { TreeCall C.converted (family m a.now b.now c.now) curve.now (answered result)
+        output.old output.new work.old work.new }
+{
+    verdicts::tree(m, a, b, c, curve, output.len(), work.len())?;
+    let family = Family {
+        modulus: m,
+        a,
+        b,
+        c,
+    };
+    C::convert(&family, curve, output, work);
+    Ok(())
+}
 
 // Expand by the subproduct tree (Figure 1 of the report): the same list as plain_expand's. After an accepted call the first 16,384
 // numbers of the working list are zero. Refused as plain_expand is, and with 8: the working list is too short.
@@ -22,9 +49,7 @@ pub fn tree_expand(
     ensures { TreeCall expand (family m a.now b.now c.now) curve.now (answered result)
         output.old output.new work.old work.new }
 {
-    verdicts::tree(m, a, b, c, curve, output.len(), work.len())?;
-    tree::expand(m, a, b, c, curve, a.len() + 1, output, work);
-    Ok(())
+    call::<Expanding>(m, a, b, c, curve, output, work)
 }
 
 // Adjoint by the subproduct tree (Figure 2 of the report): the same list as plain_adjoint's. The working list and the refusals are as
@@ -41,9 +66,7 @@ pub fn tree_adjoint(
     ensures { TreeCall adjoint (family m a.now b.now c.now) curve.now (answered result)
         output.old output.new work.old work.new }
 {
-    verdicts::tree(m, a, b, c, curve, output.len(), work.len())?;
-    tree::adjoint(m, a, b, c, curve, a.len() + 1, output, work);
-    Ok(())
+    call::<Adjoining>(m, a, b, c, curve, output, work)
 }
 
 // Decompose by the moments and the subproduct tree (Figure 3 of the report): the same list as plain_decompose's. The working list
@@ -61,27 +84,19 @@ pub fn tree_decompose(
         output.old output.new work.old work.new }
 {
     verdicts::tree(m, a, b, c, coefficients, output.len(), work.len())?;
-    let mut a_inverses = lists::zeros();
-    inverses::of_list(m, a, 0, a.len(), &mut a_inverses);
-    let mut c_inverses = lists::zeros();
-    inverses::of_list(m, c, 1, a.len(), &mut c_inverses);
-    moment_way::decompose(
-        m,
+    let rows = a.len();
+    let mut a_inverses = zeros::<128>();
+    inverses::of_list(m, a, 0, rows, &mut a_inverses);
+    let mut c_inverses = zeros::<128>();
+    inverses::of_list(m, c, 1, rows, &mut c_inverses);
+    let family = Family {
+        modulus: m,
         a,
         b,
         c,
-        &a_inverses,
-        &c_inverses,
-        1,
-        1,
-        1,
-        1,
-        1,
-        coefficients,
-        a.len() + 1,
-        output,
-        work,
-    );
+    };
+    let inverted = Inverted::by_ones(family, &a_inverses);
+    moment_way::decompose(&inverted, &c_inverses, 1, coefficients, output, work);
     Ok(())
 }
 
@@ -100,21 +115,15 @@ pub fn moments(
         output.old output.new work.old work.new }
 {
     verdicts::moments(m, a, b, c, output.len(), work.len())?;
-    let mut a_inverses = lists::zeros();
+    let mut a_inverses = zeros::<128>();
     inverses::of_list(m, a, 0, a.len(), &mut a_inverses);
-    moment_way::moments(
-        m,
+    let family = Family {
+        modulus: m,
         a,
         b,
         c,
-        &a_inverses,
-        1,
-        1,
-        1,
-        1,
-        a.len() + 1,
-        output,
-        work,
-    );
+    };
+    let inverted = Inverted::by_ones(family, &a_inverses);
+    moment_way::moments(&inverted, output, work);
     Ok(())
 }
