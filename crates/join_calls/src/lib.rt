@@ -32,8 +32,14 @@ fn remainders(m1: u32, m2: u32, first: &[u32], second: &[u32], output: usize) ->
     if second.len() != first.len() {
         return Err(Refusal::RemaindersDiffer);
     }
-    checks::output_length(first.len(), output)?;
-    checks::curve_entries(m1, first)?;
+    let place = checks::output_length(first.len(), output);
+    let Ok(()) = place else {
+        return place;
+    };
+    let entries = checks::curve_entries(m1, first);
+    let Ok(()) = entries else {
+        return entries;
+    };
     checks::curve_entries(m2, second)
 }
 
