@@ -2,24 +2,24 @@
 --   LeftOpen piece before count before' r   r: how many bytes at the front of before' these are, where the first count of before are kept of the line
 --                                           that the piece goes on with, and that they have no byte 10; nothing where an answer could not be written
 -- Proved: they are what the pieces' law says, after they were copied back; how many they are. Assumes nothing.
-use Rattle.std.specs.Prelude.{List, ◌≡◌, ℕ, ◌≤◌, length, take}
+use Rattle.std.specs.Prelude.{List, ◌≡◌, ℕ, ◌≤◌, length, take, Result, Ok, Err}
 use Rattle.std.proofs.Common.{sym, ◌∙◌, ap, subst}
 use Rattle.lines.specs.Walking.{Open}
 use Rattle.store_lines.specs.Answering.{printed_lines, PieceAnswered}
 use Rattle.lines.specs.Determining.{Unbroken}
 use Rattle.lines.specs.Pieces.{ended, unended-unbroken}
-use Rattle.store.specs.declared.Kept.{Kept}
+use Rattle.std.specs.declared.io.Error.{Error}
 
-abbrev pub LeftOpen : List ℕ → List ℕ → ℕ → List ℕ → Kept → Type 0
-LeftOpen piece before count before' (Kept.Bytes k) = Open (length before) (take count before) piece before' k × Unbroken (take k before')
-LeftOpen piece before count before' (Kept.Unwritten error) = Unit {0}
+abbrev pub LeftOpen : List ℕ → List ℕ → ℕ → List ℕ → Result ℕ Error → Type 0
+LeftOpen piece before count before' (Ok k) = Open (length before) (take count before) piece before' k × Unbroken (take k before')
+LeftOpen piece before count before' (Err error) = Unit {0}
 
-pub left-within : (piece before : List ℕ) (count : ℕ) (before' : List ℕ) (r : Kept) (k : ℕ) → LeftOpen piece before count before' r
-    → r ≡ Kept.Bytes k → k ≤ length before'
+pub left-within : (piece before : List ℕ) (count : ℕ) (before' : List ℕ) (r : Result ℕ Error) (k : ℕ) → LeftOpen piece before count before' r
+    → r ≡ Ok k → k ≤ length before'
 left-within piece before count before' r k left is = (subst (LeftOpen piece before count before') is left).0.within
 
-pub left-unbroken : (piece before : List ℕ) (count : ℕ) (before' : List ℕ) (r : Kept) (k : ℕ) → LeftOpen piece before count before' r
-    → r ≡ Kept.Bytes k → Unbroken (take k before')
+pub left-unbroken : (piece before : List ℕ) (count : ℕ) (before' : List ℕ) (r : Result ℕ Error) (k : ℕ) → LeftOpen piece before count before' r
+    → r ≡ Ok k → Unbroken (take k before')
 left-unbroken piece before count before' r k left is = (subst (LeftOpen piece before count before') is left).1
 
 module _ (piece before : List ℕ) (count : ℕ) (out line' : List ℕ) (kept : ℕ) (out' : List ℕ) (n : ℕ)

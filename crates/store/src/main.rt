@@ -15,27 +15,15 @@ ghost use Rattle.store_lines.specs.Answering.{printed_lines};
 ghost use Rattle.storing.specs.Printing.{printed_line};
 ghost use Rattle.store.specs.Keeping.{LeftOpen};
 
-use input::Input;
 use std::io;
-use std::io::{Error, ErrorKind, Read};
+use std::io::{Error, Read};
 use std::process::ExitCode;
 
-// How the program ends.
+// Why a line has no answer.
 #[derive(Drop)]
-enum Ending {
-    Answered,
+enum Failure {
     Unread(Error),
     Unwritten(Error),
-}
-
-// One byte more than the longest line that is not refused with 1.
-fn line_buffer() -> [u8; 8193] {
-    [0; 8193]
-}
-
-// Room for the answers of the lines that end in 4,096 bytes, where 8,193 are kept of the first: eleven times these bytes, and 1,409 more.
-fn print_buffer() -> [u8; 136588] {
-    [0; 136588]
 }
 
 // Writes what is printed for the lines that end in a piece, which goes on with a line of which the first `count` of a list are kept, and nothing
@@ -60,15 +48,8 @@ fn print_last(rt: &impl Print, line: &[u8], bytes: &[u8]) -> io::Result<()>
     rt.write_all(bytes)
 }
 
-// How many bytes are kept of the line that is open, or that an answer could not be written.
-#[derive(Drop)]
-enum Kept {
-    Bytes(usize),
-    Unwritten(Error),
-}
-
 // Answers the lines that end in a piece, which goes on with a line of which the first `count` of a list are kept; what is kept of the line that it
-// leaves open takes their place. `line` and `out` are lent to work in.
+// leaves open takes their place, and how many bytes these are is the answer. `line` and `out` are lent to work in.
 fn answer_piece(
     rt: &impl Print,
     piece: &[u8],
@@ -76,19 +57,17 @@ fn answer_piece(
     count: usize,
     line: &mut [u8],
     out: &mut [u8],
-) -> Kept
+) -> io::Result<usize>
     requires { (length piece.now ≤ 4096) × (length before.old ≡ 8193) × (count ≤ 8193) × (length line.old ≡ 8193)
         × (length out.old ≡ 136588) × Unbroken (take count before.old) }
     ensures { LeftOpen piece.now before.old count before.new result }
 {
     let progress = store_lines::answer_piece(piece, before, count, line, out, 0);
     let printed = progress.printed;
-    if let Err(error) = print_lines(rt, piece, before, count, &out[..printed]) {
-        return Kept::Unwritten(error);
-    }
+    print_lines(rt, piece, before, count, &out[..printed])?;
     let kept = progress.kept;
     store_lines::copy_bytes(line, kept, before);
-    Kept::Bytes(kept)
+    Ok(kept)
 }
 
 // Answers the line that the end of the input leaves open, the first `count` of a list.
@@ -100,61 +79,36 @@ fn answer_last(rt: &impl Print, list: &[u8], count: usize, out: &mut [u8]) -> io
     print_last(rt, line, &out[..printed])
 }
 
-// Zeros, for what a read brings.
-fn piece_buffer() -> [u8; 4096] {
-    [0; 4096]
-}
-
-fn answer_input<R: Read>(rt: &impl Print, reader: &mut R) -> Ending {
-    let mut piece = piece_buffer();
-    let mut before_space = line_buffer();
+fn answer_input<R: Read>(rt: &impl Print, reader: &mut R) -> Result<(), Failure> {
+    let mut piece: [u8; 4096] = input::zeros();
+    // one byte more than the longest line that is not refused with 1
+    let mut before_space: [u8; 8193] = input::zeros();
     let before: &mut [u8] = &mut before_space;
-    let mut line_space = line_buffer();
+    let mut line_space: [u8; 8193] = input::zeros();
     let line: &mut [u8] = &mut line_space;
-    let mut out_space = print_buffer();
+    // room for the answers of the lines that end in 4,096 bytes, where 8,193 are kept of the first: eleven times these bytes, and 1,409 more
+    let mut out_space: [u8; 136588] = input::zeros();
     let out: &mut [u8] = &mut out_space;
     let mut kept: usize = 0;
     for _ in 0..u64::MAX {
-        let count = match input::read_some(reader, &mut piece) {
-            Input::Bytes(count) => count,
-            Input::Failed(error) => return Ending::Unread(error),
-        };
+        let count = input::read_some(reader, &mut piece).map_err(Failure::Unread)?;
         if count == 0 {
             if kept == 0 {
-                return Ending::Answered;
+                return Ok(());
             }
-            return match answer_last(rt, before, kept, out) {
-                Ok(()) => Ending::Answered,
-                Err(error) => Ending::Unwritten(error),
-            };
+            return answer_last(rt, before, kept, out).map_err(Failure::Unwritten);
         }
-        match answer_piece(rt, &piece[..count], before, kept, line, out) {
-            Kept::Bytes(left) => kept = left,
-            Kept::Unwritten(error) => return Ending::Unwritten(error),
-        }
+        kept = answer_piece(rt, &piece[..count], before, kept, line, out).map_err(
+            Failure::Unwritten,
+        )?;
     }
-    Ending::Unread(Error::other("it does not end"))
-}
-
-// Says on standard error what failed, and why. Nothing is left to do where that fails too.
-fn fail(rt: &impl Eprint, what: &str, error: Error) -> ExitCode {
-    let _ = eprintln!(rt; "store: cannot {what}: {error}");
-    ExitCode::FAILURE
-}
-
-// The status where the answer could not be written. Where nobody reads it any more the program ends as by the signal for that, 13, and says nothing:
-// std holds the signal off, and the write fails.
-fn unwritten(rt: &impl Eprint, error: Error) -> ExitCode {
-    if error.kind() == ErrorKind::BrokenPipe {
-        return ExitCode::from(141);
-    }
-    fail(rt, "write standard output", error)
+    Err(Failure::Unread(Error::other("it does not end")))
 }
 
 fn main(rt: HostRuntime) -> ExitCode {
     match answer_input(&rt, &mut rt.stdin()) {
-        Ending::Answered => ExitCode::SUCCESS,
-        Ending::Unread(error) => fail(&rt, "read standard input", error),
-        Ending::Unwritten(error) => unwritten(&rt, error),
+        Ok(()) => ExitCode::SUCCESS,
+        Err(Failure::Unread(error)) => input::fail(&rt, "store", "read standard input", error),
+        Err(Failure::Unwritten(error)) => input::unwritten(&rt, "store", error),
     }
 }
