@@ -79,7 +79,10 @@ fn prepare(m: u32, rows: u32, a: [u32; 127], b: [u32; 127], c: [u32; 127]) -> Pr
 fn append_verdict(p: Prepared, a: u32, b: u32, c: u32) -> Result<(), Refusal>
     ensures { answered result ≡ verdict (append_tests (held p) (row_of a b c)) [] }
 {
-    test(p)?;
+    let right = test(p);
+    let Ok(()) = right else {
+        return right;
+    };
     if Prepared::MOST_ROWS <= p.rows {
         return Err(Refusal::TooManyRows);
     }
@@ -90,7 +93,10 @@ fn append_verdict(p: Prepared, a: u32, b: u32, c: u32) -> Result<(), Refusal>
 fn drop_verdict(p: Prepared) -> Result<(), Refusal>
     ensures { answered result ≡ verdict (drop_tests (held p)) [] }
 {
-    test(p)?;
+    let right = test(p);
+    let Ok(()) = right else {
+        return right;
+    };
     if p.rows == 0 {
         return Err(Refusal::NoRows);
     }
@@ -102,7 +108,10 @@ fn drop_verdict(p: Prepared) -> Result<(), Refusal>
 fn replace_verdict(p: Prepared, row: u32, a: u32, b: u32, c: u32) -> Result<(), Refusal>
     ensures { answered result ≡ verdict (replace_tests (held p) row (row_of a b c)) [] }
 {
-    test(p)?;
+    let right = test(p);
+    let Ok(()) = right else {
+        return right;
+    };
     if row == 0 {
         return Err(Refusal::NoSuchRow);
     }

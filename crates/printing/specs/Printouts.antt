@@ -8,7 +8,7 @@ use Rattle.std.proofs.Common.{◌∙◌, arith, length-append, take_at, drop_at}
 use Rattle.std.proofs.Math.Nat.{sub-zero}
 use Rattle.std.proofs.Math.ListN.{drop}
 use Rattle.std.proofs.lemmas.List.{length-replicate, replicate-append-replicate}
-use Rattle.definitions.specs.Answers.{Valued, valued, after}
+use Rattle.definitions.specs.Answers.{number_of, Valued, valued, after}
 use Rattle.definitions.specs.Printing.{shown, printed}
 use Rattle.definitions.specs.Refusals.{finished, verdict, work_length}
 use Rattle.definitions.specs.Text.{refusal_text}
@@ -70,9 +70,9 @@ module _ (t : List ℕ) (r : Valued) (output output' work work' : List ℕ) (cal
       front-prints t (reply t) output' n (printed-shown ∙ ap (λ v. shown (with_values (reply t) (valued v))) is) count
       (call.written ∙ ap (λ v. after (valued v) (reply t ++ drop long output) output) is ∙ ap₂ (λ i zeros. reply t ++ drop i zeros) (sym count) blank)
 
-  pub refusal-printed : (k : Refusal) → r ≡ Err k → (n : ℕ) (output'' : List ℕ) → RefusalWritten k n output' output'' → Prints t output'' n
+  pub refusal-printed : (k : Refusal) → r ≡ Err k → (n : ℕ) (output'' : List ℕ) → RefusalWritten (number_of k) n output' output'' → Prints t output'' n
   unfolding shown
   refusal-printed k is n output'' p =
       let kept = call.written ∙ ap (λ v. after (valued v) (reply t ++ drop long output) output) is ∙ blank in
-      front-prints t (refusal_text k) output'' n (printed-shown ∙ ap (λ v. shown (with_values (reply t) (valued v))) is) p.answer
-      (p.written ∙ ap (λ zeros. refusal_text k ++ drop n zeros) kept)
+      front-prints t (refusal_text (number_of k)) output'' n (printed-shown ∙ ap (λ v. shown (with_values (reply t) (valued v))) is) p.answer
+      (p.written ∙ ap (λ zeros. refusal_text (number_of k) ++ drop n zeros) kept)

@@ -36,8 +36,8 @@ pub fn print_job(text: &[u8]) -> Printout
             let length = count as usize;
             Printout { bytes, length }
         }
-        Err(number) => {
-            let length = writer::write_refusal(&mut bytes, number);
+        Err(refusal) => {
+            let length = writer::write_refusal(&mut bytes, u32::from(refusal));
             Printout { bytes, length }
         }
     }

@@ -25,10 +25,6 @@ fn write_and_answer(
         text.old output.old work.old result
         text.new output.new work.new }
 {
-    let written = job::write_job(m, a, b, c, operation, curve, text);
-    let Ok(count) = written else {
-        return written;
-    };
-    let end = count as usize;
+    let end = job::write_job(m, a, b, c, operation, curve, text)? as usize;
     job::convert_text(&text[..end], output, work)
 }

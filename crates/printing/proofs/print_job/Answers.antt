@@ -12,4 +12,4 @@ pub returns-in-Err : goal.returns-in-Err
 returns-in-Err c = refusal-printed _ _ _ _ _ _ c.convert_text.ensures
     c.output-bytes.ensures
     c.working_list-work.ensures
-    _ c.in-Err.is _ _ c.write_refusal-length.ensures
+    _ c.in-Err.is _ _ (rw c.from.ensures at c.write_refusal-length.ensures)
