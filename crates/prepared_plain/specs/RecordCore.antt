@@ -35,6 +35,9 @@ module _ (p : Prepared) (u output : List ℕ) {r : Answer} (is : answered r ≡ 
   pub record-input : PlainInput (own_rows p) u (length output)
   record-input = accepted.1
 
+  pub record-few : p.rows ≤ 127
+  record-few = right-few right
+
   -- v stands in the place of the a
   core-input : {v : List ℕ} → Holds p.modulus p.rows v → ConvertInput p.modulus v p.b p.c u (p.rows + 1) output
   core-input holds =

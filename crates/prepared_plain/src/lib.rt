@@ -14,6 +14,8 @@ ghost use Rattle.prepared_model.specs.Parts.{fields};
 ghost use Rattle.prepared_model.specs.Rightness.{Sized};
 
 use definitions::Refusal;
+use lists::Family;
+use plain::{Adjoining, Conversion, Expanding};
 use prepared::Prepared;
 
 // 14, 6, 7 and 12.
@@ -33,10 +35,19 @@ fn plain_verdict<'a>(
     ensures { answered result ≡ verdict (prepared_plain_tests (fields modulus rows a.now b.now c.now
         a_inverses.now c_inverses.now norms.now) curve.now output) [] }
 {
-    record_check::record(modulus, rows, a, b, c, a_inverses, c_inverses, norms)?;
+    let right = record_check::record(modulus, rows, a, b, c, a_inverses, c_inverses, norms);
+    let Ok(()) = right else {
+        return right;
+    };
     let n = rows as usize + 1;
-    checks::curve_length(n, curve.len())?;
-    checks::output_length(n, output)?;
+    let entries = checks::curve_length(n, curve.len());
+    let Ok(()) = entries else {
+        return entries;
+    };
+    let place = checks::output_length(n, output);
+    let Ok(()) = place else {
+        return place;
+    };
     checks::curve_entries(modulus, curve)
 }
 
@@ -56,8 +67,39 @@ fn norms_verdict<'a>(
     ensures { answered result ≡ verdict (prepared_norms_tests (fields modulus rows a.now b.now c.now
         a_inverses.now c_inverses.now norms.now) output) [] }
 {
-    record_check::record(modulus, rows, a, b, c, a_inverses, c_inverses, norms)?;
+    let right = record_check::record(modulus, rows, a, b, c, a_inverses, c_inverses, norms);
+    let Ok(()) = right else {
+        return right;
+    };
     checks::output_length(rows as usize + 1, output)
+}
+
+// A conversion by the plain way on a record: its tests, and then its core, lent the rows.
+fn call<C: Conversion>(family: Prepared, curve: &[u32], output: &mut [u32]) -> Result<(), Refusal>
+    ensures { PreparedPlainCall C.converted (held family) curve.now (answered result)
+        output.old output.new }
+{
+    plain_verdict(
+        family.modulus,
+        family.rows,
+        &family.a,
+        &family.b,
+        &family.c,
+        &family.a_inverses,
+        &family.c_inverses,
+        &family.norms,
+        curve,
+        output.len(),
+    )?;
+    let rows = family.rows as usize;
+    let lent = Family {
+        modulus: family.modulus,
+        a: &family.a[..rows],
+        b: &family.b[..rows],
+        c: &family.c[..rows],
+    };
+    C::convert(&lent, curve, output);
+    Ok(())
 }
 
 // Expand, row by row. Refused with 14: the record is not right; with 6 and 7: curve or output is not n long; with 12: a curve entry is not
@@ -66,23 +108,7 @@ pub fn plain_expand(family: Prepared, curve: &[u32], output: &mut [u32]) -> Resu
     ensures { PreparedPlainCall expand (held family) curve.now (answered result)
         output.old output.new }
 {
-    plain_verdict(
-        family.modulus,
-        family.rows,
-        &family.a,
-        &family.b,
-        &family.c,
-        &family.a_inverses,
-        &family.c_inverses,
-        &family.norms,
-        curve,
-        output.len(),
-    )?;
-    let b = family.b;
-    let c = family.c;
-    let n = family.rows as usize + 1;
-    plain::expand(family.modulus, &family.a, &b, &c, curve, n, output);
-    Ok(())
+    call::<Expanding>(family, curve, output)
 }
 
 // Adjoint, row by row. Refused as plain_expand is.
@@ -90,23 +116,7 @@ pub fn plain_adjoint(family: Prepared, curve: &[u32], output: &mut [u32]) -> Res
     ensures { PreparedPlainCall adjoint (held family) curve.now (answered result)
         output.old output.new }
 {
-    plain_verdict(
-        family.modulus,
-        family.rows,
-        &family.a,
-        &family.b,
-        &family.c,
-        &family.a_inverses,
-        &family.c_inverses,
-        &family.norms,
-        curve,
-        output.len(),
-    )?;
-    let b = family.b;
-    let c = family.c;
-    let n = family.rows as usize + 1;
-    plain::adjoint(family.modulus, &family.a, &b, &c, curve, n, output);
-    Ok(())
+    call::<Adjoining>(family, curve, output)
 }
 
 // Decompose, from the top power, by the stored inverses of the a. Refused as plain_expand is, with the coefficients in the curve's place.

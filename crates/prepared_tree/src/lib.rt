@@ -34,11 +34,23 @@ fn tree_verdict<'a>(
     ensures { answered result ≡ verdict (prepared_tree_tests (fields modulus rows a.now b.now c.now
         a_inverses.now c_inverses.now norms.now) curve.now output work) [] }
 {
-    record_check::record(modulus, rows, a, b, c, a_inverses, c_inverses, norms)?;
+    let right = record_check::record(modulus, rows, a, b, c, a_inverses, c_inverses, norms);
+    let Ok(()) = right else {
+        return right;
+    };
     let n = rows as usize + 1;
-    checks::curve_length(n, curve.len())?;
-    checks::output_length(n, output)?;
-    checks::work_length(work)?;
+    let entries = checks::curve_length(n, curve.len());
+    let Ok(()) = entries else {
+        return entries;
+    };
+    let place = checks::output_length(n, output);
+    let Ok(()) = place else {
+        return place;
+    };
+    let room = checks::work_length(work);
+    let Ok(()) = room else {
+        return room;
+    };
     checks::curve_entries(modulus, curve)
 }
 
@@ -59,8 +71,14 @@ fn moments_verdict<'a>(
     ensures { answered result ≡ verdict (prepared_moments_tests (fields modulus rows a.now b.now c.now
         a_inverses.now c_inverses.now norms.now) output work) [] }
 {
-    record_check::record(modulus, rows, a, b, c, a_inverses, c_inverses, norms)?;
-    checks::output_length(2 * (rows as usize) + 1, output)?;
+    let right = record_check::record(modulus, rows, a, b, c, a_inverses, c_inverses, norms);
+    let Ok(()) = right else {
+        return right;
+    };
+    let place = checks::output_length(2 * (rows as usize) + 1, output);
+    let Ok(()) = place else {
+        return place;
+    };
     checks::work_length(work)
 }
 
