@@ -4,9 +4,12 @@
 // They are evidence and no library calls: public is what the program `weighing` runs, and what other laws go on from.
 #![tactic(auto)]
 
+ghost use Rattle.std.specs.Prelude.{List, ℕ};
+ghost use Rattle.definitions.specs.Answers.{answered, PlainCall, TreeCall};
 ghost use Rattle.definitions.specs.Conversion.{expand, adjoint, decompose};
-ghost use Rattle.definitions.specs.Family.{family};
+ghost use Rattle.definitions.specs.Family.{Family, family};
 ghost use Rattle.laws.specs.Laws.{lists, Made, ThereAndBack, Agreed, HandedOut, Weighed};
+ghost use Rattle.laws.specs.RoundTrips.{Undoes};
 
 use definitions::Refusal;
 use std::fmt;
@@ -27,8 +30,126 @@ impl fmt::Display for Way {
     }
 }
 
-// Expand by the way that is asked for.
-pub fn expand_by(
+// A conversion, by the public calls of either way.
+pub trait Conversion {
+    ghost converted: { Family → List ℕ → List ℕ };
+
+    fn plain(
+        m: u32,
+        a: &[u32],
+        b: &[u32],
+        c: &[u32],
+        curve: &[u32],
+        output: &mut [u32],
+    ) -> Result<(), Refusal>
+        ensures { PlainCall converted (family m a.now b.now c.now) curve.now (answered result)
+            output.old output.new };
+
+    fn tree(
+        m: u32,
+        a: &[u32],
+        b: &[u32],
+        c: &[u32],
+        curve: &[u32],
+        output: &mut [u32],
+        work: &mut [u32],
+    ) -> Result<(), Refusal>
+        ensures { TreeCall converted (family m a.now b.now c.now) curve.now (answered result)
+            output.old output.new work.old work.new };
+}
+
+#[derive(Clone, Copy)]
+pub struct Expanding;
+
+impl Conversion for Expanding {
+    ghost converted = { expand };
+
+    fn plain(
+        m: u32,
+        a: &[u32],
+        b: &[u32],
+        c: &[u32],
+        curve: &[u32],
+        output: &mut [u32],
+    ) -> Result<(), Refusal> {
+        plain_calls::plain_expand(m, a, b, c, curve, output)
+    }
+
+    fn tree(
+        m: u32,
+        a: &[u32],
+        b: &[u32],
+        c: &[u32],
+        curve: &[u32],
+        output: &mut [u32],
+        work: &mut [u32],
+    ) -> Result<(), Refusal> {
+        tree_calls::tree_expand(m, a, b, c, curve, output, work)
+    }
+}
+
+#[derive(Clone, Copy)]
+struct Adjoining;
+
+impl Conversion for Adjoining {
+    ghost converted = { adjoint };
+
+    fn plain(
+        m: u32,
+        a: &[u32],
+        b: &[u32],
+        c: &[u32],
+        curve: &[u32],
+        output: &mut [u32],
+    ) -> Result<(), Refusal> {
+        plain_calls::plain_adjoint(m, a, b, c, curve, output)
+    }
+
+    fn tree(
+        m: u32,
+        a: &[u32],
+        b: &[u32],
+        c: &[u32],
+        curve: &[u32],
+        output: &mut [u32],
+        work: &mut [u32],
+    ) -> Result<(), Refusal> {
+        tree_calls::tree_adjoint(m, a, b, c, curve, output, work)
+    }
+}
+
+#[derive(Clone, Copy)]
+struct Decomposing;
+
+impl Conversion for Decomposing {
+    ghost converted = { decompose };
+
+    fn plain(
+        m: u32,
+        a: &[u32],
+        b: &[u32],
+        c: &[u32],
+        curve: &[u32],
+        output: &mut [u32],
+    ) -> Result<(), Refusal> {
+        plain_calls::plain_decompose(m, a, b, c, curve, output)
+    }
+
+    fn tree(
+        m: u32,
+        a: &[u32],
+        b: &[u32],
+        c: &[u32],
+        curve: &[u32],
+        output: &mut [u32],
+        work: &mut [u32],
+    ) -> Result<(), Refusal> {
+        tree_calls::tree_decompose(m, a, b, c, curve, output, work)
+    }
+}
+
+// A conversion by the way that is asked for.
+pub fn by_way<C: Conversion>(
     way: Way,
     m: u32,
     a: &[u32],
@@ -38,33 +159,34 @@ pub fn expand_by(
     output: &mut [u32],
     work: &mut [u32],
 ) -> Result<(), Refusal>
-    ensures { Made expand way (family m a.now b.now c.now) curve.now result
+    ensures { Made C.converted way (family m a.now b.now c.now) curve.now result
         output.old output.new work.old work.new }
 {
     match way {
-        Way::Plain => plain_calls::plain_expand(m, a, b, c, curve, output),
-        Way::Tree => tree_calls::tree_expand(m, a, b, c, curve, output, work),
+        Way::Plain => C::plain(m, a, b, c, curve, output),
+        Way::Tree => C::tree(m, a, b, c, curve, output, work),
     }
 }
 
-// Decompose by the way that is asked for.
-fn decompose_by(
-    way: Way,
+// Two conversions of which the second undoes the first: what the first handed out becomes the curve again, by either way each.
+fn there_and_back<There: Conversion, Back: Conversion>(
+    first: Way,
+    second: Way,
     m: u32,
     a: &[u32],
     b: &[u32],
     c: &[u32],
-    coefficients: &[u32],
-    output: &mut [u32],
+    curve: &[u32],
+    converted: &mut [u32],
+    returned: &mut [u32],
     work: &mut [u32],
 ) -> Result<(), Refusal>
-    ensures { Made decompose way (family m a.now b.now c.now) coefficients.now result
-        output.old output.new work.old work.new }
+    requires { Undoes There.converted Back.converted }
+    ensures { ThereAndBack There.converted Back.converted first second (family m a.now b.now c.now) curve.now result
+        converted.old converted.new returned.old returned.new work.old work.new }
 {
-    match way {
-        Way::Plain => plain_calls::plain_decompose(m, a, b, c, coefficients, output),
-        Way::Tree => tree_calls::tree_decompose(m, a, b, c, coefficients, output, work),
-    }
+    by_way::<There>(first, m, a, b, c, curve, converted, work)?;
+    by_way::<Back>(second, m, a, b, c, converted, returned, work)
 }
 
 // Decomposing what Expand handed out returns the curve, by either way each.
@@ -83,8 +205,9 @@ fn decompose_after_expand(
     ensures { ThereAndBack expand decompose first second (family m a.now b.now c.now) curve.now result
         expanded.old expanded.new returned.old returned.new work.old work.new }
 {
-    expand_by(first, m, a, b, c, curve, expanded, work)?;
-    decompose_by(second, m, a, b, c, expanded, returned, work)
+    there_and_back::<Expanding, Decomposing>(
+        first, second, m, a, b, c, curve, expanded, returned, work,
+    )
 }
 
 // Expanding what Decompose handed out returns the coefficients, by either way each.
@@ -103,8 +226,36 @@ fn expand_after_decompose(
     ensures { ThereAndBack decompose expand first second (family m a.now b.now c.now) coefficients.now result
         decomposed.old decomposed.new returned.old returned.new work.old work.new }
 {
-    decompose_by(first, m, a, b, c, coefficients, decomposed, work)?;
-    expand_by(second, m, a, b, c, decomposed, returned, work)
+    there_and_back::<Decomposing, Expanding>(
+        first,
+        second,
+        m,
+        a,
+        b,
+        c,
+        coefficients,
+        decomposed,
+        returned,
+        work,
+    )
+}
+
+// A conversion by the plain way and by the tree way: the same list.
+fn by_both_ways<C: Conversion>(
+    m: u32,
+    a: &[u32],
+    b: &[u32],
+    c: &[u32],
+    curve: &[u32],
+    plain: &mut [u32],
+    tree: &mut [u32],
+    work: &mut [u32],
+) -> Result<(), Refusal>
+    ensures { Agreed C.converted (family m a.now b.now c.now) curve.now result
+        plain.old plain.new tree.old tree.new work.old work.new }
+{
+    C::plain(m, a, b, c, curve, plain)?;
+    C::tree(m, a, b, c, curve, tree, work)
 }
 
 // Expand by the plain way and by the tree way: the same list.
@@ -121,8 +272,7 @@ fn expand_by_both_ways(
     ensures { Agreed expand (family m a.now b.now c.now) curve.now result
         plain.old plain.new tree.old tree.new work.old work.new }
 {
-    plain_calls::plain_expand(m, a, b, c, curve, plain)?;
-    tree_calls::tree_expand(m, a, b, c, curve, tree, work)
+    by_both_ways::<Expanding>(m, a, b, c, curve, plain, tree, work)
 }
 
 // Adjoint by the plain way and by the tree way: the same list.
@@ -139,8 +289,7 @@ fn adjoint_by_both_ways(
     ensures { Agreed adjoint (family m a.now b.now c.now) curve.now result
         plain.old plain.new tree.old tree.new work.old work.new }
 {
-    plain_calls::plain_adjoint(m, a, b, c, curve, plain)?;
-    tree_calls::tree_adjoint(m, a, b, c, curve, tree, work)
+    by_both_ways::<Adjoining>(m, a, b, c, curve, plain, tree, work)
 }
 
 // Decompose by the plain way and by the tree way: the same list.
@@ -157,8 +306,7 @@ fn decompose_by_both_ways(
     ensures { Agreed decompose (family m a.now b.now c.now) coefficients.now result
         plain.old plain.new tree.old tree.new work.old work.new }
 {
-    plain_calls::plain_decompose(m, a, b, c, coefficients, plain)?;
-    tree_calls::tree_decompose(m, a, b, c, coefficients, tree, work)
+    by_both_ways::<Decomposing>(m, a, b, c, coefficients, plain, tree, work)
 }
 
 // Expand for u and for v, Moments and Norms, until one refuses.
@@ -181,8 +329,8 @@ fn hand_out(
         (lists s.old t.old moment.old norm.old work.old) result
         (lists s.new t.new moment.new norm.new work.new) }
 {
-    expand_by(first, m, a, b, c, u, s, work)?;
-    expand_by(second, m, a, b, c, v, t, work)?;
+    by_way::<Expanding>(first, m, a, b, c, u, s, work)?;
+    by_way::<Expanding>(second, m, a, b, c, v, t, work)?;
     tree_calls::moments(m, a, b, c, moment, work)?;
     plain_calls::norms(m, a, b, c, norm)
 }
