@@ -4,17 +4,22 @@
 
 ghost use Rattle.std.specs.Prelude.{◌≤◌, length};
 
-use definitions::{Answer, InverseAnswer};
+use definitions::{NotInverted, Refusal};
 use std::io;
 
 fn list_of<const N: usize>(x: u32) -> [u32; N] {
     [x; N]
 }
 
-fn show(rt: &impl Print, label: &str, answer: Answer, output: &[u32]) -> io::Result<()> {
+fn show(
+    rt: &impl Print,
+    label: &str,
+    answer: Result<(), Refusal>,
+    output: &[u32],
+) -> io::Result<()> {
     match answer {
-        Answer::Finished => print!(rt; "{label} finished:")?,
-        Answer::Refused(k) => print!(rt; "{label} refused {k}:")?,
+        Ok(()) => print!(rt; "{label} finished:")?,
+        Err(refusal) => print!(rt; "{label} refused {}:", u32::from(refusal))?,
     }
     for x in output {
         print!(rt; " {x}")?;
@@ -22,16 +27,19 @@ fn show(rt: &impl Print, label: &str, answer: Answer, output: &[u32]) -> io::Res
     println!(rt)
 }
 
-fn show_inverse(rt: &impl Print, label: &str, answer: InverseAnswer) -> io::Result<()> {
+fn show_inverse(rt: &impl Print, label: &str, answer: Result<u32, NotInverted>) -> io::Result<()> {
     match answer {
-        InverseAnswer::Found(y, g) => println!(rt; "{label} value: {y}, factor {g}"),
-        InverseAnswer::NoInverse(g) => println!(rt; "{label} refused 13, factor {g}"),
-        InverseAnswer::Refused(k) => println!(rt; "{label} refused {k}"),
+        Ok(y) => println!(rt; "{label} value: {y}, factor 1"),
+        Err(NotInverted::Shares { factor }) => println!(rt; "{label} refused 13, factor {factor}"),
+        Err(NotInverted::Refused(refusal)) => println!(rt;
+            "{label} refused {}",
+            u32::from(refusal)
+        ),
     }
 }
 
 // A call, shown with what its output then holds.
-fn figure<F: FnOnce(&mut [u32]) -> Answer>(
+fn figure<F: FnOnce(&mut [u32]) -> Result<(), Refusal>>(
     rt: &impl Print,
     label: &str,
     output: &mut [u32],
@@ -153,7 +161,7 @@ fn on_row_factors(rt: &impl Print) -> io::Result<()> {
 
 // A call that is lent a working list of nines, of which a second line shows the first number, the last that an accepted call clears, and
 // the one after that; of a shorter list the last two.
-fn figure_in<F: FnOnce(&mut [u32], &mut [u32]) -> Answer>(
+fn figure_in<F: FnOnce(&mut [u32], &mut [u32]) -> Result<(), Refusal>>(
     rt: &impl Print,
     label: &str,
     output: &mut [u32],
@@ -174,7 +182,7 @@ fn figure_in<F: FnOnce(&mut [u32], &mut [u32]) -> Answer>(
     )
 }
 
-fn by_tree<F: FnOnce(&mut [u32], &mut [u32]) -> Answer>(
+fn by_tree<F: FnOnce(&mut [u32], &mut [u32]) -> Result<(), Refusal>>(
     rt: &impl Print,
     label: &str,
     output: &mut [u32],

@@ -9,7 +9,7 @@ ghost use Rattle.storing.specs.declared.Direction.{Direction};
 ghost use Rattle.order_laws.specs.Laws.{OrderTrip, EvenExpanded};
 
 use definitions::Refusal;
-use laws::Way;
+use laws::{Expanding, Way};
 
 // Even back of what Even first handed out returns the list.
 fn back_after_first(list: &[u32], between: &mut [u32], output: &mut [u32]) -> Result<(), Refusal>
@@ -45,6 +45,6 @@ fn expanded_even_first(
     ensures { EvenExpanded way (family m a.now b.now c.now) curve.now (answered result)
         expanded.old expanded.new output.old output.new work.old work.new }
 {
-    laws::expand_by(way, m, a, b, c, curve, expanded, work)?;
+    laws::by_way::<Expanding>(way, m, a, b, c, curve, expanded, work)?;
     order_calls::even_first(expanded, output)
 }

@@ -5,7 +5,8 @@
 
 ghost use Rattle.std.specs.Prelude.{◌≤◌, ◌<◌, length};
 
-use laws::{Totals, Way};
+use definitions::Refusal;
+use laws::Way;
 use std::io;
 
 // A family, and two curves on it that are weighed against one another.
@@ -22,7 +23,7 @@ struct Pair<'a> {
 }
 
 // Both totals for a family and its curves, in lists that are as long as the law asks; the longest is that of the moments.
-fn weigh(first: Way, second: Way, pair: Pair) -> Totals {
+fn weigh(first: Way, second: Way, pair: Pair) -> Result<(u32, u32), Refusal> {
     let n = pair.u.len();
     let count = 2 * n - 1;
     let mut s: [u32; 128] = lists::zeros();
@@ -50,9 +51,9 @@ fn weigh(first: Way, second: Way, pair: Pair) -> Totals {
 fn line(rt: &impl Print, first: Way, second: Way, pair: Pair) -> io::Result<()> {
     print!(rt; "{} {} {first} {second} ", pair.m, pair.a.len())?;
     match weigh(first, second, pair) {
-        Totals::Weighed(x, y) if x == y => println!(rt; "{x} {y} equal"),
-        Totals::Weighed(x, y) => println!(rt; "{x} {y} different"),
-        Totals::Refused(k) => println!(rt; "refused {k} "),
+        Ok((x, y)) if x == y => println!(rt; "{x} {y} equal"),
+        Ok((x, y)) => println!(rt; "{x} {y} different"),
+        Err(refusal) => println!(rt; "refused {} ", u32::from(refusal)),
     }
 }
 
