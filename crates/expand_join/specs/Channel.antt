@@ -8,10 +8,11 @@ use Rattle.std.proofs.lemmas.List.{length-map, length-replicate}
 use Rattle.std.proofs.Math.ListN.{get_or-append}
 use Rattle.definitions.specs.Answers.{Answer, answered}
 use Rattle.definitions.specs.Conversion.{expand}
-use Rattle.definitions.specs.Family.{Modulus, family, ones}
+use Rattle.definitions.specs.Family.{Modulus, Accepted, Curve, family, ones}
 use Rattle.definitions.specs.Refusals.{verdict}
 use Rattle.acceptance.specs.Stages.{stage-none}
 use Rattle.acceptance.specs.Verdicts.{none-append}
+use Rattle.lists.specs.Accepting.{Accepting, accepting}
 use Rattle.lists.specs.Held.{Holds}
 use Rattle.lists.specs.Lent.{lent}
 use Rattle.plain.specs.Input.{ConvertInput}
@@ -63,6 +64,29 @@ module _ (m : ℕ) (a b c u : List ℤ) (l : ℕ) (s : ChannelInput m a b c u l)
       curve_holds = front-holds m some u v₀ v ev (length u) refl;
       output_long = omega (arith, s.room);
     }
+
+    rows-taken : family m (take (length a) x) (take (length a) y) (take (length a) z) ≡ reduced m (signed a b c)
+    rows-taken = rw (
+      front-taken m some a x₀ x ex (length a) refl,
+      front-taken m some b y₀ y ey (length a) (sym s.b_same),
+      front-taken m some c z₀ z ez (length a) (sym s.c_same),
+    )
+
+    pub channel-accepted : Accepted (reduced m (signed a b c))
+        → Accepting (family m (take (length a) x) (take (length a) y) (take (length a) z))
+    channel-accepted h = rw rows-taken (accepting h)
+
+    pub channel-curve : Curve (family m (take (length a) x) (take (length a) y) (take (length a) z)) (take (length u) v)
+    channel-curve = rw (rows-taken, front-taken m some u v₀ v ev (length u) refl) (record {
+      long = omega (arith, length-map u (remainder m), length-map a (remainder m), s.curve_long);
+      below = λ i h. remainders-below m some u i 0 some;
+    })
+
+    pub channel-written : (out part : List ℕ)
+        → part ≡ expand (family m (take (length a) x) (take (length a) y) (take (length a) z)) (take (length u) v)
+        → part ++ drop (length u) out ≡ reduced_expand m (signed a b c) u ++ drop (length u) out
+    channel-written out part e =
+        ap (λ w. w ++ drop (length u) out) (e ∙ ap₂ expand rows-taken (front-taken m some u v₀ v ev (length u) refl))
 
     pub channel-result : (out out' : List ℕ) → out' ≡ expand (lent m (length u - 1) x y z ones) (take (length u) v) ++ drop (length u) out
         → out' ≡ reduced_expand m (signed a b c) u ++ drop (length u) out
@@ -125,6 +149,12 @@ module _ (m m' k : ℕ) (pair : Paired m m' k) (a b c u : List ℤ) (output : �
 
   pub second-asked : (z : List ℕ) → z ≡ replicate 128 0 → ChannelInput m' a b c u (length z)
   second-asked = channel-asked m' pair.second
+
+  pub first-accepted : Accepted (reduced m (signed a b c))
+  first-accepted = input.accepted
+
+  pub second-accepted : Accepted (reduced m' (signed a b c))
+  second-accepted = input.accepted'
 
   module _ (x y x₀ y₀ : List ℕ) (ex : x ≡ reduced_expand m (signed a b c) u ++ x₀) (ey : y ≡ reduced_expand m' (signed a b c) u ++ y₀) where
     lengths : output ≡ length u

@@ -5,7 +5,7 @@
 
 ghost use Rattle.std.specs.Prelude.{List, [], ◌++◌, ◌≡◌, ◌≤◌, ◌<◌, ℤ, length, drop};
 ghost use Rattle.definitions.specs.Answers.{answered, number_of};
-ghost use Rattle.definitions.specs.Family.{Modulus};
+ghost use Rattle.definitions.specs.Family.{Modulus, Accepted};
 ghost use Rattle.definitions.specs.Refusals.{verdict};
 ghost use Rattle.checks.specs.Columns.{column_tests};
 ghost use Rattle.joining.specs.Expanding.{signed, reduced_list, reduced, reduced_expand};
@@ -13,15 +13,21 @@ ghost use Rattle.joining.specs.Calls.{size_tests, both_rows, ExpandJoinCall};
 ghost use Rattle.expand_join.specs.Input.{Sized, ChannelInput};
 
 use definitions::{FIRST_C, Refusal};
-use lists::zeros;
+use lists::{Family, zeros};
 
 // 4, 5, 6 and 7 of the lengths of the rows' lists, the curve and the output, where m has passed its test.
 fn sizes(m: u32, a: usize, b: usize, c: usize, curve: usize, output: usize) -> Result<(), Refusal>
     requires { Modulus m }
     ensures { answered result ≡ verdict (size_tests a b c curve output) [] }
 {
-    checks::family_shape(m, a, b, c)?;
-    checks::curve_length(a + 1, curve)?;
+    let shape = checks::family_shape(m, a, b, c);
+    let Ok(()) = shape else {
+        return shape;
+    };
+    let entries = checks::curve_length(a + 1, curve);
+    let Ok(()) = entries else {
+        return entries;
+    };
     checks::output_length(a + 1, output)
 }
 
@@ -43,9 +49,18 @@ fn rows(m1: u32, m2: u32, a: &[i32], c: &[i32]) -> Result<(), Refusal>
     ensures { (b : List ℤ) → answered result ≡ verdict (both_rows (reduced m1 (signed a.now b c.now))
         (reduced m2 (signed a.now b c.now))) [] }
 {
-    column(m1, a, 0, Refusal::ZeroA, Refusal::NoInverseA)?;
-    column(m2, a, 0, Refusal::ZeroA, Refusal::NoInverseA)?;
-    column(m1, c, FIRST_C, Refusal::ZeroC, Refusal::NoInverseC)?;
+    let first_a = column(m1, a, 0, Refusal::ZeroA, Refusal::NoInverseA);
+    let Ok(()) = first_a else {
+        return first_a;
+    };
+    let second_a = column(m2, a, 0, Refusal::ZeroA, Refusal::NoInverseA);
+    let Ok(()) = second_a else {
+        return second_a;
+    };
+    let first_c = column(m1, c, FIRST_C, Refusal::ZeroC, Refusal::NoInverseC);
+    let Ok(()) = first_c else {
+        return first_c;
+    };
     column(m2, c, FIRST_C, Refusal::ZeroC, Refusal::NoInverseC)
 }
 
@@ -57,13 +72,16 @@ fn tests(m1: u32, m2: u32, a: &[i32], b: &[i32], c: &[i32], curve: usize, output
         ++ both_rows (reduced m1 (signed a.now b.now c.now))
         (reduced m2 (signed a.now b.now c.now))) [] }
 {
-    sizes(m1, a.len(), b.len(), c.len(), curve, output)?;
+    let sized = sizes(m1, a.len(), b.len(), c.len(), curve, output);
+    let Ok(()) = sized else {
+        return sized;
+    };
     rows(m1, m2, a, c)
 }
 
 // Expand modulo m of the remainders of rows and curve, at the front of output.
 fn expand_channel(m: u32, a: &[i32], b: &[i32], c: &[i32], curve: &[i32], output: &mut [u32])
-    requires { ChannelInput m a.now b.now c.now curve.now (length output.old) }
+    requires { ChannelInput m a.now b.now c.now curve.now (length output.old) × Accepted (reduced m (signed a.now b.now c.now)) }
     ensures { output.new
         ≡ reduced_expand m (signed a.now b.now c.now) curve.now
         ++ drop (length curve.now) output.old }
@@ -76,7 +94,15 @@ fn expand_channel(m: u32, a: &[i32], b: &[i32], c: &[i32], curve: &[i32], output
     join::reduce_list(m, b, &mut y);
     join::reduce_list(m, c, &mut z);
     join::reduce_list(m, curve, &mut u);
-    plain::expand(m, &x, &y, &z, &u, curve.len(), output);
+    let rows = a.len();
+    let n = curve.len();
+    let family = Family {
+        modulus: m,
+        a: &x[..rows],
+        b: &y[..rows],
+        c: &z[..rows],
+    };
+    plain::expand(&family, &u[..n], &mut output[..n]);
 }
 
 // Expand and join, row by row on each channel: output[k] becomes the joined value of the coefficients of x^k modulo m1 and modulo m2. Where the

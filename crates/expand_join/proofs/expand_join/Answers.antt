@@ -4,7 +4,7 @@ use lib.ListN.{length, drop}
 use Rattle.joining.specs.Calls.{expand_join_tests}
 use Rattle.join_calls.specs.Handing.{moduli-hand-on, rest-hand-on, rest-passes}
 use Rattle.join_calls.specs.Pairs.{answer-pair, answer-refused}
-use Rattle.expand_join.specs.Channel.{first-asked, second-asked, both-held, both-joined}
+use Rattle.expand_join.specs.Channel.{first-asked, second-asked, first-accepted, second-accepted, both-held, both-joined}
 use Rattle.expand_join.proofs.expand_join.Goals as goal
 
 pub returns-in_err-inverse : goal.returns-in_err-inverse
@@ -25,13 +25,17 @@ returns-in_err-tests c =
 
 pub expand_channel-requires : goal.expand_channel-requires
 expand_channel-requires c =
-    first-asked _ _ _ (answer-pair _ _ c.moduli.ensures c.in_ok-inverse.was) _ _ _ _ _ c.tests.result
-    c.tests.ensures c.in_ok-tests.was _ c.zeros-x.ensures
+    let pair = answer-pair _ _ c.moduli.ensures c.in_ok-inverse.was in (
+      first-asked _ _ _ pair _ _ _ _ _ c.tests.result c.tests.ensures c.in_ok-tests.was _ c.zeros-x.ensures,
+      first-accepted _ _ _ pair _ _ _ _ _ c.tests.result c.tests.ensures c.in_ok-tests.was,
+    )
 
 pub expand_channel-requires-2 : goal.expand_channel-requires-2
 expand_channel-requires-2 c =
-    second-asked _ _ _ (answer-pair _ _ c.moduli.ensures c.in_ok-inverse.was) _ _ _ _ _ c.tests.result
-    c.tests.ensures c.in_ok-tests.was _ c.zeros-y.ensures
+    let pair = answer-pair _ _ c.moduli.ensures c.in_ok-inverse.was in (
+      second-asked _ _ _ pair _ _ _ _ _ c.tests.result c.tests.ensures c.in_ok-tests.was _ c.zeros-y.ensures,
+      second-accepted _ _ _ pair _ _ _ _ _ c.tests.result c.tests.ensures c.in_ok-tests.was,
+    )
 
 pub join_lists-requires : goal.join_lists-requires
 join_lists-requires c =
