@@ -8,7 +8,7 @@
 use Rattle.std.specs.Prelude.{◌≡◌, Bool, true, false, List, [], ◌∷◌, ◌++◌, ℕ, zero, suc, ◌<◌, ◌≤◌, eqb, ℤ, length, drop, Ok, Err, Option, Some}
 use Rattle.std.proofs.Math.Path.{refl}
 use Rattle.std.proofs.Common.{sym, ◌∙◌, ap, subst, arith}
-use Rattle.definitions.specs.Answers.{Valued, InverseAnswer, valued, inverse_answered, inverse_handed, factor_handed, after, cleared, Converted, ConvertedIn}
+use Rattle.definitions.specs.Answers.{Valued, InverseAnswer, number_of, valued, inverse_answered, inverse_handed, factor_handed, after, cleared, Converted, ConvertedIn}
 use Rattle.definitions.specs.Answers.{InverseCall}
 use Rattle.definitions.specs.Number.{greatest_factor}
 use Rattle.definitions.specs.Prepared.{Prepared, Changed, handed_back}
@@ -18,6 +18,7 @@ use Rattle.definitions.specs.TextCall.{text_tests, reply, TextConverted}
 use Rattle.definitions.specs.JobWriting.{writing_tests, JobWritten}
 use Rattle.definitions.specs.declared.NotInverted.{NotInverted}
 use Rattle.definitions.specs.declared.Operation.{Operation}
+use Rattle.definitions.specs.declared.Refusal.{Refusal}
 use Rattle.joining.specs.Calls.{WholesHanded}
 use Rattle.acceptance.specs.Given.{revalued, refused-given}
 use Rattle.acceptance.specs.Verdicts.{refused-not-finished, verdict-next, with_values, verdict-values}

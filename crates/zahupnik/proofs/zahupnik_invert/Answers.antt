@@ -3,11 +3,11 @@
 use Rattle.zahupnik.proofs.Returning.{found-returned, without-returned, early-returned}
 use Rattle.zahupnik.proofs.zahupnik_invert.Goals as goal
 
-pub returns-in-Found : goal.returns-in-Found
-returns-in-Found c = found-returned _ _ _ _ _ c.invert.ensures _ _ c.in-Found.is
+pub returns-in-Ok : goal.returns-in-Ok
+returns-in-Ok c = found-returned _ _ _ _ _ c.invert.ensures _ c.in-Ok.is
 
-pub returns-in-NoInverse : goal.returns-in-NoInverse
-returns-in-NoInverse c = without-returned _ _ _ _ _ c.invert.ensures _ c.in-NoInverse.is
+pub returns-in-Err-Shares : goal.returns-in-Err-Shares
+returns-in-Err-Shares c = without-returned _ _ _ _ _ c.invert.ensures _ c.in-Err-Shares.is
 
-pub returns-in-Err : goal.returns-in-Err
-returns-in-Err c = early-returned _ _ _ _ _ c.invert.ensures _ c.in-Err.is
+pub returns-in-Err-Refused : goal.returns-in-Err-Refused
+returns-in-Err-Refused c = rw c.from.ensures (early-returned _ _ _ _ _ c.invert.ensures _ c.in-Err-Refused.is)
