@@ -1,7 +1,6 @@
 // The operations on a prepared family by the plain way, and Norms: the record stands in the place of m, a, b and c. Each makes every test
 // itself, ends on every input, and either converts or refuses with the paper's number and touches nothing: none has a 'requires', and each
-// has one 'ensures' that settles answer and output on every input. No inverse is searched for. The record's lists are lent to the tests;
-// a core, which takes each list for a time of its own, is lent one of them and copies of the others.
+// has one 'ensures' that settles answer and output on every input. No inverse is searched for.
 #![tactic(auto)]
 
 ghost use Rattle.std.specs.Prelude.{◌≡◌, []};
@@ -10,8 +9,6 @@ ghost use Rattle.definitions.specs.Conversion.{expand, adjoint, decompose};
 ghost use Rattle.definitions.specs.PreparedCalls.{prepared_plain_tests, prepared_norms_tests, PreparedPlainCall, PreparedNormsCall};
 ghost use Rattle.definitions.specs.Refusals.{verdict};
 ghost use Rattle.prepared.specs.Held.{held};
-ghost use Rattle.prepared_model.specs.Parts.{fields};
-ghost use Rattle.prepared_model.specs.Rightness.{Sized};
 
 use definitions::Refusal;
 use lists::Family;
@@ -19,67 +16,10 @@ use plain::{Adjoining, Conversion, Expanding};
 use prepared::Prepared;
 
 // 14, 6, 7 and 12.
-fn plain_verdict<'a>(
-    modulus: u32,
-    rows: u32,
-    a: &'a [u32],
-    b: &'a [u32],
-    c: &'a [u32],
-    a_inverses: &'a [u32],
-    c_inverses: &'a [u32],
-    norms: &'a [u32],
-    curve: &[u32],
-    output: usize,
-) -> Result<(), Refusal>
-    requires { Sized (fields modulus rows a.now b.now c.now a_inverses.now c_inverses.now norms.now) }
-    ensures { answered result ≡ verdict (prepared_plain_tests (fields modulus rows a.now b.now c.now
-        a_inverses.now c_inverses.now norms.now) curve.now output) [] }
+fn plain_verdict(family: &Prepared, curve: &[u32], output: usize) -> Result<(), Refusal>
+    ensures { answered result ≡ verdict (prepared_plain_tests (held family.now) curve.now output) [] }
 {
-    let right = record_check::record(modulus, rows, a, b, c, a_inverses, c_inverses, norms);
-    let Ok(()) = right else {
-        return right;
-    };
-    let n = rows as usize + 1;
-    let entries = checks::curve_length(n, curve.len());
-    let Ok(()) = entries else {
-        return entries;
-    };
-    let place = checks::output_length(n, output);
-    let Ok(()) = place else {
-        return place;
-    };
-    checks::curve_entries(modulus, curve)
-}
-
-// 14 and 7.
-fn norms_verdict<'a>(
-    modulus: u32,
-    rows: u32,
-    a: &'a [u32],
-    b: &'a [u32],
-    c: &'a [u32],
-    a_inverses: &'a [u32],
-    c_inverses: &'a [u32],
-    norms: &'a [u32],
-    output: usize,
-) -> Result<(), Refusal>
-    requires { Sized (fields modulus rows a.now b.now c.now a_inverses.now c_inverses.now norms.now) }
-    ensures { answered result ≡ verdict (prepared_norms_tests (fields modulus rows a.now b.now c.now
-        a_inverses.now c_inverses.now norms.now) output) [] }
-{
-    let right = record_check::record(modulus, rows, a, b, c, a_inverses, c_inverses, norms);
-    let Ok(()) = right else {
-        return right;
-    };
-    checks::output_length(rows as usize + 1, output)
-}
-
-// A conversion by the plain way on a record: its tests, and then its core, lent the rows.
-fn call<C: Conversion>(family: Prepared, curve: &[u32], output: &mut [u32]) -> Result<(), Refusal>
-    ensures { PreparedPlainCall C.converted (held family) curve.now (answered result)
-        output.old output.new }
-{
-    plain_verdict(
+    let right = record_check::record(
         family.modulus,
         family.rows,
         &family.a,
@@ -88,9 +28,48 @@ fn call<C: Conversion>(family: Prepared, curve: &[u32], output: &mut [u32]) -> R
         &family.a_inverses,
         &family.c_inverses,
         &family.norms,
-        curve,
-        output.len(),
-    )?;
+    );
+    let Ok(()) = right else {
+        return right;
+    };
+    let n = family.rows as usize + 1;
+    let entries = checks::curve_length(n, curve.len());
+    let Ok(()) = entries else {
+        return entries;
+    };
+    let place = checks::output_length(n, output);
+    let Ok(()) = place else {
+        return place;
+    };
+    checks::curve_entries(family.modulus, curve)
+}
+
+// 14 and 7.
+fn norms_verdict(family: &Prepared, output: usize) -> Result<(), Refusal>
+    ensures { answered result ≡ verdict (prepared_norms_tests (held family.now) output) [] }
+{
+    let right = record_check::record(
+        family.modulus,
+        family.rows,
+        &family.a,
+        &family.b,
+        &family.c,
+        &family.a_inverses,
+        &family.c_inverses,
+        &family.norms,
+    );
+    let Ok(()) = right else {
+        return right;
+    };
+    checks::output_length(family.rows as usize + 1, output)
+}
+
+// A conversion by the plain way on a record: its tests, and then its core, lent the rows.
+fn call<C: Conversion>(family: Prepared, curve: &[u32], output: &mut [u32]) -> Result<(), Refusal>
+    ensures { PreparedPlainCall C.converted (held family) curve.now (answered result)
+        output.old output.new }
+{
+    plain_verdict(&family, curve, output.len())?;
     let rows = family.rows as usize;
     let lent = Family {
         modulus: family.modulus,
@@ -124,30 +103,15 @@ pub fn plain_decompose(family: Prepared, coefficients: &[u32], output: &mut [u32
     ensures { PreparedPlainCall decompose (held family) coefficients.now (answered result)
         output.old output.new }
 {
-    plain_verdict(
-        family.modulus,
-        family.rows,
-        &family.a,
-        &family.b,
-        &family.c,
-        &family.a_inverses,
-        &family.c_inverses,
-        &family.norms,
-        coefficients,
-        output.len(),
-    )?;
-    let b = family.b;
-    let c = family.c;
-    let n = family.rows as usize + 1;
-    plain::decompose(
-        family.modulus,
-        &family.a_inverses,
-        &b,
-        &c,
-        coefficients,
-        n,
-        output,
-    );
+    plain_verdict(&family, coefficients, output.len())?;
+    let rows = family.rows as usize;
+    let inverted = Family {
+        modulus: family.modulus,
+        a: &family.a_inverses[..rows],
+        b: &family.b[..rows],
+        c: &family.c[..rows],
+    };
+    plain::decompose(&inverted, coefficients, output);
     Ok(())
 }
 
@@ -155,17 +119,7 @@ pub fn plain_decompose(family: Prepared, coefficients: &[u32], output: &mut [u32
 pub fn norms(family: Prepared, output: &mut [u32]) -> Result<(), Refusal>
     ensures { PreparedNormsCall (held family) (answered result) output.old output.new }
 {
-    norms_verdict(
-        family.modulus,
-        family.rows,
-        &family.a,
-        &family.b,
-        &family.c,
-        &family.a_inverses,
-        &family.c_inverses,
-        &family.norms,
-        output.len(),
-    )?;
+    norms_verdict(&family, output.len())?;
     lists::copy(&family.norms, family.rows as usize + 1, output);
     Ok(())
 }

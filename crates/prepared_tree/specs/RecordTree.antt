@@ -2,10 +2,10 @@
 -- Proved: where they pass, the core is handed what it asks for, the stored inverses where it is lent some, and with what it leaves the
 -- promise is kept: for Expand and Adjoint, whose lists are the tree model's, for Decompose and for Moments. Assumes nothing.
 use Rattle.std.specs.Prelude.{◌≡◌, refl, List, [], ℕ, ◌+◌, ◌*◌, ◌-◌, length, take, Ok}
-use Rattle.std.proofs.Common.{sym, ◌∙◌, ap, arith}
-use Rattle.definitions.specs.Answers.{Answer, answered}
+use Rattle.std.proofs.Common.{sym, ◌∙◌, ap, arith, get_or-take}
+use Rattle.definitions.specs.Answers.{Answer, answered, cleared}
 use Rattle.definitions.specs.Conversion.{expand, adjoint, decompose}
-use Rattle.definitions.specs.Family.{Family, ones}
+use Rattle.definitions.specs.Family.{Family, ones, rows}
 use Rattle.definitions.specs.Orthogonality.{moments}
 use Rattle.definitions.specs.Prepared.{Prepared, Right, own_rows}
 use Rattle.definitions.specs.PreparedCalls.{prepared_tree_tests, prepared_moments_tests, PreparedTreeCall, PreparedMomentsCall}
@@ -14,16 +14,40 @@ use Rattle.acceptance.specs.Acceptance.{TreeInput, MomentsInput}
 use Rattle.acceptance.specs.Promises.{both-made}
 use Rattle.acceptance.specs.Stages.{stage-none}
 use Rattle.lists.specs.Held.{Output}
+use Rattle.lists.specs.Inverses.{Inverts}
+use Rattle.lists.specs.Lending.{Lending, accepted-lending}
 use Rattle.lists.specs.Lent.{lent}
 use Rattle.lists.specs.Whole.{output-whole}
 use Rattle.moment_way.specs.Input.{MomentsCoreInput, DecomposeInput, accepted-moments, accepted-decompose}
 use Rattle.prepared_model.specs.Accepting.{prepared-tree-passes, prepared-moments-passes}
 use Rattle.prepared_model.specs.Lending.{right-size, right-lent, right-curve, right-converts, right-inverts-a, right-inverts-c}
-use Rattle.prepared_model.specs.Rightness.{right-long}
+use Rattle.prepared_model.specs.Rightness.{right-long, right-rows}
 use Rattle.tree.specs.Input.{Input, accepted-input}
 use Rattle.tree_model.specs.Tree.{tree_expand, tree_adjoint}
 use Rattle.tree_model.proofs.TreeAdjoint.{tree-adjoint-accepted}
 use Rattle.tree_model.proofs.TreeExpand.{tree-expand-accepted}
+
+-- ---- the rows of a right record, as the cores are lent them
+module _ {p : Prepared} (right : Right p) where
+  pub right-lending : Lending (own_rows p)
+  right-lending = accepted-lending right.accepted
+
+  -- beside the first rows of a list stand the inverses of its entries
+  taken-inverts : {first : ℕ} {list inverses : List ℕ} → Inverts p.modulus first (p.rows + 1 - 1) list inverses 1 1
+      → Inverts p.modulus first (rows (own_rows p)) (take p.rows list) inverses 1 1
+  taken-inverts {first} {list} {inverses} h =
+      let count : p.rows + 1 - 1 ≡ p.rows = omega arith in
+      rw (right-rows right) (record {
+        long = omega (arith, h.long);
+        inverts = λ i g l. rw (get_or-take p.rows list i 0 l) (h.inverts i g (omega arith));
+        closes = λ g. h.closes (omega arith);
+      })
+
+  pub right-inverts : Inverts p.modulus 0 (rows (own_rows p)) (take p.rows p.a) p.a_inverses 1 1
+  right-inverts = taken-inverts (right-inverts-a right)
+
+  pub right-inverts-from-second : Inverts p.modulus 1 (rows (own_rows p)) (take p.rows p.c) p.c_inverses 1 1
+  right-inverts-from-second = taken-inverts (right-inverts-c right)
 
 -- ---- the conversions
 module _ (p : Prepared) (u output work : List ℕ) {r : Answer}
@@ -38,6 +62,16 @@ module _ (p : Prepared) (u output work : List ℕ) {r : Answer}
 
   input : TreeInput (own_rows p) u (length output) (length work)
   input = accepted.1
+
+  pub record-right : Right p
+  record-right = right
+
+  pub record-input : TreeInput (own_rows p) u (length output) (length work)
+  record-input = input
+
+  pub record-made : (convert : Family → List ℕ → List ℕ) {output' work' : List ℕ} → output' ≡ convert (own_rows p) u → work' ≡ cleared work
+      → PreparedTreeCall convert p u (answered (Ok tt)) output output' work work'
+  record-made convert e w = both-made is q e w
 
   pub tree-core : Input p.modulus p.a p.b p.c u (p.rows + 1) output work
   tree-core =
@@ -83,6 +117,13 @@ module _ (p : Prepared) (output work : List ℕ) {r : Answer}
   asked =
       (prepared-moments-passes p (length output) (length work)).0
       (stage-none (prepared_moments_tests p (length output) (length work)) r is q)
+
+  pub moments-asked : Right p × MomentsInput (own_rows p) (length output) (length work)
+  moments-asked = asked
+
+  pub moments-done : {output' work' : List ℕ} → output' ≡ moments (own_rows p) → work' ≡ cleared work
+      → PreparedMomentsCall p (answered (Ok tt)) output output' work work'
+  moments-done e w = both-made is q e w
 
   pub moments-core : MomentsCoreInput p.modulus p.a p.b p.c p.a_inverses ones 1 (p.rows + 1) output work
   moments-core =

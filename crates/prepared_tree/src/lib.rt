@@ -1,7 +1,6 @@
 // The operations on a prepared family by the tree way, and Moments: the record stands in the place of m, a, b and c. Each makes every test
 // itself, ends on every input, and either converts or refuses with the paper's number and touches nothing: none has a 'requires', and each
-// has one 'ensures' that settles answer, output and working list on every input. No inverse is searched for. The record's lists are lent to
-// the tests; a core, which takes each list for a time of its own, is lent one of them and copies of the others.
+// has one 'ensures' that settles answer, output and working list on every input. No inverse is searched for.
 #![tactic(auto)]
 
 ghost use Rattle.std.specs.Prelude.{◌≡◌, []};
@@ -10,35 +9,31 @@ ghost use Rattle.definitions.specs.Conversion.{expand, adjoint, decompose};
 ghost use Rattle.definitions.specs.PreparedCalls.{prepared_tree_tests, prepared_moments_tests, PreparedTreeCall, PreparedMomentsCall};
 ghost use Rattle.definitions.specs.Refusals.{verdict};
 ghost use Rattle.prepared.specs.Held.{held};
-ghost use Rattle.prepared_model.specs.Parts.{fields};
-ghost use Rattle.prepared_model.specs.Rightness.{Sized};
 
 use definitions::Refusal;
+use lists::Family;
+use moment_way::Inverted;
 use prepared::Prepared;
+use tree::{Adjoining, Conversion, Expanding};
 
 // 14, 6, 7, 8 and 12.
-fn tree_verdict<'a>(
-    modulus: u32,
-    rows: u32,
-    a: &'a [u32],
-    b: &'a [u32],
-    c: &'a [u32],
-    a_inverses: &'a [u32],
-    c_inverses: &'a [u32],
-    norms: &'a [u32],
-    curve: &[u32],
-    output: usize,
-    work: usize,
-) -> Result<(), Refusal>
-    requires { Sized (fields modulus rows a.now b.now c.now a_inverses.now c_inverses.now norms.now) }
-    ensures { answered result ≡ verdict (prepared_tree_tests (fields modulus rows a.now b.now c.now
-        a_inverses.now c_inverses.now norms.now) curve.now output work) [] }
+fn tree_verdict(family: &Prepared, curve: &[u32], output: usize, work: usize) -> Result<(), Refusal>
+    ensures { answered result ≡ verdict (prepared_tree_tests (held family.now) curve.now output work) [] }
 {
-    let right = record_check::record(modulus, rows, a, b, c, a_inverses, c_inverses, norms);
+    let right = record_check::record(
+        family.modulus,
+        family.rows,
+        &family.a,
+        &family.b,
+        &family.c,
+        &family.a_inverses,
+        &family.c_inverses,
+        &family.norms,
+    );
     let Ok(()) = right else {
         return right;
     };
-    let n = rows as usize + 1;
+    let n = family.rows as usize + 1;
     let entries = checks::curve_length(n, curve.len());
     let Ok(()) = entries else {
         return entries;
@@ -51,35 +46,53 @@ fn tree_verdict<'a>(
     let Ok(()) = room else {
         return room;
     };
-    checks::curve_entries(modulus, curve)
+    checks::curve_entries(family.modulus, curve)
 }
 
 // 14, 7 and 8.
-fn moments_verdict<'a>(
-    modulus: u32,
-    rows: u32,
-    a: &'a [u32],
-    b: &'a [u32],
-    c: &'a [u32],
-    a_inverses: &'a [u32],
-    c_inverses: &'a [u32],
-    norms: &'a [u32],
-    output: usize,
-    work: usize,
-) -> Result<(), Refusal>
-    requires { Sized (fields modulus rows a.now b.now c.now a_inverses.now c_inverses.now norms.now) }
-    ensures { answered result ≡ verdict (prepared_moments_tests (fields modulus rows a.now b.now c.now
-        a_inverses.now c_inverses.now norms.now) output work) [] }
+fn moments_verdict(family: &Prepared, output: usize, work: usize) -> Result<(), Refusal>
+    ensures { answered result ≡ verdict (prepared_moments_tests (held family.now) output work) [] }
 {
-    let right = record_check::record(modulus, rows, a, b, c, a_inverses, c_inverses, norms);
+    let right = record_check::record(
+        family.modulus,
+        family.rows,
+        &family.a,
+        &family.b,
+        &family.c,
+        &family.a_inverses,
+        &family.c_inverses,
+        &family.norms,
+    );
     let Ok(()) = right else {
         return right;
     };
-    let place = checks::output_length(2 * (rows as usize) + 1, output);
+    let place = checks::output_length(2 * (family.rows as usize) + 1, output);
     let Ok(()) = place else {
         return place;
     };
     checks::work_length(work)
+}
+
+// A conversion by the tree on a record: its tests, and then its core, lent the rows.
+fn call<C: Conversion>(
+    family: Prepared,
+    curve: &[u32],
+    output: &mut [u32],
+    work: &mut [u32],
+) -> Result<(), Refusal>
+    ensures { PreparedTreeCall C.converted (held family) curve.now (answered result)
+        output.old output.new work.old work.new }
+{
+    tree_verdict(&family, curve, output.len(), work.len())?;
+    let rows = family.rows as usize;
+    let lent = Family {
+        modulus: family.modulus,
+        a: &family.a[..rows],
+        b: &family.b[..rows],
+        c: &family.c[..rows],
+    };
+    C::convert(&lent, curve, output, work);
+    Ok(())
 }
 
 // Expand by the subproduct tree. After an accepted call the first 16,384 numbers of the working list are zero. Refused with 14: the record
@@ -88,24 +101,7 @@ pub fn tree_expand(family: Prepared, curve: &[u32], output: &mut [u32], work: &m
     ensures { PreparedTreeCall expand (held family) curve.now (answered result)
         output.old output.new work.old work.new }
 {
-    tree_verdict(
-        family.modulus,
-        family.rows,
-        &family.a,
-        &family.b,
-        &family.c,
-        &family.a_inverses,
-        &family.c_inverses,
-        &family.norms,
-        curve,
-        output.len(),
-        work.len(),
-    )?;
-    let b = family.b;
-    let c = family.c;
-    let n = family.rows as usize + 1;
-    tree::expand(family.modulus, &family.a, &b, &c, curve, n, output, work);
-    Ok(())
+    call::<Expanding>(family, curve, output, work)
 }
 
 // Adjoint by the subproduct tree. The working list and the refusals are as for tree_expand.
@@ -113,24 +109,7 @@ pub fn tree_adjoint(family: Prepared, curve: &[u32], output: &mut [u32], work: &
     ensures { PreparedTreeCall adjoint (held family) curve.now (answered result)
         output.old output.new work.old work.new }
 {
-    tree_verdict(
-        family.modulus,
-        family.rows,
-        &family.a,
-        &family.b,
-        &family.c,
-        &family.a_inverses,
-        &family.c_inverses,
-        &family.norms,
-        curve,
-        output.len(),
-        work.len(),
-    )?;
-    let b = family.b;
-    let c = family.c;
-    let n = family.rows as usize + 1;
-    tree::adjoint(family.modulus, &family.a, &b, &c, curve, n, output, work);
-    Ok(())
+    call::<Adjoining>(family, curve, output, work)
 }
 
 // Decompose by the moments and the subproduct tree, by the stored inverses. The working list and the refusals are as for tree_expand, with
@@ -144,41 +123,16 @@ pub fn tree_decompose(
     ensures { PreparedTreeCall decompose (held family) coefficients.now (answered result)
         output.old output.new work.old work.new }
 {
-    tree_verdict(
-        family.modulus,
-        family.rows,
-        &family.a,
-        &family.b,
-        &family.c,
-        &family.a_inverses,
-        &family.c_inverses,
-        &family.norms,
-        coefficients,
-        output.len(),
-        work.len(),
-    )?;
-    let b = family.b;
-    let c = family.c;
-    let a_inverses = family.a_inverses;
-    let c_inverses = family.c_inverses;
-    let n = family.rows as usize + 1;
-    moment_way::decompose(
-        family.modulus,
-        &family.a,
-        &b,
-        &c,
-        &a_inverses,
-        &c_inverses,
-        1,
-        1,
-        1,
-        1,
-        1,
-        coefficients,
-        n,
-        output,
-        work,
-    );
+    tree_verdict(&family, coefficients, output.len(), work.len())?;
+    let rows = family.rows as usize;
+    let lent = Family {
+        modulus: family.modulus,
+        a: &family.a[..rows],
+        b: &family.b[..rows],
+        c: &family.c[..rows],
+    };
+    let inverted = Inverted::by_ones(lent, &family.a_inverses);
+    moment_way::decompose(&inverted, &family.c_inverses, 1, coefficients, output, work);
     Ok(())
 }
 
@@ -188,35 +142,15 @@ pub fn moments(family: Prepared, output: &mut [u32], work: &mut [u32]) -> Result
     ensures { PreparedMomentsCall (held family) (answered result)
         output.old output.new work.old work.new }
 {
-    moments_verdict(
-        family.modulus,
-        family.rows,
-        &family.a,
-        &family.b,
-        &family.c,
-        &family.a_inverses,
-        &family.c_inverses,
-        &family.norms,
-        output.len(),
-        work.len(),
-    )?;
-    let b = family.b;
-    let c = family.c;
-    let a_inverses = family.a_inverses;
-    let n = family.rows as usize + 1;
-    moment_way::moments(
-        family.modulus,
-        &family.a,
-        &b,
-        &c,
-        &a_inverses,
-        1,
-        1,
-        1,
-        1,
-        n,
-        output,
-        work,
-    );
+    moments_verdict(&family, output.len(), work.len())?;
+    let rows = family.rows as usize;
+    let lent = Family {
+        modulus: family.modulus,
+        a: &family.a[..rows],
+        b: &family.b[..rows],
+        c: &family.c[..rows],
+    };
+    let inverted = Inverted::by_ones(lent, &family.a_inverses);
+    moment_way::moments(&inverted, output, work);
     Ok(())
 }
