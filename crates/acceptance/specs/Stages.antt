@@ -3,12 +3,12 @@
 -- A stage is a part of the tests that a check answers for: its answer is the verdict of them. Proved: where a stage refuses, the call
 -- does, whatever remains (stage-refuses); where it passes, the rest remains (stage-passes), and so where none of its tests holds
 -- (none-remain); the answer of the last stage is that of the call (stages-end). Assumes nothing.
-use Rattle.std.specs.Prelude.{◌≡◌, refl, List, [], ◌++◌, ℕ}
+use Rattle.std.specs.Prelude.{◌≡◌, refl, List, [], ◌++◌, ℕ, Ok, Err}
 use Rattle.std.proofs.Common.{sym, ◌∙◌, ap}
-use Rattle.definitions.specs.Answers.{answered, after}
+use Rattle.definitions.specs.Answers.{Answer, number_of, answered, after}
 use Rattle.definitions.specs.Refusals.{Test, refused, verdict}
-use Rattle.definitions.specs.declared.Answer.{Answer}
 use Rattle.acceptance.specs.Verdicts.{None, verdict-finished, verdict-stops, verdict-goes-on}
+use Rattle.definitions.specs.declared.Refusal.{Refusal}
 
 pub record Remaining (all rest : List Test) : Type 0 where
   pub same : (values : List ℕ) → verdict rest values ≡ verdict all values
@@ -21,19 +21,19 @@ pub none-remain : {all : List Test} (stage rest : List Test) → Remaining all (
 none-remain stage rest left none = record { same = λ values. sym (verdict-goes-on rest values stage none) ∙ left.same values }
 
 -- what a check that passes says of its tests
-pub stage-none : (stage : List Test) (r : Answer) → answered r ≡ verdict stage [] → r ≡ Answer.Finished → None stage
+pub stage-none : (stage : List Test) (r : Answer) → answered r ≡ verdict stage [] → r ≡ Ok tt → None stage
 stage-none stage r is q = (verdict-finished stage []).0 (sym is ∙ ap answered q)
 
 module _ {all : List Test} (stage rest : List Test) (left : Remaining all (stage ++ rest)) (r : Answer)
     (is : answered r ≡ verdict stage []) where
   -- whatever values the call would hand out
-  pub stage-refuses-with : (values : List ℕ) (k : ℕ) → r ≡ Answer.Refused k → refused k ≡ verdict all values
-  stage-refuses-with values k q = sym (verdict-stops rest values stage [] k (sym is ∙ ap answered q)) ∙ left.same values
+  pub stage-refuses-with : (values : List ℕ) (k : Refusal) → r ≡ Err k → refused (number_of k) ≡ verdict all values
+  stage-refuses-with values k q = sym (verdict-stops rest values stage [] (number_of k) (sym is ∙ ap answered q)) ∙ left.same values
 
-  pub stage-refuses : (k : ℕ) → r ≡ Answer.Refused k → answered r ≡ verdict all []
+  pub stage-refuses : (k : Refusal) → r ≡ Err k → answered r ≡ verdict all []
   stage-refuses k q = ap answered q ∙ stage-refuses-with [] k q
 
-  pub stage-passes : r ≡ Answer.Finished → Remaining all rest
+  pub stage-passes : r ≡ Ok tt → Remaining all rest
   stage-passes q = none-remain stage rest left (stage-none stage r is q)
 
 pub stages-end : {all : List Test} (stage : List Test) → Remaining all stage → (r : Answer) → answered r ≡ verdict stage []
@@ -41,7 +41,7 @@ pub stages-end : {all : List Test} (stage : List Test) → Remaining all stage �
 stages-end stage left r is = is ∙ left.same []
 
 -- what a refusal leaves
-pub list-stays : (r : Answer) (k : ℕ) (new old : List ℕ) → r ≡ Answer.Refused k → old ≡ after (answered r) new old
+pub list-stays : (r : Answer) (k : Refusal) (new old : List ℕ) → r ≡ Err k → old ≡ after (answered r) new old
 list-stays r k new old q = sym (ap (λ x. after (answered x) new old) q)
 
 -- what a call that finishes writes

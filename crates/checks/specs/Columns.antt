@@ -5,7 +5,7 @@
 -- Proved: where all have inverses both tests pass (column-none), and otherwise the lowest without one settles which refuses (lowest-zero,
 -- lowest-shared), whether a pass over the list found it or it is the closing number; the tests 17, 10, 18 and 11 of a lent family are those
 -- of its two columns (columns-remain), and one product settles them all (joint-passes). Assumes nothing.
-use Rattle.std.specs.Prelude.{◌≡◌, Bool, true, ℕ, suc, ◌+◌, ◌-◌, ◌<◌, ◌≤◌, length, get_or, take, drop}
+use Rattle.std.specs.Prelude.{◌≡◌, Bool, true, Option, Some, ℕ, suc, ◌+◌, ◌-◌, ◌<◌, ◌≤◌, length, get_or, take, drop}
 use Rattle.std.proofs.Math.Path.{sym, ap}
 use Rattle.std.proofs.Common.{◌∙◌, subst, true≢false, arith, length-drop, get_or-take, get_or-drop, length-take-le}
 use Rattle.std.proofs.Math.Bool.{false, not-eq-not}
@@ -27,7 +27,6 @@ use Rattle.lists.specs.Lent.{lent}
 use Rattle.inverses.specs.Joint.{Joint}
 use Rattle.checks.specs.Passes.{First, FactorAnswer}
 use Rattle.checks.specs.RowTests.{closed}
-use Rattle.checks.specs.declared.Factors.{Factors}
 use Rattle.checks.specs.declared.Reason.{Reason}
 
 unfoldable pub column_tests : ℕ → ℕ → ℕ → List ℕ → ℕ → ℕ → ℕ → List Test
@@ -118,19 +117,19 @@ module _ (m first r : ℕ) (list : List ℕ) (close zero_number shared_number : 
           let w = within in lowest-shared (s + i) (omega arith) (omega arith) before here (λ e. n (asked_entry i within ∙ e))
 
     -- what the pass answers
-    module _ (factors : Factors) (is : FactorAnswer m asked factors) where
-      pub pass-zero : (i : ℕ) (reason : Reason) → factors ≡ Factors.Without i reason → reason ≡ Reason.Zero
+    module _ (factors : Option (ℕ × Reason)) (is : FactorAnswer m asked factors) where
+      pub pass-zero : (i : ℕ) (reason : Reason) → factors ≡ Some (i, reason) → reason ≡ Reason.Zero
           → refused zero_number ≡ whole
       pass-zero i reason e q =
-          let said = subst (FactorAnswer m asked) (e ∙ ap (Factors.Without i) q) is in found-zero i said.0 said.1
+          let said = subst (FactorAnswer m asked) (e ∙ ap (λ why. Some (i, why)) q) is in found-zero i said.0 said.1
 
-      pub pass-shared : (i g : ℕ) (reason : Reason) → factors ≡ Factors.Without i reason → reason ≡ Reason.Shared g
+      pub pass-shared : (i g : ℕ) (reason : Reason) → factors ≡ Some (i, reason) → reason ≡ Reason.Shared g
           → refused shared_number ≡ whole
       pass-shared i g reason e q =
-          let said = subst (FactorAnswer m asked) (e ∙ ap (Factors.Without i) q) is in found-shared i said.0 said.1.not_zero
+          let said = subst (FactorAnswer m asked) (e ∙ ap (λ why. Some (i, why)) q) is in found-shared i said.0 said.1.not_zero
 
       -- the closing number, where every entry has an inverse
-      module _ (e : factors ≡ Factors.Invertible) where
+      module _ (e : factors ≡ Option.None) where
         passed : some (no_inverse m) asked ≡ false
         passed = subst (FactorAnswer m asked) e is
 

@@ -5,15 +5,13 @@
 --   FactorAnswer m xs r  r says whether every entry has an inverse, and why the first without one has none
 --   Passed bad xs i      a pass in progress: none of the first i entries is bad
 -- Proved: how a pass begins, goes on and ends; a product that has an inverse spares the pass. Assumes nothing.
-use Rattle.std.specs.Prelude.{◌≡◌, Bool, true, false, List, ℕ, ◌+◌, ◌<◌, ◌≤◌, length, get_or}
+use Rattle.std.specs.Prelude.{◌≡◌, Bool, true, false, List, Option, None, Some, ℕ, ◌+◌, ◌<◌, ◌≤◌, length, get_or}
 use Rattle.std.proofs.Common.{subst, sym, ⊎_elim, eq-or-lt_of_le, arith}
 use Rattle.definitions.specs.Number.{HasInverse}
 use Rattle.definitions.specs.Refusals.{some, not_below, no_inverse}
 use Rattle.numbers.specs.Euclid.{GreatestFactor}
 use Rattle.numbers.specs.RunningProduct.{running_product, running-each}
 use Rattle.acceptance.specs.Verdicts.{some-false, some-no_inverse-false}
-use Rattle.checks.specs.declared.Entries.{Entries}
-use Rattle.checks.specs.declared.Factors.{Factors}
 use Rattle.checks.specs.declared.Reason.{Reason}
 
 pub record First (bad : ℕ → Bool) (xs : List ℕ) (i : ℕ) : Type 0 where
@@ -21,9 +19,9 @@ pub record First (bad : ℕ → Bool) (xs : List ℕ) (i : ℕ) : Type 0 where
   pub here : bad (get_or xs i 0) ≡ true
   pub before : (j : ℕ) → j < i → bad (get_or xs j 0) ≡ false
 
-abbrev pub BelowAnswer : ℕ → List ℕ → Entries → Type 0
-BelowAnswer m xs Entries.Residues = some (not_below m) xs ≡ false
-BelowAnswer m xs (Entries.NotBelow i) = First (not_below m) xs i
+abbrev pub BelowAnswer : ℕ → List ℕ → Option ℕ → Type 0
+BelowAnswer m xs None = some (not_below m) xs ≡ false
+BelowAnswer m xs (Some i) = First (not_below m) xs i
 
 pub record SharedFactor (m x g : ℕ) : Type 0 where
   pub not_zero : x ≡ 0 → ⊥
@@ -33,9 +31,9 @@ abbrev pub Because : ℕ → ℕ → Reason → Type 0
 Because m x Reason.Zero = x ≡ 0
 Because m x (Reason.Shared g) = SharedFactor m x g
 
-abbrev pub FactorAnswer : ℕ → List ℕ → Factors → Type 0
-FactorAnswer m xs Factors.Invertible = some (no_inverse m) xs ≡ false
-FactorAnswer m xs (Factors.Without i reason) = First (no_inverse m) xs i × Because m (get_or xs i 0) reason
+abbrev pub FactorAnswer : ℕ → List ℕ → Option (ℕ × Reason) → Type 0
+FactorAnswer m xs None = some (no_inverse m) xs ≡ false
+FactorAnswer m xs (Some (i, reason)) = First (no_inverse m) xs i × Because m (get_or xs i 0) reason
 
 pub record Passed (bad : ℕ → Bool) (xs : List ℕ) (i : ℕ) : Type 0 where
   pub within : i ≤ length xs

@@ -1,7 +1,7 @@
 -- 9 of the rows of a lent family, by passes over its lists and a look at the closing row.
 --   Entered   what 9 asks for: the entries of the three lists and those of the closing row are below m
 -- Proved: 9 passes if and only if the rows are so (entered-passes); what a pass over a list found. Assumes nothing.
-use Rattle.std.specs.Prelude.{◌≡◌, Bool, false, List, ◌↔◌, ℕ, suc, ◌<◌, ◌≤◌, length, get_or, take}
+use Rattle.std.specs.Prelude.{◌≡◌, Bool, false, List, Option, None, Some, ◌↔◌, ℕ, suc, ◌<◌, ◌≤◌, length, get_or, take}
 use Rattle.std.proofs.Common.{sym, ◌∙◌, subst, true≢false, arith, length-take-le}
 use Rattle.std.proofs.Math.Logic.Iff
 use Rattle.std.proofs.Math.Logic.{by_cases}
@@ -15,17 +15,16 @@ use Rattle.acceptance.specs.Verdicts.{some-true, some-not_below-false, no_invers
 use Rattle.lists.specs.Lent.{lent, Long, lent-size, lent-past}
 use Rattle.residue.specs.Inversion.{SharesFactor, absent-fails}
 use Rattle.checks.specs.Passes.{First, BelowAnswer}
-use Rattle.checks.specs.declared.Entries.{Entries}
 
 -- ---- what a pass found
 first_some : (bad : ℕ → Bool) (xs : List ℕ) (i : ℕ) → First bad xs i → some bad xs ≡ false → ⊥
 first_some bad xs i h none = true≢false (sym (some-true bad xs i 0 h.place h.here) ∙ none)
 
 module _ (m : ℕ) (xs : List ℕ) where
-  pub all-below : (r : Entries) → r ≡ Entries.Residues → BelowAnswer m xs r → some (not_below m) xs ≡ false
+  pub all-below : (r : Option ℕ) → r ≡ None → BelowAnswer m xs r → some (not_below m) xs ≡ false
   all-below r e h = subst (BelowAnswer m xs) e h
 
-  pub one-not-below : (r : Entries) (i : ℕ) → r ≡ Entries.NotBelow i → BelowAnswer m xs r → some (not_below m) xs ≡ false → ⊥
+  pub one-not-below : (r : Option ℕ) (i : ℕ) → r ≡ Some i → BelowAnswer m xs r → some (not_below m) xs ≡ false → ⊥
   one-not-below r i e h = first_some (not_below m) xs i (subst (BelowAnswer m xs) e h)
 
 pub lacks : (m x g : ℕ) → 0 < m → SharesFactor m x g → HasInverse m x → ⊥

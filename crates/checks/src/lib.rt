@@ -1,9 +1,9 @@
-// The tests that the calls make before they convert. Each check answers an enum, which its caller takes apart by 'let .. else'
-// before the next check. A pass over a list answers with the first bad entry and the reason.
+// The tests that the calls make before they convert. Each check answers a Result, which its caller takes apart by 'let .. else'
+// before the next check. A pass over a list answers with the place of the first bad entry and the reason, if there is one.
 #![tactic(auto)]
 
 ghost use Rattle.std.specs.Prelude.{◌≡◌, true, false, List, [], ◌∷◌, ℕ, ◌≤◌, ◌<◌, length};
-ghost use Rattle.definitions.specs.Answers.{answered};
+ghost use Rattle.definitions.specs.Answers.{answered, number_of};
 ghost use Rattle.definitions.specs.Family.{row_of};
 ghost use Rattle.definitions.specs.Prepared.{row_tests};
 ghost use Rattle.definitions.specs.Refusals.{verdict, some, not_below, modulus_test, equal_lengths_test, row_count_test, curve_length_test};
@@ -13,28 +13,14 @@ ghost use Rattle.lists.specs.Lent.{lent, Long};
 ghost use Rattle.checks.specs.Passes.{BelowAnswer, FactorAnswer};
 ghost use Rattle.checks.specs.Columns.{column_tests};
 
-use definitions::{Answer, FIRST_C};
+use definitions::{FIRST_C, Refusal};
 use residue::{invert, running_product};
 
-// Whether every entry of a list is below the modulus: if not, the place of the first that is not.
-#[derive(Drop)]
-pub enum Entries {
-    Residues,
-    NotBelow(usize),
-}
-
 // Why a number has no inverse: it is zero, or it shares this factor with the modulus.
-#[derive(Drop)]
+#[derive(Clone, Copy, Debug, PartialEq, Eq)]
 pub enum Reason {
     Zero,
     Shared(u32),
-}
-
-// Whether every entry of a list has an inverse: if not, the place of the first without one, and the reason.
-#[derive(Drop)]
-pub enum Factors {
-    Invertible,
-    Without(usize, Reason),
 }
 
 // Whether all entries are below m. It goes to the end of the list whatever it finds, so that the compiler can take several at a time.
@@ -42,119 +28,112 @@ fn all_below(m: u32, list: &[u32]) -> bool
     ensures { result ≡ true → some (not_below m) list.now ≡ false }
 {
     let mut all = true;
-    let mut i: usize = 0;
-    while i < list.len() {
-        if m <= list[i] {
+    for &entry in list {
+        if m <= entry {
             all = false;
         }
-        i += 1;
     }
     all
 }
 
-// Whether all entries are below m, and if not, the first that is not.
-pub fn entries_below(m: u32, list: &[u32]) -> Entries
+// The place of the first entry that is not below m, if there is one.
+pub fn entries_below(m: u32, list: &[u32]) -> Option<usize>
     ensures { BelowAnswer m list.now result }
 {
     if all_below(m, list) {
-        return Entries::Residues;
+        return None;
     }
-    let mut i: usize = 0;
-    while i < list.len() {
-        let x = list[i];
+    for (i, &x) in list.iter().enumerate() {
         if m <= x {
-            return Entries::NotBelow(i);
+            return Some(i);
         }
-        i += 1;
     }
-    Entries::Residues
+    None
 }
 
-// One inverse settles it where the product of all has one; only if it has none are the entries looked at one by one.
-fn invertible(m: u32, list: &[u32]) -> Factors
+// The place of the first entry without an inverse, and the reason, if there is one. One inverse settles it where the product of all has one;
+// only if it has none are the entries looked at one by one.
+fn invertible(m: u32, list: &[u32]) -> Option<(usize, Reason)>
     requires { 0 < m }
     ensures { FactorAnswer m list.now result }
 {
     let whole = invert(m, running_product(m, list));
     let Err(_) = whole else {
-        return Factors::Invertible;
+        return None;
     };
-    let mut i: usize = 0;
-    while i < list.len() {
-        let x = list[i];
+    for (i, &x) in list.iter().enumerate() {
         let inversion = invert(m, x);
         if let Err(shared) = inversion {
             if x == 0 {
-                return Factors::Without(i, Reason::Zero);
+                return Some((i, Reason::Zero));
             }
-            return Factors::Without(i, Reason::Shared(shared.factor));
+            return Some((i, Reason::Shared(shared.factor)));
         }
-        i += 1;
     }
-    Factors::Invertible
+    None
 }
 
 // 1: the number of bytes of a job text.
 #[tactic(auto, unfolding(definitions::specs::Refusals::verdict, definitions::specs::TextCall::text_length_test))]
-pub fn text_length(count: usize) -> Answer
+pub fn text_length(count: usize) -> Result<(), Refusal>
     ensures { answered result ≡ verdict (text_length_test count ∷ []) [] }
 {
     if 8192 < count {
-        return Answer::Refused(1);
+        return Err(Refusal::TextTooLong);
     }
-    Answer::Finished
+    Ok(())
 }
 
 // 3: the range of the modulus.
 #[tactic(auto, unfolding(definitions::specs::Refusals::verdict, definitions::specs::Refusals::modulus_test))]
-pub fn modulus(m: u32) -> Answer
+pub fn modulus(m: u32) -> Result<(), Refusal>
     ensures { answered result ≡ verdict (modulus_test m ∷ []) [] }
 {
     if m < 2 {
-        return Answer::Refused(3);
+        return Err(Refusal::ModulusOutOfRange);
     }
     if 2147483647 < m {
-        return Answer::Refused(3);
+        return Err(Refusal::ModulusOutOfRange);
     }
-    Answer::Finished
+    Ok(())
 }
 
 // 4: the lengths of the rows' lists.
 #[tactic(auto, unfolding(definitions::specs::Refusals::verdict, definitions::specs::Refusals::equal_lengths_test, definitions::specs::Refusals::differ))]
-fn equal_lengths(a: usize, b: usize, c: usize) -> Answer
+fn equal_lengths(a: usize, b: usize, c: usize) -> Result<(), Refusal>
     ensures { answered result ≡ verdict (equal_lengths_test a b c ∷ []) [] }
 {
     if b != a {
-        return Answer::Refused(4);
+        return Err(Refusal::ListsDiffer);
     }
     if c != a {
-        return Answer::Refused(4);
+        return Err(Refusal::ListsDiffer);
     }
-    Answer::Finished
+    Ok(())
 }
 
 // 5: the number of rows.
 #[tactic(auto, unfolding(definitions::specs::Refusals::verdict, definitions::specs::Refusals::row_count_test))]
-fn row_count(rows: usize) -> Answer
+fn row_count(rows: usize) -> Result<(), Refusal>
     ensures { answered result ≡ verdict (row_count_test rows ∷ []) [] }
 {
     if 127 < rows {
-        return Answer::Refused(5);
+        return Err(Refusal::TooManyRows);
     }
-    Answer::Finished
+    Ok(())
 }
 
 // 3, 4 and 5.
 #[tactic(auto, unfolding(definitions::specs::Refusals::verdict, definitions::specs::Refusals::shape_tests))]
-pub fn family_shape(m: u32, a: usize, b: usize, c: usize) -> Answer
+pub fn family_shape(m: u32, a: usize, b: usize, c: usize) -> Result<(), Refusal>
     ensures { answered result ≡ verdict (shape_tests m a b c) [] }
 {
     let range = modulus(m);
-    let Answer::Finished = range else {
+    let Ok(()) = range else {
         return range;
     };
     let equal = equal_lengths(a, b, c);
-    let Answer::Finished = equal else {
+    let Ok(()) = equal else {
         return equal;
     };
     row_count(a)
@@ -162,46 +141,46 @@ pub fn family_shape(m: u32, a: usize, b: usize, c: usize) -> Answer
 
 // 6: the length of the curve.
 #[tactic(auto, unfolding(definitions::specs::Refusals::verdict, definitions::specs::Refusals::curve_length_test, definitions::specs::Refusals::differ))]
-pub fn curve_length(wanted: usize, curve: usize) -> Answer
+pub fn curve_length(wanted: usize, curve: usize) -> Result<(), Refusal>
     ensures { answered result ≡ verdict (curve_length_test wanted curve ∷ []) [] }
 {
     if curve != wanted {
-        return Answer::Refused(6);
+        return Err(Refusal::CurveLength);
     }
-    Answer::Finished
+    Ok(())
 }
 
 // 7: the length of the output.
 #[tactic(auto, unfolding(definitions::specs::Refusals::verdict, definitions::specs::Refusals::output_test, definitions::specs::Refusals::differ))]
-pub fn output_length(wanted: usize, output: usize) -> Answer
+pub fn output_length(wanted: usize, output: usize) -> Result<(), Refusal>
     ensures { answered result ≡ verdict (output_test wanted output ∷ []) [] }
 {
     if output != wanted {
-        return Answer::Refused(7);
+        return Err(Refusal::OutputLength);
     }
-    Answer::Finished
+    Ok(())
 }
 
 // 7 of a text: its output has so many bytes at least.
 #[tactic(auto, unfolding(definitions::specs::Refusals::verdict, definitions::specs::TextCall::text_output_test))]
-pub fn text_output_length(least: usize, output: usize) -> Answer
+pub fn text_output_length(least: usize, output: usize) -> Result<(), Refusal>
     ensures { answered result ≡ verdict (text_output_test least output ∷ []) [] }
 {
     if output < least {
-        return Answer::Refused(7);
+        return Err(Refusal::OutputLength);
     }
-    Answer::Finished
+    Ok(())
 }
 
 // 8: the length of the working list.
 #[tactic(auto, unfolding(definitions::specs::Refusals::verdict, definitions::specs::Refusals::work_test))]
-pub fn work_length(work: usize) -> Answer
+pub fn work_length(work: usize) -> Result<(), Refusal>
     ensures { answered result ≡ verdict (work_test work ∷ []) [] }
 {
     if work < 16384 {
-        return Answer::Refused(8);
+        return Err(Refusal::WorkLength);
     }
-    Answer::Finished
+    Ok(())
 }
 
 // 9: the entries of the rows, those of the closing row last.
@@ -214,30 +193,30 @@ fn row_entries(
     close_a: u32,
     close_b: u32,
     close_c: u32,
-) -> Answer
+) -> Result<(), Refusal>
     requires { Long r a.now b.now c.now }
     ensures { answered result ≡ verdict
         (entries_test (lent m r a.now b.now c.now (row_of close_a close_b close_c)) ∷ []) [] }
 {
-    let Entries::Residues = entries_below(m, &a[..r]) else {
-        return Answer::Refused(9);
+    let None = entries_below(m, &a[..r]) else {
+        return Err(Refusal::EntryNotBelow);
     };
-    let Entries::Residues = entries_below(m, &b[..r]) else {
-        return Answer::Refused(9);
+    let None = entries_below(m, &b[..r]) else {
+        return Err(Refusal::EntryNotBelow);
     };
-    let Entries::Residues = entries_below(m, &c[..r]) else {
-        return Answer::Refused(9);
+    let None = entries_below(m, &c[..r]) else {
+        return Err(Refusal::EntryNotBelow);
     };
     if m <= close_a {
-        return Answer::Refused(9);
+        return Err(Refusal::EntryNotBelow);
     }
     if m <= close_b {
-        return Answer::Refused(9);
+        return Err(Refusal::EntryNotBelow);
     }
     if m <= close_c {
-        return Answer::Refused(9);
+        return Err(Refusal::EntryNotBelow);
     }
-    Answer::Finished
+    Ok(())
 }
 
 // The inverses of a column of rows, of its numbers from place first on up to row n: the entries of the list before place r, then the
@@ -248,30 +227,30 @@ pub fn column(
     first: usize,
     r: usize,
     close: u32,
-    zero: u32,
-    shared: u32,
-) -> Answer
+    zero: Refusal,
+    shared: Refusal,
+) -> Result<(), Refusal>
     requires { (0 < m) × (r ≤ length list.now) }
-    ensures { answered result ≡ verdict (column_tests m first r list.now close zero shared) [] }
+    ensures { answered result ≡ verdict (column_tests m first r list.now close (number_of zero) (number_of shared)) [] }
 {
     let start = r - r.saturating_sub(first);
     let factors = invertible(m, &list[start..r]);
-    if let Factors::Without(_, reason) = factors {
+    if let Some((_, reason)) = factors {
         let Reason::Shared(_) = reason else {
-            return Answer::Refused(zero);
+            return Err(zero);
         };
-        return Answer::Refused(shared);
+        return Err(shared);
     }
     if r < first {
-        return Answer::Finished;
+        return Ok(());
     }
     let Err(_) = invert(m, close) else {
-        return Answer::Finished;
+        return Ok(());
     };
     if close == 0 {
-        return Answer::Refused(zero);
+        return Err(zero);
     }
-    Answer::Refused(shared)
+    Err(shared)
 }
 
 // 17 and 10, then 18 and 11: the inverses of the a of all rows, then those of the c from place first on, whatever the b. One inverse settles
@@ -284,7 +263,7 @@ fn row_inverses(
     first: usize,
     close_a: u32,
     close_c: u32,
-) -> Answer
+) -> Result<(), Refusal>
     requires { (0 < m) × (r ≤ length a.now) × (r ≤ length c.now) }
     ensures { (b : List ℕ) (close_b : ℕ) → answered result ≡ verdict
         (row_inverses first (lent m r a.now b c.now (row_of close_a close_b close_c))) [] }
@@ -294,13 +273,13 @@ fn row_inverses(
     let product = inverses::joint_product(m, &a[..r], close_a, &c[start..r], closing);
     let whole = invert(m, product);
     let Err(_) = whole else {
-        return Answer::Finished;
+        return Ok(());
     };
-    let blamed = column(m, a, 0, r, close_a, 17, 10);
-    let Answer::Finished = blamed else {
+    let blamed = column(m, a, 0, r, close_a, Refusal::ZeroA, Refusal::NoInverseA);
+    let Ok(()) = blamed else {
         return blamed;
     };
-    column(m, c, first, r, close_c, 18, 11)
+    column(m, c, first, r, close_c, Refusal::ZeroC, Refusal::NoInverseC)
 }
 
 // 9, 17, 10, 18 and 11 of the family of the first r rows and the closing row.
@@ -314,68 +293,68 @@ pub fn family_rows(
     close_a: u32,
     close_b: u32,
     close_c: u32,
-) -> Answer
+) -> Result<(), Refusal>
     requires { (0 < m) × Long r a.now b.now c.now }
     ensures { answered result ≡ verdict
         (family_rows (lent m r a.now b.now c.now (row_of close_a close_b close_c))) [] }
 {
     let entries = row_entries(m, a, b, c, r, close_a, close_b, close_c);
-    let Answer::Finished = entries else {
+    let Ok(()) = entries else {
         return entries;
     };
     row_inverses(m, a, c, r, FIRST_C, close_a, close_c)
 }
 
 // 9, 17, 10, 18 and 11 of a new row, which is to stand at a place.
-pub fn new_row(m: u32, place: usize, a: u32, b: u32, c: u32) -> Answer
+pub fn new_row(m: u32, place: usize, a: u32, b: u32, c: u32) -> Result<(), Refusal>
     requires { 0 < m }
     ensures { answered result ≡ verdict (row_tests m place (row_of a b c)) [] }
 {
     if m <= a {
-        return Answer::Refused(9);
+        return Err(Refusal::EntryNotBelow);
     }
     if m <= b {
-        return Answer::Refused(9);
+        return Err(Refusal::EntryNotBelow);
     }
     if m <= c {
-        return Answer::Refused(9);
+        return Err(Refusal::EntryNotBelow);
     }
     let Ok(_) = invert(m, a) else {
         if a == 0 {
-            return Answer::Refused(17);
+            return Err(Refusal::ZeroA);
         }
-        return Answer::Refused(10);
+        return Err(Refusal::NoInverseA);
     };
     if place < FIRST_C {
-        return Answer::Finished;
+        return Ok(());
     }
     let Ok(_) = invert(m, c) else {
         if c == 0 {
-            return Answer::Refused(18);
+            return Err(Refusal::ZeroC);
         }
-        return Answer::Refused(11);
+        return Err(Refusal::NoInverseC);
     };
-    Answer::Finished
+    Ok(())
 }
 
 // 12: the entries of a curve.
 #[tactic(auto, unfolding(definitions::specs::Refusals::verdict, definitions::specs::Refusals::curve_entries_test))]
-pub fn curve_entries(m: u32, curve: &[u32]) -> Answer
+pub fn curve_entries(m: u32, curve: &[u32]) -> Result<(), Refusal>
     ensures { answered result ≡ verdict (curve_entries_test m curve.now ∷ []) [] }
 {
-    let Entries::Residues = entries_below(m, curve) else {
-        return Answer::Refused(12);
+    let None = entries_below(m, curve) else {
+        return Err(Refusal::CurveEntryNotBelow);
     };
-    Answer::Finished
+    Ok(())
 }
 
 // 12 of a number.
 #[tactic(auto, unfolding(definitions::specs::Refusals::verdict, definitions::specs::Refusals::number_test, definitions::specs::Refusals::not_below))]
-pub fn number_below(m: u32, x: u32) -> Answer
+pub fn number_below(m: u32, x: u32) -> Result<(), Refusal>
     ensures { answered result ≡ verdict (number_test m x ∷ []) [] }
 {
     if m <= x {
-        return Answer::Refused(12);
+        return Err(Refusal::CurveEntryNotBelow);
     }
-    Answer::Finished
+    Ok(())
 }

@@ -1,5 +1,6 @@
 -- What an answer says, and what each call promises on every input.
---   answered r, valued r    the paper's number and values for each case of the enums of src/lib.rt
+--   number_of k             the paper's number of a refusal
+--   answered r, valued r    the verdict that an answer without and with a number tells: its values, or the number of its refusal
 --   inverse_answered r      the same for Inverse, with inverse_handed r and factor_handed r, the numbers that it hands out: one or none
 --   after v new old         what a lent list holds after the verdict v: new if finished, what it held if refused
 --   after_factor v new old  what it holds that is to hold the greatest common factor: new if finished or refused with 13, or what it held
@@ -8,38 +9,69 @@
 --   InverseCall             of Inverse
 --   PlainCall, TreeCall     of Expand, Adjoint and Decompose, by the plain way and by the tree way;  NormsCall, MomentsCall
 -- The scope paper, 'Who causes which refusal' and the working list of 'The definitions', and item 5 of the change requests. Assumes nothing.
-use Rattle.std.specs.Prelude.{◌≡◌, true, false, List, [], ◌∷◌, ◌++◌, ℕ, eqb, length, drop, replicate}
+use Rattle.std.specs.Prelude.{◌≡◌, true, false, List, [], ◌∷◌, ◌++◌, ℕ, Result, Ok, Err, eqb, length, drop, replicate}
 use Rattle.definitions.specs.Number.{inverse, greatest_factor}
 use Rattle.definitions.specs.Family.{Family}
 use Rattle.definitions.specs.Orthogonality.{moments, norms}
 use Rattle.definitions.specs.Refusals.{Test, Verdict, finished, refused, verdict, work_length}
 use Rattle.definitions.specs.Refusals.{plain_tests, tree_tests, moments_tests, norms_tests, inverse_tests}
-use Rattle.definitions.specs.declared.Answer.{Answer}
-use Rattle.definitions.specs.declared.InverseAnswer.{InverseAnswer}
-use Rattle.definitions.specs.declared.Valued.{Valued}
+use Rattle.definitions.specs.declared.NotInverted.{NotInverted}
+use Rattle.definitions.specs.declared.Refusal.{Refusal}
+
+-- what the calls answer: nothing, the length of a text, an inverse; or why not
+abbrev pub Answer : Type 0
+Answer = Result (Unit {0}) Refusal
+
+abbrev pub Valued : Type 0
+Valued = Result ℕ Refusal
+
+abbrev pub InverseAnswer : Type 0
+InverseAnswer = Result ℕ NotInverted
+
+abbrev pub number_of : Refusal → ℕ
+number_of Refusal.TextTooLong = 1
+number_of Refusal.Malformed = 2
+number_of Refusal.ModulusOutOfRange = 3
+number_of Refusal.ListsDiffer = 4
+number_of Refusal.TooManyRows = 5
+number_of Refusal.CurveLength = 6
+number_of Refusal.OutputLength = 7
+number_of Refusal.WorkLength = 8
+number_of Refusal.EntryNotBelow = 9
+number_of Refusal.NoInverseA = 10
+number_of Refusal.NoInverseC = 11
+number_of Refusal.CurveEntryNotBelow = 12
+number_of Refusal.NoInverse = 13
+number_of Refusal.RecordWrong = 14
+number_of Refusal.NoRows = 15
+number_of Refusal.NoSuchRow = 16
+number_of Refusal.ZeroA = 17
+number_of Refusal.ZeroC = 18
+number_of Refusal.ModuliShareFactor = 19
+number_of Refusal.RemaindersDiffer = 20
 
 abbrev pub answered : Answer → Verdict
-answered Answer.Finished = finished []
-answered (Answer.Refused k) = refused k
+answered (Ok _) = finished []
+answered (Err k) = refused (number_of k)
 
 abbrev pub valued : Valued → Verdict
-valued (Valued.Value x) = finished (x ∷ [])
-valued (Valued.Refused k) = refused k
+valued (Ok x) = finished (x ∷ [])
+valued (Err k) = refused (number_of k)
 
 abbrev pub inverse_answered : InverseAnswer → Verdict
-inverse_answered (InverseAnswer.Found y g) = finished []
-inverse_answered (InverseAnswer.NoInverse g) = refused 13
-inverse_answered (InverseAnswer.Refused k) = refused k
+inverse_answered (Ok y) = finished []
+inverse_answered (Err (NotInverted.Shares g)) = refused 13
+inverse_answered (Err (NotInverted.Refused k)) = refused (number_of k)
 
 abbrev pub inverse_handed : InverseAnswer → List ℕ
-inverse_handed (InverseAnswer.Found y g) = y ∷ []
-inverse_handed (InverseAnswer.NoInverse g) = []
-inverse_handed (InverseAnswer.Refused k) = []
+inverse_handed (Ok y) = y ∷ []
+inverse_handed (Err e) = []
 
+-- the factor of a number with an inverse is 1
 abbrev pub factor_handed : InverseAnswer → List ℕ
-factor_handed (InverseAnswer.Found y g) = g ∷ []
-factor_handed (InverseAnswer.NoInverse g) = g ∷ []
-factor_handed (InverseAnswer.Refused k) = []
+factor_handed (Ok y) = 1 ∷ []
+factor_handed (Err (NotInverted.Shares g)) = g ∷ []
+factor_handed (Err (NotInverted.Refused k)) = []
 
 abbrev pub after : Verdict → List ℕ → List ℕ → List ℕ
 after (finished values) new old = new

@@ -9,11 +9,10 @@
 use Rattle.std.specs.Prelude.{◌≡◌, List, [], ◌∷◌, ◌++◌, ℕ, ◌<◌, length, drop, get_or}
 use Rattle.definitions.specs.Family.{Accepted, rows}
 use Rattle.definitions.specs.Refusals.{Test, verdict, value_tests}
-use Rattle.definitions.specs.Answers.{valued, after}
+use Rattle.definitions.specs.Answers.{Valued, valued, after}
 use Rattle.definitions.specs.Text.{WrittenJob, Job, meant, job_text}
 use Rattle.definitions.specs.TextCall.{curve_count, lengths_of}
 use Rattle.definitions.specs.declared.Operation.{Operation}
-use Rattle.definitions.specs.declared.Valued.{Valued}
 
 abbrev pub job_output_length : ℕ
 job_output_length = 8192

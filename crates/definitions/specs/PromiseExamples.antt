@@ -4,13 +4,13 @@
 -- the number, and every list as it was. inverse-outcome, inverse-without and inverse-refusal: of Inverse, what two lent numbers hold after it
 -- finishes, after 13 and after 12. Each is allowed, and the claims that end in -only say that there is no other.
 -- Assumes nothing.
-use Rattle.std.specs.Prelude.{◌≡◌, refl, List, [], ◌∷◌, ◌++◌, ℕ, length, drop, replicate}
+use Rattle.std.specs.Prelude.{◌≡◌, refl, List, [], ◌∷◌, ◌++◌, ℕ, Ok, Err, length, drop, replicate}
 use Rattle.std.proofs.Common.{◌∙◌, ap}
 use Rattle.definitions.specs.Number.{inverse, divides, factor_up_to, greatest_factor}
 use Rattle.definitions.specs.Conversion.{expand}
 use Rattle.definitions.specs.Orthogonality.{moments, norms}
 use Rattle.definitions.specs.Refusals.{Verdict, finished, refused, tree_tests}
-use Rattle.definitions.specs.Answers.{answered, valued, inverse_answered, inverse_handed, factor_handed, after, after_factor, cleared}
+use Rattle.definitions.specs.Answers.{Answer, Valued, InverseAnswer, answered, valued, inverse_answered, inverse_handed, factor_handed, after, after_factor, cleared}
 use Rattle.definitions.specs.Answers.{InverseCall, PlainCall, TreeCall, NormsCall, MomentsCall}
 use Rattle.definitions.specs.Figures.{handed, R}
 use Rattle.definitions.specs.Text.{bytes, job_text}
@@ -18,9 +18,8 @@ use Rattle.definitions.specs.TextCall.{reply, TextConverted}
 use Rattle.definitions.specs.JobWriting.{writing_tests, JobWritten}
 use Rattle.definitions.specs.TextExamples.{verdict_on, paper_job, paper_job_with, paper_text}
 use Rattle.definitions.specs.declared.Operation.{Operation}
-use Rattle.definitions.specs.declared.Answer.{Answer}
-use Rattle.definitions.specs.declared.InverseAnswer.{InverseAnswer}
-use Rattle.definitions.specs.declared.Valued.{Valued}
+use Rattle.definitions.specs.declared.NotInverted.{NotInverted}
+use Rattle.definitions.specs.declared.Refusal.{Refusal}
 
 -- P1's curve, and one with an entry that is not below 7
 abbrev pub curve : List ℕ
@@ -39,11 +38,11 @@ work = replicate 16384 3 ++ (8 ∷ 9 ∷ [])
 abbrev pub wiped : List ℕ
 wiped = replicate 16384 0 ++ (8 ∷ 9 ∷ [])
 
-pub plain-outcome : PlainCall expand R curve (answered Answer.Finished) output (1 ∷ 3 ∷ 2 ∷ [])
+pub plain-outcome : PlainCall expand R curve (answered (Ok tt)) output (1 ∷ 3 ∷ 2 ∷ [])
 unfolding handed
 plain-outcome = record { answer = refl; written = refl }
 
-pub plain-refusal : PlainCall expand R past (answered (Answer.Refused 12)) output output
+pub plain-refusal : PlainCall expand R past (answered (Err Refusal.CurveEntryNotBelow)) output output
 unfolding handed
 plain-refusal = record { answer = refl; written = refl }
 
@@ -57,11 +56,11 @@ pub plain-refusal-only : (r : Answer) (output' : List ℕ) → PlainCall expand 
 unfolding handed
 plain-refusal-only r output' p = (p.answer, p.written ∙ ap (λ v. after v (expand R past) output) p.answer)
 
-pub tree-outcome : TreeCall expand R curve (answered Answer.Finished) output (1 ∷ 3 ∷ 2 ∷ []) work wiped
+pub tree-outcome : TreeCall expand R curve (answered (Ok tt)) output (1 ∷ 3 ∷ 2 ∷ []) work wiped
 unfolding handed tree_tests cleared
 tree-outcome = record { answer = refl; written = refl; wiped = refl }
 
-pub tree-refusal : TreeCall expand R past (answered (Answer.Refused 12)) output output work work
+pub tree-refusal : TreeCall expand R past (answered (Err Refusal.CurveEntryNotBelow)) output output work work
 unfolding handed tree_tests
 tree-refusal = record { answer = refl; written = refl; wiped = refl }
 
@@ -83,7 +82,7 @@ tree-refusal-only r output' work' p = (
   p.wiped ∙ ap (λ v. after v (cleared work) work) p.answer,
 )
 
-pub norms-outcome : NormsCall R (answered Answer.Finished) output (1 ∷ 1 ∷ 5 ∷ [])
+pub norms-outcome : NormsCall R (answered (Ok tt)) output (1 ∷ 1 ∷ 5 ∷ [])
 unfolding handed
 norms-outcome = record { answer = refl; written = refl }
 
@@ -109,8 +108,8 @@ inverse-refusal = record { answer = refl; written = refl; factor = refl }
 abbrev pub Answers : ℕ → ℕ → InverseAnswer → Type 0
 Answers m x r = InverseCall m x (inverse_answered r) [] (inverse_handed r) [] (factor_handed r)
 
-pub inverse-answers : Answers 15 4 (InverseAnswer.Found 4 1) × Answers 15 6 (InverseAnswer.NoInverse 3) × Answers 15 0 (InverseAnswer.NoInverse 15)
-    × Answers 15 15 (InverseAnswer.Refused 12) × Answers 1 0 (InverseAnswer.Refused 3)
+pub inverse-answers : Answers 15 4 (Ok 4) × Answers 15 6 (Err (NotInverted.Shares 3)) × Answers 15 0 (Err (NotInverted.Shares 15))
+    × Answers 15 15 (Err (NotInverted.Refused Refusal.CurveEntryNotBelow)) × Answers 1 0 (Err (NotInverted.Refused Refusal.ModulusOutOfRange))
 unfolding handed divides factor_up_to greatest_factor
 inverse-answers = (
   record { answer = refl; written = refl; factor = refl },
@@ -133,7 +132,7 @@ inverse-without-only v inverses' factors' p = (
 abbrev pub five : List ℕ
 five = 4 ∷ 5 ∷ 6 ∷ 7 ∷ 8 ∷ []
 
-pub moments-outcome : MomentsCall R (answered Answer.Finished) five (1 ∷ 0 ∷ 1 ∷ 2 ∷ 1 ∷ []) work wiped
+pub moments-outcome : MomentsCall R (answered (Ok tt)) five (1 ∷ 0 ∷ 1 ∷ 2 ∷ 1 ∷ []) work wiped
 unfolding handed cleared
 moments-outcome = record { answer = refl; written = refl; wiped = refl }
 
@@ -150,11 +149,11 @@ moments-outcome-only r output' work' p = (
 abbrev pub page : List ℕ
 page = replicate 4097 120
 
-pub text-outcome : TextConverted (bytes paper_text) (Valued.Value 20) page (bytes "op=expand\nout=1 3 2\n" ++ replicate 4077 120) work wiped
+pub text-outcome : TextConverted (bytes paper_text) (Ok 20) page (bytes "op=expand\nout=1 3 2\n" ++ replicate 4077 120) work wiped
 unfolding verdict_on cleared
 text-outcome = record { answer = refl; written = refl; wiped = refl }
 
-pub text-refusal : TextConverted [] (Valued.Refused 2) page page work work
+pub text-refusal : TextConverted [] (Err Refusal.Malformed) page page work work
 unfolding verdict_on
 text-refusal = record { answer = refl; written = refl; wiped = refl }
 
@@ -183,7 +182,7 @@ sheet = replicate 8193 120
 abbrev pub filled : List ℕ
 filled = bytes paper_text ++ replicate 8151 120
 
-pub job-outcome : JobWritten paper_job (Valued.Value 42) sheet filled
+pub job-outcome : JobWritten paper_job (Ok 42) sheet filled
 unfolding verdict_on job_text writing_tests
 job-outcome = record { answer = refl; written = refl }
 
@@ -194,7 +193,7 @@ job-outcome-only r output' p =
     (p.answer, p.written ∙ ap (λ v. after v (job_text paper_job ++ drop (length (job_text paper_job)) sheet) sheet) p.answer)
 
 -- the same with an entry that is not below 7
-pub job-refusal : JobWritten (paper_job_with Operation.Expand past) (Valued.Refused 12) sheet sheet
+pub job-refusal : JobWritten (paper_job_with Operation.Expand past) (Err Refusal.CurveEntryNotBelow) sheet sheet
 unfolding verdict_on job_text writing_tests
 job-refusal = record { answer = refl; written = refl }
 

@@ -12,11 +12,10 @@ use Rattle.definitions.specs.Family.{Family}
 use Rattle.definitions.specs.Conversion.{expand, adjoint, decompose}
 use Rattle.definitions.specs.Orthogonality.{moments, norms}
 use Rattle.definitions.specs.Refusals.{Test, test, verdict, curve_length_test, work_test, shape_tests, value_tests}
-use Rattle.definitions.specs.Answers.{valued, after, cleared}
+use Rattle.definitions.specs.Answers.{Valued, valued, after, cleared}
 use Rattle.definitions.specs.Text.{Job, meant, answer_text}
 use Rattle.definitions.specs.Reading.{Read, found, malformed, read_job}
 use Rattle.definitions.specs.declared.Operation.{Operation}
-use Rattle.definitions.specs.declared.Valued.{Valued}
 
 abbrev pub most_bytes : ℕ
 most_bytes = 8192

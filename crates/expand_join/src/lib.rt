@@ -4,7 +4,7 @@
 #![tactic(auto)]
 
 ghost use Rattle.std.specs.Prelude.{List, [], ◌++◌, ◌≡◌, ◌≤◌, ◌<◌, ℤ, length, drop};
-ghost use Rattle.definitions.specs.Answers.{answered};
+ghost use Rattle.definitions.specs.Answers.{answered, number_of};
 ghost use Rattle.definitions.specs.Family.{Modulus};
 ghost use Rattle.definitions.specs.Refusals.{verdict};
 ghost use Rattle.checks.specs.Columns.{column_tests};
@@ -12,71 +12,52 @@ ghost use Rattle.joining.specs.Expanding.{signed, reduced_list, reduced, reduced
 ghost use Rattle.joining.specs.Calls.{size_tests, both_rows, ExpandJoinCall};
 ghost use Rattle.expand_join.specs.Input.{Sized, ChannelInput};
 
-use definitions::{Answer, FIRST_C};
-use join_calls::Pairing;
-use lists::zeros;
+use definitions::{FIRST_C, Refusal};
+use lists::{Family, zeros};
 
 // 4, 5, 6 and 7 of the lengths of the rows' lists, the curve and the output, where m has passed its test.
-fn sizes(m: u32, a: usize, b: usize, c: usize, curve: usize, output: usize) -> Answer
+fn sizes(m: u32, a: usize, b: usize, c: usize, curve: usize, output: usize) -> Result<(), Refusal>
     requires { Modulus m }
     ensures { answered result ≡ verdict (size_tests a b c curve output) [] }
 {
-    let shape = checks::family_shape(m, a, b, c);
-    let Answer::Finished = shape else {
-        return shape;
-    };
-    let entries = checks::curve_length(a + 1, curve);
-    let Answer::Finished = entries else {
-        return entries;
-    };
+    checks::family_shape(m, a, b, c)?;
+    checks::curve_length(a + 1, curve)?;
     checks::output_length(a + 1, output)
 }
 
 // The inverses modulo m of a column of signed rows from place first on, closed by 1: refused with the one number where the lowest without an
 // inverse leaves zero, with the other where it does not.
-fn column(m: u32, list: &[i32], first: usize, zero: u32, shared: u32) -> Answer
+fn column(m: u32, list: &[i32], first: usize, zero: Refusal, shared: Refusal) -> Result<(), Refusal>
     requires { (0 < m) × (length list.now ≤ 127) }
     ensures { answered result ≡ verdict
-        (column_tests m first (length list.now) (reduced_list m list.now) 1 zero shared) [] }
+        (column_tests m first (length list.now) (reduced_list m list.now) 1 (number_of zero) (number_of shared)) [] }
 {
-    let mut x = zeros();
+    let mut x = zeros::<128>();
     join::reduce_list(m, list, &mut x);
     checks::column(m, &x, first, list.len(), 1, zero, shared)
 }
 
 // 17 and 10 modulo m1, then modulo m2; 18 and 11 modulo m1, then modulo m2: whatever the b.
-fn rows(m1: u32, m2: u32, a: &[i32], c: &[i32]) -> Answer
+fn rows(m1: u32, m2: u32, a: &[i32], c: &[i32]) -> Result<(), Refusal>
     requires { (0 < m1) × (0 < m2) × Sized (length a.now) (length c.now) }
     ensures { (b : List ℤ) → answered result ≡ verdict (both_rows (reduced m1 (signed a.now b c.now))
         (reduced m2 (signed a.now b c.now))) [] }
 {
-    let first_a = column(m1, a, 0, 17, 10);
-    let Answer::Finished = first_a else {
-        return first_a;
-    };
-    let second_a = column(m2, a, 0, 17, 10);
-    let Answer::Finished = second_a else {
-        return second_a;
-    };
-    let first_c = column(m1, c, FIRST_C, 18, 11);
-    let Answer::Finished = first_c else {
-        return first_c;
-    };
-    column(m2, c, FIRST_C, 18, 11)
+    column(m1, a, 0, Refusal::ZeroA, Refusal::NoInverseA)?;
+    column(m2, a, 0, Refusal::ZeroA, Refusal::NoInverseA)?;
+    column(m1, c, FIRST_C, Refusal::ZeroC, Refusal::NoInverseC)?;
+    column(m2, c, FIRST_C, Refusal::ZeroC, Refusal::NoInverseC)
 }
 
 // All tests after those of the moduli: 4 5 6 7, and 17 10 17 10 18 11 18 11 of the rows.
-fn tests(m1: u32, m2: u32, a: &[i32], b: &[i32], c: &[i32], curve: usize, output: usize) -> Answer
+fn tests(m1: u32, m2: u32, a: &[i32], b: &[i32], c: &[i32], curve: usize, output: usize) -> Result<(), Refusal>
     requires { Modulus m1 × Modulus m2 }
     ensures { answered result ≡ verdict
         (size_tests (length a.now) (length b.now) (length c.now) curve output
         ++ both_rows (reduced m1 (signed a.now b.now c.now))
         (reduced m2 (signed a.now b.now c.now))) [] }
 {
-    let sized = sizes(m1, a.len(), b.len(), c.len(), curve, output);
-    let Answer::Finished = sized else {
-        return sized;
-    };
+    sizes(m1, a.len(), b.len(), c.len(), curve, output)?;
     rows(m1, m2, a, c)
 }
 
@@ -87,15 +68,23 @@ fn expand_channel(m: u32, a: &[i32], b: &[i32], c: &[i32], curve: &[i32], output
         ≡ reduced_expand m (signed a.now b.now c.now) curve.now
         ++ drop (length curve.now) output.old }
 {
-    let mut x = zeros();
-    let mut y = zeros();
-    let mut z = zeros();
-    let mut u = zeros();
+    let mut x = zeros::<128>();
+    let mut y = zeros::<128>();
+    let mut z = zeros::<128>();
+    let mut u = zeros::<128>();
     join::reduce_list(m, a, &mut x);
     join::reduce_list(m, b, &mut y);
     join::reduce_list(m, c, &mut z);
     join::reduce_list(m, curve, &mut u);
-    plain::expand(m, &x, &y, &z, &u, curve.len(), output);
+    let rows = a.len();
+    let n = curve.len();
+    let family = Family {
+        modulus: m,
+        a: &x[..rows],
+        b: &y[..rows],
+        c: &z[..rows],
+    };
+    plain::expand(&family, &u[..n], &mut output[..n]);
 }
 
 // Expand and join, row by row on each channel: output[k] becomes the joined value of the coefficients of x^k modulo m1 and modulo m2. Where the
@@ -110,23 +99,16 @@ pub fn expand_join(
     c: &[i32],
     curve: &[i32],
     output: &mut [i64],
-) -> Answer
+) -> Result<(), Refusal>
     ensures { ExpandJoinCall m1 m2 (signed a.now b.now c.now) curve.now (answered result)
         output.old output.new }
 {
-    match join_calls::moduli(m1, m2) {
-        Pairing::Refused(k) => Answer::Refused(k),
-        Pairing::Apart(k) => {
-            let tested = tests(m1, m2, a, b, c, curve.len(), output.len());
-            let Answer::Finished = tested else {
-                return tested;
-            };
-            let mut x = zeros();
-            let mut y = zeros();
-            expand_channel(m1, a, b, c, curve, &mut x);
-            expand_channel(m2, a, b, c, curve, &mut y);
-            join::join_lists(m1, m2, k, &x, &y, output);
-            Answer::Finished
-        }
-    }
+    let inverse = join_calls::moduli(m1, m2)?;
+    tests(m1, m2, a, b, c, curve.len(), output.len())?;
+    let mut x = zeros::<128>();
+    let mut y = zeros::<128>();
+    expand_channel(m1, a, b, c, curve, &mut x);
+    expand_channel(m2, a, b, c, curve, &mut y);
+    join::join_lists(m1, m2, inverse, &x, &y, output);
+    Ok(())
 }

@@ -10,7 +10,7 @@ use Rattle.std.proofs.Math.Decide.{dec_lt}
 use Rattle.std.proofs.Math.ListN.{length, get_or}
 use Rattle.std.proofs.lemmas.List.{length-replicate}
 use borrow.Author.Tests.{lt-ltb, le-ltb}
-use Rattle.definitions.specs.Family.{Row, Accepted, most_rows, family}
+use Rattle.definitions.specs.Family.{Row, Accepted, most_rows, family, ones}
 use Rattle.definitions.specs.Number.{inverse}
 use Rattle.numbers.specs.Inverse.{inverse-below}
 use Rattle.numbers.specs.Lists.{filled, filled-below, filled-length}
@@ -64,8 +64,17 @@ module _ {m r : ℕ} {a b c : List ℕ} {close : Row} (long : Long r a b c) (acc
 
 -- ---- over lists that are lent whole, closed by 1 1 1
 module _ {m : ℕ} {a b c : List ℕ} (accepted : Accepted (family m a b c)) where
-  one-closes : 1 * 1 % m ≡ 1
+  pub one-closes : 1 * 1 % m ≡ 1
   one-closes = mod-eq_of_lt (omega (arith, accepted.modulus.least))
+
+  -- as many entries take part as there are rows
+  pub family-inverts : {v : List ℕ} → InverseArray m 0 (length a) a v → Inverts m 0 (length a) a v 1 1
+  family-inverts {v} array = accepted-inverts-a m (length a) a b c ones (accepted-long accepted) (accepted-lent accepted) v 1
+      array.holds.long (λ i l. array.is i (omega arith) l) one-closes
+
+  pub family-inverts-c : {w : List ℕ} → InverseArray m 1 (length a) c w → Inverts m 1 (length a) c w 1 1
+  family-inverts-c {w} array = accepted-inverts-c m (length a) a b c ones (accepted-long accepted) (accepted-lent accepted) 1 w 1
+      (omega arith) array.holds.long array.is (λ _. one-closes)
 
   pub whole-inverts : {v : List ℕ} → InverseArray m 0 (length a) a v → Inverts m 0 (length a + 1 - 1) a v 1 1
   whole-inverts array = a-inverts (accepted-long accepted) (accepted-lent accepted) array 1 one-closes

@@ -1,21 +1,18 @@
 -- The answer text of an operation on lists whose sizes are in order.
---   with_length n r  the answer r, with the length n in its finished kind
 --   Ready            the lists have the fronts that are taken for a family and a curve, and the tests on sizes pass
 --   reply_text       the answer text of an operation on a family and a curve
 --   Replied          what `answer` promises: the length of that text, which is written, or a refusal by the tests that are left
 -- Proved: what the conversion and the writer leave is what is promised. Assumes nothing.
-use Rattle.std.specs.Prelude.{List, [], ◌∷◌, ◌++◌, ◌≡◌, refl, ℕ, ◌-◌, ◌≤◌, length, take, drop}
+use Rattle.std.specs.Prelude.{List, [], ◌∷◌, ◌++◌, ◌≡◌, refl, ℕ, ◌-◌, ◌≤◌, length, take, drop, Ok, Err}
 use Rattle.std.proofs.Common.{sym, ◌∙◌, ap₂, arith, length-take, length-append, length-take-le, take_at}
 use Rattle.std.proofs.Math.Path.{ap}
 use Rattle.std.proofs.Math.Nat.{sub-zero}
-use Rattle.definitions.specs.Answers.{answered, valued, after, cleared}
+use Rattle.definitions.specs.Answers.{Answer, Valued, number_of, answered, valued, after, cleared}
 use Rattle.definitions.specs.Family.{Family, ones}
 use Rattle.definitions.specs.Refusals.{finished, refused, verdict, value_tests}
 use Rattle.definitions.specs.Text.{answer_text}
 use Rattle.definitions.specs.TextCall.{sizes_of, converted}
-use Rattle.definitions.specs.declared.Answer.{Answer}
 use Rattle.definitions.specs.declared.Operation.{Operation}
-use Rattle.definitions.specs.declared.Valued.{Valued}
 use Rattle.acceptance.specs.Stages.{stage-none}
 use Rattle.acceptance.specs.Verdicts.{None, verdict-finished, with_values, verdict-values}
 use Rattle.lists.specs.Lent.{lent, Long}
@@ -23,10 +20,7 @@ use Rattle.verdicts.specs.Sizes.{Fits, sizes-fit}
 use Rattle.operations.specs.Results.{result_count, result-length, result-few}
 use Rattle.operations.specs.Lists.{Parts, ConvertedFront, sized-by-tests}
 use Rattle.writer.specs.Answer.{Room, AnswerWritten}
-
-abbrev pub with_length : ℕ → Answer → Valued
-with_length n Answer.Finished = Valued.Value n
-with_length n (Answer.Refused k) = Valued.Refused k
+use Rattle.definitions.specs.declared.Refusal.{Refusal}
 
 pub record Ready (operation : Operation) (m : ℕ) (a b c : List ℕ) (r : ℕ) (u : List ℕ) (entries : ℕ) (output work : List ℕ) : Type 0 where
   pub rows_front : Long r a b c
@@ -73,15 +67,15 @@ module _ (operation : Operation) (m : ℕ) (a b c : List ℕ) (r : ℕ) (us : Li
     -- the conversion has answered, and its list stands at the front of list'
     module _ (tested : Answer) (list list' work' : List ℕ)
         (done : ConvertedFront operation f u count (answered tested) list list' work work') where
-      pub values-refused : (k : ℕ) → tested ≡ Answer.Refused k → (v : Valued) → v ≡ with_length 0 tested → Replied operation f u v output output work work'
+      pub values-refused : (k : Refusal) → tested ≡ Err k → (v : Valued) → v ≡ Err k → Replied operation f u v output output work work'
       values-refused k q v is =
           let n = length (reply_text operation f u) in
-          let no : refused k ≡ verdict (value_tests f u) (n ∷ []) =
+          let no : refused (number_of k) ≡ verdict (value_tests f u) (n ∷ []) =
           sym (verdict-values (n ∷ []) (value_tests f u) ∙ ap (with_values (n ∷ [])) (sym done.answer ∙ ap answered q)) in
           let stays : work' ≡ work = done.wiped ∙ ap (λ s. after (answered s) (cleared work) work) q in
-          rw (is ∙ ap (with_length 0) q, stays) (record { answer = no; written = refl; wiped = refl })
+          rw (is, stays) (record { answer = no; written = refl; wiped = refl })
 
-      module _ (q : tested ≡ Answer.Finished) where
+      module _ (q : tested ≡ Ok tt) where
         stored : list' ≡ converted operation f u ++ drop count list
         stored = done.written ∙ ap (λ s. after (answered s) (converted operation f u ++ drop count list) list) q
 
@@ -96,7 +90,7 @@ module _ (operation : Operation) (m : ℕ) (a b c : List ℕ) (r : ℕ) (us : Li
         text-is = ap (answer_text operation) (sym (rw (sub-zero count, stored) (take_at (converted operation f u) (drop count list) count long)))
 
         pub replied : (n : ℕ) (output' : List ℕ) → AnswerWritten operation (take (count - 0) list') n output output'
-            → Replied operation f u (Valued.Value n) output output' work work'
+            → Replied operation f u (Ok n) output output' work work'
         replied n output' p =
             let size : n ≡ length (reply_text operation f u) = p.answer ∙ ap length (sym text-is) in
             let none = stage-none (value_tests f u) tested done.answer q in

@@ -1,29 +1,28 @@
 -- The text call at each place where it answers.
 --   Short t output work   test 1 has passed, and those of the form remain
 -- Proved: what a refusal leaves, and what the finished kind does, is what the text call promises. Assumes nothing.
-use Rattle.std.specs.Prelude.{true, ◌≡◌, refl, ℕ, ◌≤◌, length, take, replicate}
+use Rattle.std.specs.Prelude.{true, ◌≡◌, refl, ℕ, ◌≤◌, length, take, replicate, Ok, Err}
 use Rattle.std.proofs.Math.Bool.{false}
 use mathlib.Core.List.{List, [], ◌∷◌, ◌++◌}
 use Rattle.std.proofs.Math.Path.{sym, ap, subst}
 use Rattle.std.proofs.Common.{◌∙◌, ap₂, arith, length-take}
 use Rattle.std.proofs.lemmas.List.{length-replicate}
-use Rattle.definitions.specs.Answers.{answered}
+use Rattle.definitions.specs.Answers.{Answer, Valued, number_of, answered}
 use Rattle.definitions.specs.Family.{Family, ones}
 use Rattle.definitions.specs.Reading.{Read, found, malformed, read_job}
 use Rattle.definitions.specs.Refusals.{Test, refused, verdict, test, value_tests}
 use Rattle.definitions.specs.Text.{WrittenJob, meant, answer_text}
 use Rattle.definitions.specs.TextCall.{text_length_test, size_tests, sizes_of, job_tests, form_tests, text_tests}
 use Rattle.definitions.specs.TextCall.{converted, result, reply_to, reply, TextConverted}
-use Rattle.definitions.specs.declared.Answer.{Answer}
 use Rattle.definitions.specs.declared.Operation.{Operation}
-use Rattle.definitions.specs.declared.Valued.{Valued}
 use Rattle.acceptance.specs.Stages.{Remaining, all-remain, none-remain, stage-none, stage-refuses-with, stage-passes}
 use Rattle.acceptance.specs.Verdicts.{None, verdict-here}
 use Rattle.lists.specs.Lent.{lent}
 use Rattle.verdicts.specs.Sizes.{Fits, sizes-fit, curve-few}
 use Rattle.reader.specs.Storing.{Stored, kept-front}
 use Rattle.form.specs.JobForm.{JobAt}
-use Rattle.job.specs.Replies.{with_length, Ready, reply_text, Replied}
+use Rattle.job.specs.Replies.{Ready, reply_text, Replied}
+use Rattle.definitions.specs.declared.Refusal.{Refusal}
 
 -- ---- a refusal, and the tests that are left
 abbrev tests : List ℕ → List ℕ → List ℕ → List Test
@@ -36,18 +35,18 @@ pub record Short (t output work : List ℕ) : Type 0 where
   pub left : Remaining (tests t output work) (formed t output work)
 
 module _ (t output work : List ℕ) where
-  refused-text : (k : ℕ) → refused k ≡ verdict (tests t output work) (length (reply t) ∷ [])
-      → TextConverted t (Valued.Refused k) output output work work
+  refused-text : (k : Refusal) → refused (number_of k) ≡ verdict (tests t output work) (length (reply t) ∷ [])
+      → TextConverted t (Err k) output output work work
   refused-text k e = record { answer = e; written = refl; wiped = refl }
 
   module _ (r : Answer) (says : answered r ≡ verdict (text_length_test (length t) ∷ []) []) where
-    pub too_long : (k : ℕ) → r ≡ Answer.Refused k → (x : Valued) → x ≡ with_length 0 r → TextConverted t x output output work work
+    pub too_long : (k : Refusal) → r ≡ Err k → (x : Valued) → x ≡ Err k → TextConverted t x output output work work
     unfolding text_tests
     too_long k q x is =
-        rw (is ∙ ap (with_length 0) q)
+        rw is
         (refused-text k (stage-refuses-with (text_length_test (length t) ∷ []) (formed t output work) all-remain r says _ k q))
 
-    pub short-text : r ≡ Answer.Finished → Short t output work
+    pub short-text : r ≡ Ok tt → Short t output work
     unfolding text_tests
     short-text q = record { left = stage-passes (text_length_test (length t) ∷ []) (formed t output work) all-remain r says q }
 
@@ -55,9 +54,9 @@ module _ (t output work : List ℕ) where
     left_as : (read : Read) → read_job t ≡ read → Remaining (tests t output work) (form_tests read (length output) (length work))
     left_as read e = subst (λ x. Remaining (tests t output work) (form_tests x (length output) (length work))) e short.left
 
-    pub no-form : read_job t ≡ malformed → TextConverted t (Valued.Refused 2) output output work work
+    pub no-form : read_job t ≡ malformed → TextConverted t (Err Refusal.Malformed) output output work work
     unfolding form_tests
-    no-form e = refused-text 2 (sym (verdict-here (test 2 true) [] _ refl) ∙ (left_as malformed e).same _)
+    no-form e = refused-text Refusal.Malformed (sym (verdict-here (test 2 true) [] _ refl) ∙ (left_as malformed e).same _)
 
     past-form : (w : WrittenJob) → read_job t ≡ found w → Remaining (tests t output work) (job_tests (meant w) (length output) (length work))
     unfolding form_tests
@@ -98,11 +97,11 @@ module _ (t : List ℕ) (modulus : ℕ) (operation : Operation) (na nb nc nv : �
       (past-form t output work short w stands.read)
 
   module _ (r : Answer) (says : answered r ≡ verdict sizes []) where
-    pub sizes-refused : (k : ℕ) → r ≡ Answer.Refused k → (x : Valued) → x ≡ with_length 0 r → TextConverted t x output output work work
+    pub sizes-refused : (k : Refusal) → r ≡ Err k → (x : Valued) → x ≡ Err k → TextConverted t x output output work work
     sizes-refused k q x is =
-        rw (is ∙ ap (with_length 0) q) (refused-text t output work k (stage-refuses-with sizes _ left r says _ k q))
+        rw is (refused-text t output work k (stage-refuses-with sizes _ left r says _ k q))
 
-    module _ (q : r ≡ Answer.Finished) where
+    module _ (q : r ≡ Ok tt) where
       passed : None sizes
       passed = stage-none sizes r says q
 

@@ -3,25 +3,15 @@
 // a 'requires'.
 #![tactic(auto)]
 
-ghost use Rattle.std.specs.Prelude.{◌≡◌, take};
+ghost use Rattle.std.specs.Prelude.{take};
 ghost use Rattle.definitions.specs.Family.{ones};
 ghost use Rattle.definitions.specs.TextCall.{TextConverted};
 ghost use Rattle.definitions.specs.JobWriting.{written_job, JobWritten};
 ghost use Rattle.lists.specs.Lent.{lent};
-ghost use Rattle.job.specs.Replies.{with_length, Ready, Replied};
+ghost use Rattle.job.specs.Replies.{Ready, Replied};
 
-use definitions::{Answer, Operation, Valued};
+use definitions::{Operation, Refusal};
 use form::JobForm;
-
-// An answer with a length in its finished kind.
-fn with_length(answer: Answer, length: u32) -> Valued
-    ensures { result ≡ with_length length answer }
-{
-    match answer {
-        Answer::Finished => Valued::Value(length),
-        Answer::Refused(k) => Valued::Refused(k),
-    }
-}
 
 // The answer text of an operation on the fronts of the lists, once its sizes are in order: the tests on values are still to be made.
 fn answer(
@@ -35,21 +25,17 @@ fn answer(
     entries: usize,
     output: &mut [u8],
     work: &mut [u32],
-) -> Valued
+) -> Result<u32, Refusal>
     requires { Ready operation modulus a.now b.now c.now rows curve.now entries output.old work.old }
     ensures { Replied operation (lent modulus rows a.now b.now c.now ones) (take entries curve.now) result
         output.old output.new work.old work.new }
 {
     let mut list = [0u32; 255];
     let count = operations::result_count(operation, rows);
-    let tested = operations::convert_parts(
+    operations::convert_parts(
         operation, modulus, a, b, c, rows, curve, entries, &mut list, count, work,
-    );
-    let Answer::Finished = tested else {
-        return with_length(tested, 0);
-    };
-    let length = writer::write_answer(output, operation, &list[0..count]) as u32;
-    Valued::Value(length)
+    )?;
+    Ok(writer::write_answer(output, operation, &list[0..count]) as u32)
 }
 
 // The text call: the answer text of a job text, and its length. After an accepted call the first 16,384 numbers of the working list
@@ -57,13 +43,10 @@ fn answer(
 // Refused with 1 and 2 (the sender of the text); with 3 to 6 (the same, or the station's program), 7: the output has less than 4,096
 // bytes, and 8: the working list is too short (the station's program); with 9, 17, 10, 18 and 11 (the maker of the element); with 12
 // (the sender of the curve).
-pub fn convert_text(text: &[u8], output: &mut [u8], work: &mut [u32]) -> Valued
+pub fn convert_text(text: &[u8], output: &mut [u8], work: &mut [u32]) -> Result<u32, Refusal>
     ensures { TextConverted text.now result output.old output.new work.old work.new }
 {
-    let fits = checks::text_length(text.len());
-    let Answer::Finished = fits else {
-        return with_length(fits, 0);
-    };
+    checks::text_length(text.len())?;
     let mut xs = lists::zeros();
     let mut ys = lists::zeros();
     let mut zs = lists::zeros();
@@ -77,12 +60,9 @@ pub fn convert_text(text: &[u8], output: &mut [u8], work: &mut [u32]) -> Valued
         curve,
     } = form::job_form(text, &mut xs, &mut ys, &mut zs, &mut us)
     else {
-        return Valued::Refused(2);
+        return Err(Refusal::Malformed);
     };
-    let sized = verdicts::sizes(modulus, operation, a, b, c, curve, output.len(), work.len());
-    let Answer::Finished = sized else {
-        return with_length(sized, 0);
-    };
+    verdicts::sizes(modulus, operation, a, b, c, curve, output.len(), work.len())?;
     answer(
         operation, modulus, &xs, &ys, &zs, a, &us, curve, output, work,
     )
@@ -100,14 +80,10 @@ pub fn write_job(
     operation: Operation,
     curve: &[u32],
     output: &mut [u8],
-) -> Valued
+) -> Result<u32, Refusal>
     ensures { JobWritten (written_job m a.now b.now c.now operation curve.now) result
         output.old output.new }
 {
-    let tested = verdicts::writing(m, a, b, c, operation, curve, output.len());
-    let Answer::Finished = tested else {
-        return with_length(tested, 0);
-    };
-    let length = job_text::write_text(output, m, a, b, c, operation, curve) as u32;
-    Valued::Value(length)
+    verdicts::writing(m, a, b, c, operation, curve, output.len())?;
+    Ok(job_text::write_text(output, m, a, b, c, operation, curve) as u32)
 }

@@ -2,13 +2,12 @@
 --   PairAnswer m m' r   what the answer r says: the inverse of m modulo m', or the refusal that the tests give
 -- Proved: it, from the answers of the two checks and of Euclid's algorithm; where there is the inverse, no test holds. Assumes nothing.
 use mathlib.Core.List.{[], ◌∷◌}
-use Rattle.std.specs.Prelude.{◌≡◌, ℕ}
+use Rattle.std.specs.Prelude.{◌≡◌, ℕ, Ok, Err}
 use Rattle.std.proofs.Common.{◌∙◌, subst, arith}
-use Rattle.definitions.specs.Answers.{answered}
+use Rattle.definitions.specs.Answers.{Answer, Valued, number_of, answered}
 use Rattle.definitions.specs.Family.{Modulus}
 use Rattle.definitions.specs.Number.{HasInverse}
 use Rattle.definitions.specs.Refusals.{refused, verdict, modulus_test}
-use Rattle.definitions.specs.declared.Answer.{Answer}
 use Rattle.acceptance.specs.Stages.{Remaining, all-remain, stage-none, stage-passes, stage-refuses-with}
 use Rattle.acceptance.specs.Verdicts.{None, modulus-passes}
 use Rattle.residue.specs.Inversion.{IsInverse, SharesFactor}
@@ -17,18 +16,18 @@ use Rattle.checks.specs.Settling.{refuses-alone}
 use Rattle.joining.specs.Calls.{shared_factor_test, moduli_tests}
 use Rattle.wholes.specs.Accepting.{Apart, apart-passes, moduli-pass}
 use Rattle.join.specs.Joining.{Paired}
-use Rattle.join_calls.specs.declared.Pairing.{Pairing}
+use Rattle.definitions.specs.declared.Refusal.{Refusal}
 
-abbrev pub PairAnswer : ℕ → ℕ → Pairing → Type 0
-PairAnswer m m' (Pairing.Apart k) = Paired m m' k
-PairAnswer m m' (Pairing.Refused k) = refused k ≡ verdict (moduli_tests m m') []
+abbrev pub PairAnswer : ℕ → ℕ → Valued → Type 0
+PairAnswer m m' (Ok k) = Paired m m' k
+PairAnswer m m' (Err k) = refused (number_of k) ≡ verdict (moduli_tests m m') []
 
 -- an answer that is matched on
-module _ (m m' : ℕ) {r : Pairing} {k : ℕ} (is : PairAnswer m m' r) where
-  pub answer-pair : r ≡ Pairing.Apart k → Paired m m' k
+module _ (m m' : ℕ) {r : Valued} (is : PairAnswer m m' r) where
+  pub answer-pair : {k : ℕ} → r ≡ Ok k → Paired m m' k
   answer-pair e = subst (PairAnswer m m') e is
 
-  pub answer-refused : r ≡ Pairing.Refused k → refused k ≡ verdict (moduli_tests m m') []
+  pub answer-refused : {k : Refusal} → r ≡ Err k → refused (number_of k) ≡ verdict (moduli_tests m m') []
   answer-refused e = subst (PairAnswer m m') e is
 
 pub pair-apart : {m m' k : ℕ} → Paired m m' k → Apart m m'
@@ -40,19 +39,19 @@ pair-none {m} {m'} p = (moduli-pass m m').1 (pair-apart p)
 
 -- ---- from the answers of the checks
 module _ (m m' : ℕ) (first : Answer) (is : answered first ≡ verdict (modulus_test m ∷ []) []) where
-  pub first-refused : (k : ℕ) → first ≡ Answer.Refused k → refused k ≡ verdict (moduli_tests m m') []
+  pub first-refused : (k : Refusal) → first ≡ Err k → refused (number_of k) ≡ verdict (moduli_tests m m') []
   unfolding moduli_tests
   first-refused = stage-refuses-with (modulus_test m ∷ []) (modulus_test m' ∷ shared_factor_test m m' ∷ []) all-remain first is []
 
-  module _ (passed : first ≡ Answer.Finished) (second : Answer) (is' : answered second ≡ verdict (modulus_test m' ∷ []) []) where
+  module _ (passed : first ≡ Ok tt) (second : Answer) (is' : answered second ≡ verdict (modulus_test m' ∷ []) []) where
     left : Remaining (moduli_tests m m') (modulus_test m' ∷ shared_factor_test m m' ∷ [])
     unfolding moduli_tests
     left = stage-passes (modulus_test m ∷ []) (modulus_test m' ∷ shared_factor_test m m' ∷ []) all-remain first is passed
 
-    pub second-refused : (k : ℕ) → second ≡ Answer.Refused k → refused k ≡ verdict (moduli_tests m m') []
+    pub second-refused : (k : Refusal) → second ≡ Err k → refused (number_of k) ≡ verdict (moduli_tests m m') []
     second-refused = stage-refuses-with (modulus_test m' ∷ []) (shared_factor_test m m' ∷ []) left second is' []
 
-    module _ (passed' : second ≡ Answer.Finished) where
+    module _ (passed' : second ≡ Ok tt) where
       modulus : Modulus m
       modulus = (modulus-passes m).0 (stage-none (modulus_test m ∷ []) first is passed).0
 

@@ -1,14 +1,13 @@
 -- Why the laws over the calls on two channels hold: each list handed out is its definition, and so is what holds of the definitions.
 -- Assumes nothing.
-use Rattle.std.specs.Prelude.{true, List, [], ◌≡◌, ℕ, suc, ◌*◌, ◌<◌, ◌≤◌, ℤ, pos, length, get_or}
+use Rattle.std.specs.Prelude.{true, List, [], ◌≡◌, ℕ, suc, ◌*◌, ◌<◌, ◌≤◌, ℤ, pos, length, get_or, Err}
 use Rattle.std.proofs.Common.{sym, ◌∙◌, ap, ap₂, subst, arith}
 use Rattle.std.proofs.lemmas.List.{length-map}
 use Rattle.std.proofs.Math.ListN.{get_or-map}
-use Rattle.definitions.specs.Answers.{answered, after, PlainCall}
+use Rattle.definitions.specs.Answers.{Answer, number_of, answered, after, PlainCall}
 use Rattle.definitions.specs.Conversion.{expand}
 use Rattle.definitions.specs.Family.{Accepted, Curve, family}
 use Rattle.definitions.specs.Refusals.{Verdict, finished}
-use Rattle.definitions.specs.declared.Answer.{Answer}
 use Rattle.acceptance.specs.Acceptance.{plain-finished}
 use Rattle.acceptance.specs.Verdicts.{refused-not-finished}
 use Rattle.numbers.specs.Lists.{Each, get_or-default}
@@ -25,6 +24,7 @@ use Rattle.wholes.proofs.Lists.{joined-list-range, joined-list-joins, joined-lis
 use Rattle.wholes.proofs.Lists.{joined-list-second}
 use Rattle.join_laws.specs.Laws.{JoinHolds, JoinLaw, ExpandJoinHolds, ExpandJoinLaw}
 use Rattle.join_laws.specs.Laws.{Lists, remainders, ChannelsInput, ChannelsHold, ChannelsLaw}
+use Rattle.definitions.specs.declared.Refusal.{Refusal}
 
 -- ---- two moduli and two lists of remainders below them
 module _ (m m' : ℕ) (apart : Apart m m') where
@@ -140,7 +140,7 @@ expand-join-law m m' s u v out out' made = record { made = made; holds = holds }
         }
 
 -- ---- Expand on either channel, and Join
-never : (r : Answer) (k : ℕ) → r ≡ Answer.Refused k → answered r ≡ finished [] → ⊥
+never : (r : Answer) (k : Refusal) → r ≡ Err k → answered r ≡ finished [] → ⊥
 never r k q e = refused-not-finished k [] (sym (ap answered q) ∙ e)
 
 -- one channel, lent the remainders of rows and curve
@@ -178,7 +178,7 @@ module _ (m m' : ℕ) (s : Signed) (u : List ℤ) (one two : Lists) (first secon
   both-finishes : Input → answered r₀ ≡ finished []
   both-finishes p = both.answer ∙ (expand-join-finished m m' s u (length output)).1 p.input
 
-  pub both-refused : (k : ℕ) → r₀ ≡ Answer.Refused k → Promise (answered r₀) first second joined
+  pub both-refused : (k : Refusal) → r₀ ≡ Err k → Promise (answered r₀) first second joined
   both-refused k q = record { holds = λ p. absurd (never r₀ k q (both-finishes p)) }
 
   module _ (r₁ : Answer) (first' : List ℕ) (made₁ : PlainCall expand (family m one.a one.b one.c) one.curve (answered r₁) first first') where
@@ -186,7 +186,7 @@ module _ (m m' : ℕ) (s : Signed) (u : List ℤ) (one two : Lists) (first secon
     one-finishes p =
         channel-finishes m s u p.input.accepted p.input.curve_length one p.one_is r₁ first first' p.first_length made₁
 
-    pub first-refused : (k : ℕ) → r₁ ≡ Answer.Refused k → Promise (answered r₁) first' second joined
+    pub first-refused : (k : Refusal) → r₁ ≡ Err k → Promise (answered r₁) first' second joined
     first-refused k q = record { holds = λ p. absurd (never r₁ k q (one-finishes p)) }
 
     module _ (r₂ : Answer) (second' : List ℕ)
@@ -195,7 +195,7 @@ module _ (m m' : ℕ) (s : Signed) (u : List ℤ) (one two : Lists) (first secon
       two-finishes p =
           channel-finishes m' s u p.input.accepted' p.input.curve_length two p.two_is r₂ second second' p.second_length made₂
 
-      pub second-refused : (k : ℕ) → r₂ ≡ Answer.Refused k → Promise (answered r₂) first' second' joined
+      pub second-refused : (k : Refusal) → r₂ ≡ Err k → Promise (answered r₂) first' second' joined
       second-refused k q = record { holds = λ p. absurd (never r₂ k q (two-finishes p)) }
 
       pub channels-law : (r₃ : Answer) (joined' : List ℤ) → JoinCall m m' first' second' (answered r₃) joined joined'

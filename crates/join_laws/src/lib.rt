@@ -6,10 +6,10 @@ ghost use Rattle.definitions.specs.Answers.{answered};
 ghost use Rattle.joining.specs.Expanding.{signed};
 ghost use Rattle.join_laws.specs.Laws.{lists, JoinLaw, ExpandJoinLaw, ChannelsLaw};
 
-use definitions::Answer;
+use definitions::Refusal;
 
 // What Join hands out lies in the range and leaves the two lists that it was lent, and nothing else does.
-fn join_leaves_both(m1: u32, m2: u32, first: &[u32], second: &[u32], output: &mut [i64]) -> Answer
+fn join_leaves_both(m1: u32, m2: u32, first: &[u32], second: &[u32], output: &mut [i64]) -> Result<(), Refusal>
     ensures { JoinLaw m1 m2 first.now second.now (answered result) output.old output.new }
 {
     join_calls::join(m1, m2, first, second, output)
@@ -24,7 +24,7 @@ fn expand_join_is_exact(
     c: &[i32],
     curve: &[i32],
     output: &mut [i64],
-) -> Answer
+) -> Result<(), Refusal>
     ensures { ExpandJoinLaw m1 m2 (signed a.now b.now c.now) curve.now (answered result)
         output.old output.new }
 {
@@ -51,24 +51,15 @@ fn expands_joined(
     second: &mut [u32],
     joined: &mut [i64],
     output: &mut [i64],
-) -> Answer
+) -> Result<(), Refusal>
     ensures { ChannelsLaw m1 m2 (signed a.now b.now c.now) curve.now
         (lists a1.now b1.now c1.now curve1.now)
         (lists a2.now b2.now c2.now curve2.now)
         (answered result) first.old first.new second.old second.new
         joined.old joined.new output.old output.new }
 {
-    let both = expand_join::expand_join(m1, m2, a, b, c, curve, output);
-    let Answer::Finished = both else {
-        return both;
-    };
-    let one = plain_calls::plain_expand(m1, a1, b1, c1, curve1, first);
-    let Answer::Finished = one else {
-        return one;
-    };
-    let two = plain_calls::plain_expand(m2, a2, b2, c2, curve2, second);
-    let Answer::Finished = two else {
-        return two;
-    };
+    expand_join::expand_join(m1, m2, a, b, c, curve, output)?;
+    plain_calls::plain_expand(m1, a1, b1, c1, curve1, first)?;
+    plain_calls::plain_expand(m2, a2, b2, c2, curve2, second)?;
     join_calls::join(m1, m2, first, second, joined)
 }

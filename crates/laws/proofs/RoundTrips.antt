@@ -2,18 +2,18 @@
 -- Proved: where the first call refuses, the answer is its number and the other lists stay; where it finishes, the second is made of the list
 -- that it handed out, and on an accepted family hands out the first list again. These rest on the law of RoundTripHolds, which an edit
 -- of specs/ changes. Assumes nothing.
-use Rattle.std.specs.Prelude.{◌≡◌, List, [], ◌++◌, ℕ, length}
+use Rattle.std.specs.Prelude.{◌≡◌, List, [], ◌++◌, ℕ, length, Ok, Err}
 use Rattle.std.proofs.Common.{sym, ◌∙◌, ap}
-use Rattle.definitions.specs.Answers.{answered, after}
+use Rattle.definitions.specs.Answers.{Answer, number_of, answered, after}
 use Rattle.definitions.specs.Family.{Family}
 use Rattle.definitions.specs.Refusals.{Test, finished, verdict}
-use Rattle.definitions.specs.declared.Answer.{Answer}
 use Rattle.acceptance.specs.Verdicts.{None, verdict-finished, none-append}
 use Rattle.laws.specs.ByWay.{two-calls-pass, work-length}
 use Rattle.acceptance.specs.Stages.{all-remain, stage-refuses, stage-passes, stages-end, list-new}
 use Rattle.laws.specs.Laws.{TwoCallsInput, RoundTripHolds, way_tests, work_left, Made, there_tests, back_tests, ThereAndBack}
 use Rattle.laws.specs.declared.Way.{Way}
 use Rattle.laws.specs.RoundTrips.{Undoes}
+use Rattle.definitions.specs.declared.Refusal.{Refusal}
 
 -- ---- two calls
 module _ {there back : Family → List ℕ → List ℕ} (undoes : Undoes there back) (first second : Way) (f : Family)
@@ -43,7 +43,7 @@ module _ {there back : Family → List ℕ → List ℕ} (undoes : Undoes there 
         law = w ∙ ap (λ v. after v (back f one') two) done ∙ ap (back f) new ∙ undoes.undone f input.accepted u input.curve;
       }
 
-  pub first-refused : (k : ℕ) → s ≡ Answer.Refused k → ThereAndBack there back first second f u s one one' two two work w₁
+  pub first-refused : (k : Refusal) → s ≡ Err k → ThereAndBack there back first second f u s one one' two two work w₁
   first-refused k q =
       let e = stage-refuses T₁ later all-remain s made₁.answer k q in
       let stays = sym (ap (λ x. after (answered x) (back f one') two) q) in
@@ -56,7 +56,7 @@ module _ {there back : Family → List ℕ → List ℕ} (undoes : Undoes there 
         holds = round_trip s two e stays;
       }
 
-  module _ (q : s ≡ Answer.Finished) (r : Answer) (two' w₂ : List ℕ) (made₂ : Made back second f one' r two two' w₁ w₂) where
+  module _ (q : s ≡ Ok tt) (r : Answer) (two' w₂ : List ℕ) (made₂ : Made back second f one' r two two' w₁ w₂) where
     handed : one' ≡ there f u
     handed = made₁.written ∙ ap (λ x. after (answered x) (there f u) one) q
 

@@ -2,14 +2,13 @@
 -- Proved: on any two curves of an accepted family, with lists as long as their calls ask, the calls finish and the product law holds of the
 -- lists as they then are; where every call finished, the lists are as long as the totals ask; the totals, or the refusal, come to
 -- Weighed. These rest on the laws of specs/, which edits change. Assumes nothing.
-use Rattle.std.specs.Prelude.{◌≡◌, List, [], ◌∷◌, ℕ, suc, ◌+◌, ◌*◌, ◌-◌, ◌<◌, ◌≤◌, length}
+use Rattle.std.specs.Prelude.{◌≡◌, List, [], ◌∷◌, ℕ, suc, ◌+◌, ◌*◌, ◌-◌, ◌<◌, ◌≤◌, length, Ok, Err}
 use Rattle.std.proofs.Common.{sym, ◌∙◌, ap, ap₂, arith}
-use Rattle.definitions.specs.Answers.{answered, cleared}
+use Rattle.definitions.specs.Answers.{Answer, answered, cleared}
 use Rattle.definitions.specs.Conversion.{expand}
 use Rattle.definitions.specs.Family.{Family, Accepted, rows}
 use Rattle.definitions.specs.Orthogonality.{moments, norms, moment_total, norm_total, ProductLaw}
 use Rattle.definitions.specs.Refusals.{Test, finished, verdict, moments_tests, norms_tests}
-use Rattle.definitions.specs.declared.Answer.{Answer}
 use Rattle.acceptance.specs.Acceptance.{PlainInput, accepted-convertible, moments-passes, norms-passes}
 use Rattle.theory.specs.Bridge.{expand-curve}
 use Rattle.theory.specs.Moments.{moments-length, norms-curve}
@@ -18,10 +17,10 @@ use Rattle.acceptance.specs.Verdicts.{None, verdict-finished, none-append, with_
 use Rattle.totals.specs.Totals.{MomentTotalInput, NormTotalInput}
 use Rattle.laws.specs.ByWay.{way-input, two-calls-pass, cleared-after}
 use Rattle.acceptance.specs.Stages.{stage-none, list-new}
-use Rattle.laws.specs.Laws.{Lists, ProductLawInput, told, both_totals, ProductLawHolds, way_tests, work_left}
+use Rattle.laws.specs.Laws.{Totals, Lists, ProductLawInput, told, both_totals, ProductLawHolds, way_tests, work_left}
 use Rattle.laws.specs.Laws.{tests₁, tests₂, tests₃, law_tests, work₁, work₂, ListsHanded, HandedOut, Weighed}
-use Rattle.laws.specs.declared.Totals.{Totals}
 use Rattle.laws.specs.declared.Way.{Way}
+use Rattle.definitions.specs.declared.Refusal.{Refusal}
 
 module _ (first second : Way) (f : Family) (u v : List ℕ) (lent : Lists) where
   abbrev T₁ : List Test
@@ -126,12 +125,12 @@ module _ (first second : Way) (f : Family) (u v : List ℕ) (lent : Lists) where
     weighed : (x : Totals) → told x ≡ verdict T₄ (both_totals f u v handed) → Weighed first second f u v lent x handed
     weighed x e = record { answer = e; lists = out.lists; holds = law-holds x handed e out.lists }
 
-    pub refused-weighed : (k : ℕ) → r ≡ Answer.Refused k → Weighed first second f u v lent (Totals.Refused k) handed
+    pub refused-weighed : (k : Refusal) → r ≡ Err k → Weighed first second f u v lent (Err k) handed
     refused-weighed k q =
         let values = both_totals f u v handed in
-        weighed (Totals.Refused k) (sym (verdict-values values T₄ ∙ ap (with_values values) (sym out.answer ∙ ap answered q)))
+        weighed (Err k) (sym (verdict-values values T₄ ∙ ap (with_values values) (sym out.answer ∙ ap answered q)))
 
-    module _ (q : r ≡ Answer.Finished) where
+    module _ (q : r ≡ Ok tt) where
       none : None T₄
       none = stage-none T₄ r out.answer q
 
@@ -156,10 +155,10 @@ module _ (first second : Way) (f : Family) (u v : List ℕ) (lent : Lists) where
           record { positive = positive; u_long = omega arith; v_long = omega arith; norm_long = omega arith }
 
       pub totals-weighed : (x y : ℕ) → x ≡ moment_total f.m (rows f + 1) handed.s handed.t handed.moment
-          → y ≡ norm_total f.m (rows f + 1) u v handed.norm → Weighed first second f u v lent (Totals.Weighed x y) handed
+          → y ≡ norm_total f.m (rows f + 1) u v handed.norm → Weighed first second f u v lent (Ok (x, y)) handed
       totals-weighed x y ex ey =
           let n-is : rows f + 1 ≡ suc (rows f) = omega arith in
-          weighed (Totals.Weighed x y)
+          weighed (Ok (x, y))
           (ap₂ (λ p o. finished (p ∷ o ∷ []))
           (ex ∙ ap (λ n. moment_total f.m n handed.s handed.t handed.moment) n-is)
           (ey ∙ ap (λ n. norm_total f.m n u v handed.norm) n-is)

@@ -3,12 +3,11 @@
 -- curve on it; a finished call leaves the working list as long as it was; clearing a cleared list changes nothing, so that of calls in
 -- turn the last that clears decides.
 -- Assumes nothing.
-use Rattle.std.specs.Prelude.{◌≡◌, refl, List, [], ℕ, length}
+use Rattle.std.specs.Prelude.{◌≡◌, refl, List, [], ℕ, length, Ok, Err}
 use Rattle.std.proofs.Common.{sym, ◌∙◌, ap}
-use Rattle.definitions.specs.Answers.{answered, after, cleared, PlainCall, TreeCall}
+use Rattle.definitions.specs.Answers.{Answer, answered, after, cleared, PlainCall, TreeCall}
 use Rattle.definitions.specs.Family.{Family, Curve}
 use Rattle.definitions.specs.Refusals.{verdict}
-use Rattle.definitions.specs.declared.Answer.{Answer}
 use Rattle.acceptance.specs.Acceptance.{PlainInput, TreeInput, plain_passes, tree-passes, tree-finished}
 use Rattle.acceptance.specs.Verdicts.{None}
 use Rattle.lists.specs.Entries.{cleared-length, cleared-twice}
@@ -21,8 +20,8 @@ module _ (convert : Family → List ℕ → List ℕ) (f : Family) (u : List ℕ
   by-plain made = record { answer = made.answer; written = made.written; worked = at r }
     where
       at : (x : Answer) → work ≡ after (answered x) work work
-      at Answer.Finished = refl
-      at (Answer.Refused k) = refl
+      at (Ok tt) = refl
+      at (Err k) = refl
 
   pub by-tree : (work' : List ℕ) → TreeCall convert f u (answered r) output output' work work'
       → Made convert Way.Tree f u r output output' work work'
@@ -58,7 +57,7 @@ cleared-after Way.Plain work = refl
 cleared-after Way.Tree work = cleared-twice work
 
 pub work-length : (way : Way) (f : Family) (u : List ℕ) (r : Answer) (output : ℕ) (work : List ℕ)
-    → answered r ≡ verdict (way_tests way f u output (length work)) [] → r ≡ Answer.Finished → length (work_left way work) ≡ length work
+    → answered r ≡ verdict (way_tests way f u output (length work)) [] → r ≡ Ok tt → length (work_left way work) ≡ length work
 work-length Way.Plain f u r output work e q = refl
 work-length Way.Tree f u r output work e q =
     cleared-length work ((tree-finished f u output (length work) []).0 (sym e ∙ ap answered q)).work_long

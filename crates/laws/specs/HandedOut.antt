@@ -1,24 +1,24 @@
 -- The calls of the product law, made one after another: Expand for u, Expand for v, Moments and Norms.
 -- Proved: calls that each keep their own promise come to HandedOut, whichever refuses. Assumes nothing.
-use Rattle.std.specs.Prelude.{◌≡◌, List, [], ℕ, length}
+use Rattle.std.specs.Prelude.{◌≡◌, List, [], ℕ, length, Ok, Err}
 use Rattle.std.proofs.Common.{sym, ◌∙◌, ap}
-use Rattle.definitions.specs.Answers.{answered, after, cleared, NormsCall, MomentsCall}
+use Rattle.definitions.specs.Answers.{Answer, number_of, answered, after, cleared, NormsCall, MomentsCall}
 use Rattle.definitions.specs.Conversion.{expand}
 use Rattle.definitions.specs.Family.{Family}
 use Rattle.definitions.specs.Orthogonality.{moments, norms}
 use Rattle.definitions.specs.Refusals.{Test, verdict, moments_tests, norms_tests}
-use Rattle.definitions.specs.declared.Answer.{Answer}
 use Rattle.laws.specs.ByWay.{work-length}
 use Rattle.acceptance.specs.Stages.{all-remain, stage-refuses, stage-passes, stages-end}
 use Rattle.laws.specs.Laws.{Lists, lists, way_tests, work_left, Made, tests₁, tests₂, tests₃, law_tests, work₁, work₂, work₃, HandedOut}
 use Rattle.laws.specs.declared.Way.{Way}
+use Rattle.definitions.specs.declared.Refusal.{Refusal}
 
 -- a list by the verdict of the tests so far, where the last call made wrote it or refused
 module _ (tests : List Test) (x : Answer) (new old : List ℕ) (e : answered x ≡ verdict tests []) where
   settles : (list : List ℕ) → list ≡ after (answered x) new old → list ≡ after (verdict tests []) new old
   settles list w = w ∙ ap (λ v. after v new old) e
 
-  stays : (k : ℕ) → x ≡ Answer.Refused k → old ≡ after (verdict tests []) new old
+  stays : (k : Refusal) → x ≡ Err k → old ≡ after (verdict tests []) new old
   stays k q = ap (λ v. after v new old) (sym (ap answered q) ∙ e)
 
 module _ (first second : Way) (f : Family) (u v : List ℕ) (lent : Lists) (r₁ : Answer) (s' w₁ : List ℕ)
@@ -56,7 +56,7 @@ module _ (first second : Way) (f : Family) (u v : List ℕ) (lent : Lists) (r₁
   first-worked : w₁ ≡ W₁
   first-worked = settles T₁ r₁ (work_left first lent.work) lent.work one.answer w₁ one.worked
 
-  pub first-refused : (k : ℕ) → r₁ ≡ Answer.Refused k
+  pub first-refused : (k : Refusal) → r₁ ≡ Err k
       → HandedOut first second f u v lent r₁ (lists s' lent.t lent.moment lent.norm w₁)
   first-refused k q =
       let e₂ = stage-refuses T₁ later₂ all-remain r₁ one.answer k q in
@@ -73,7 +73,7 @@ module _ (first second : Way) (f : Family) (u v : List ℕ) (lent : Lists) (r₁
         };
       }
 
-  module _ (q₁ : r₁ ≡ Answer.Finished) (r₂ : Answer) (t' w₂ : List ℕ) (two : Made expand second f v r₂ lent.t t' w₁ w₂) where
+  module _ (q₁ : r₁ ≡ Ok tt) (r₂ : Answer) (t' w₂ : List ℕ) (two : Made expand second f v r₂ lent.t t' w₁ w₂) where
     length₁ : length w₁ ≡ length lent.work
     length₁ = ap length (one.worked ∙ ap (λ x. after (answered x) (work_left first lent.work) lent.work) q₁)
         ∙ work-length first f u r₁ (length lent.s) lent.work one.answer q₁
@@ -89,7 +89,7 @@ module _ (first second : Way) (f : Family) (u v : List ℕ) (lent : Lists) (r₁
     second-worked = settles T₂ r₂ (work_left second w₁) w₁ e₂ w₂ two.worked
         ∙ ap (λ w. after (verdict T₂ []) (work_left second w) w) first-worked
 
-    pub second-refused : (k : ℕ) → r₂ ≡ Answer.Refused k
+    pub second-refused : (k : Refusal) → r₂ ≡ Err k
         → HandedOut first second f u v lent r₂ (lists s' t' lent.moment lent.norm w₂)
     second-refused k q =
         let e₃ = stage-refuses T₂ later₃ all-remain r₂ e₂ k q in
@@ -105,7 +105,7 @@ module _ (first second : Way) (f : Family) (u v : List ℕ) (lent : Lists) (r₁
           };
         }
 
-    module _ (q₂ : r₂ ≡ Answer.Finished) (r₃ : Answer) (moment' w₃ : List ℕ)
+    module _ (q₂ : r₂ ≡ Ok tt) (r₃ : Answer) (moment' w₃ : List ℕ)
         (three : MomentsCall f (answered r₃) lent.moment moment' w₂ w₃) where
       length₂ : length w₂ ≡ length lent.work
       length₂ = ap length (two.worked ∙ ap (λ x. after (answered x) (work_left second w₁) w₁) q₂)
@@ -121,7 +121,7 @@ module _ (first second : Way) (f : Family) (u v : List ℕ) (lent : Lists) (r₁
       third-worked : w₃ ≡ work₃ first second f u v lent
       third-worked = settles T₃ r₃ (cleared w₂) w₂ e₃ w₃ three.wiped ∙ ap (λ w. after (verdict T₃ []) (cleared w) w) second-worked
 
-      pub third-refused : (k : ℕ) → r₃ ≡ Answer.Refused k → HandedOut first second f u v lent r₃ (lists s' t' moment' lent.norm w₃)
+      pub third-refused : (k : Refusal) → r₃ ≡ Err k → HandedOut first second f u v lent r₃ (lists s' t' moment' lent.norm w₃)
       third-refused k q =
           let e₄ = stage-refuses T₃ later₄ all-remain r₃ e₃ k q in
           record {
@@ -135,7 +135,7 @@ module _ (first second : Way) (f : Family) (u v : List ℕ) (lent : Lists) (r₁
             };
           }
 
-      module _ (q₃ : r₃ ≡ Answer.Finished) (r₄ : Answer) (norm' : List ℕ) (four : NormsCall f (answered r₄) lent.norm norm') where
+      module _ (q₃ : r₃ ≡ Ok tt) (r₄ : Answer) (norm' : List ℕ) (four : NormsCall f (answered r₄) lent.norm norm') where
         pub all-handed-out : HandedOut first second f u v lent r₄ (lists s' t' moment' norm' w₃)
         all-handed-out =
             let e₄ = stages-end later₄ (stage-passes T₃ later₄ all-remain r₃ e₃ q₃) r₄ four.answer in

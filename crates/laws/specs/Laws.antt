@@ -13,14 +13,14 @@
 --   HandedOut          of Expand for u and for v, Moments and Norms;  Weighed  of these and the two totals
 -- The scope paper, 'The definitions'. Assumes nothing.
 use Rattle.std.specs.Prelude.{◌≡◌, List, [], ◌∷◌, ◌++◌, ℕ, ◌≤◌, length}
-use Rattle.definitions.specs.Answers.{answered, after, cleared}
+use Rattle.std.specs.Prelude.{Result, Ok, Err}
+use Rattle.definitions.specs.declared.Refusal.{Refusal}
+use Rattle.definitions.specs.Answers.{Answer, number_of, answered, after, cleared}
 use Rattle.definitions.specs.Conversion.{expand}
 use Rattle.definitions.specs.Family.{Family, Accepted, Curve, size}
 use Rattle.definitions.specs.Orthogonality.{moments, moment_count, norms, moment_total, norm_total, ProductLaw}
 use Rattle.definitions.specs.Refusals.{Test, Verdict, finished, refused, verdict, work_length, plain_tests, tree_tests, moments_tests}
 use Rattle.definitions.specs.Refusals.{norms_tests}
-use Rattle.definitions.specs.declared.Answer.{Answer}
-use Rattle.laws.specs.declared.Totals.{Totals}
 use Rattle.laws.specs.declared.Way.{Way}
 
 -- ---- demand 3: the product law
@@ -45,10 +45,13 @@ pub record ProductLawInput (f : Family) (u v : List ℕ) (lent : Lists) : Type 0
   pub norm_length : length lent.norm ≡ size f
   pub work_long : work_length ≤ length lent.work
 
--- the values and numbers of `Totals`
+-- what the product law answers: the total by the moments and the total by the norms, or the refusal of the call that refused
+abbrev pub Totals : Type 0
+Totals = Result (ℕ × ℕ) Refusal
+
 abbrev pub told : Totals → Verdict
-told (Totals.Weighed x y) = finished (x ∷ y ∷ [])
-told (Totals.Refused k) = refused k
+told (Ok (x, y)) = finished (x ∷ y ∷ [])
+told (Err k) = refused (number_of k)
 
 -- the uncut product weighed with the moments, and the products of the entries weighed with the norms
 abbrev pub both_totals : Family → (u v : List ℕ) → Lists → List ℕ

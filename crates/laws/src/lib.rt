@@ -8,20 +8,13 @@ ghost use Rattle.definitions.specs.Conversion.{expand, adjoint, decompose};
 ghost use Rattle.definitions.specs.Family.{family};
 ghost use Rattle.laws.specs.Laws.{lists, Made, ThereAndBack, Agreed, HandedOut, Weighed};
 
-use definitions::Answer;
+use definitions::Refusal;
 
 // A way of Expand and of Decompose.
-#[derive(Drop)]
+#[derive(Clone, Copy, Debug, PartialEq, Eq)]
 pub enum Way {
     Plain,
     Tree,
-}
-
-// What product_law answers: the total by the moments and the total by the norms, or the refusal of the call that refused.
-#[derive(Drop)]
-pub enum Totals {
-    Weighed(u32, u32),
-    Refused(u32),
 }
 
 // Expand by the way that is asked for.
@@ -34,7 +27,7 @@ pub fn expand_by(
     curve: &[u32],
     output: &mut [u32],
     work: &mut [u32],
-) -> Answer
+) -> Result<(), Refusal>
     ensures { Made expand way (family m a.now b.now c.now) curve.now result
         output.old output.new work.old work.new }
 {
@@ -54,7 +47,7 @@ fn decompose_by(
     coefficients: &[u32],
     output: &mut [u32],
     work: &mut [u32],
-) -> Answer
+) -> Result<(), Refusal>
     ensures { Made decompose way (family m a.now b.now c.now) coefficients.now result
         output.old output.new work.old work.new }
 {
@@ -76,14 +69,11 @@ fn decompose_after_expand(
     expanded: &mut [u32],
     returned: &mut [u32],
     work: &mut [u32],
-) -> Answer
+) -> Result<(), Refusal>
     ensures { ThereAndBack expand decompose first second (family m a.now b.now c.now) curve.now result
         expanded.old expanded.new returned.old returned.new work.old work.new }
 {
-    let answer = expand_by(first, m, a, b, c, curve, expanded, work);
-    let Answer::Finished = answer else {
-        return answer;
-    };
+    expand_by(first, m, a, b, c, curve, expanded, work)?;
     decompose_by(second, m, a, b, c, expanded, returned, work)
 }
 
@@ -99,14 +89,11 @@ fn expand_after_decompose(
     decomposed: &mut [u32],
     returned: &mut [u32],
     work: &mut [u32],
-) -> Answer
+) -> Result<(), Refusal>
     ensures { ThereAndBack decompose expand first second (family m a.now b.now c.now) coefficients.now result
         decomposed.old decomposed.new returned.old returned.new work.old work.new }
 {
-    let answer = decompose_by(first, m, a, b, c, coefficients, decomposed, work);
-    let Answer::Finished = answer else {
-        return answer;
-    };
+    decompose_by(first, m, a, b, c, coefficients, decomposed, work)?;
     expand_by(second, m, a, b, c, decomposed, returned, work)
 }
 
@@ -120,14 +107,11 @@ fn expand_by_both_ways(
     plain: &mut [u32],
     tree: &mut [u32],
     work: &mut [u32],
-) -> Answer
+) -> Result<(), Refusal>
     ensures { Agreed expand (family m a.now b.now c.now) curve.now result
         plain.old plain.new tree.old tree.new work.old work.new }
 {
-    let answer = plain_calls::plain_expand(m, a, b, c, curve, plain);
-    let Answer::Finished = answer else {
-        return answer;
-    };
+    plain_calls::plain_expand(m, a, b, c, curve, plain)?;
     tree_calls::tree_expand(m, a, b, c, curve, tree, work)
 }
 
@@ -141,14 +125,11 @@ fn adjoint_by_both_ways(
     plain: &mut [u32],
     tree: &mut [u32],
     work: &mut [u32],
-) -> Answer
+) -> Result<(), Refusal>
     ensures { Agreed adjoint (family m a.now b.now c.now) curve.now result
         plain.old plain.new tree.old tree.new work.old work.new }
 {
-    let answer = plain_calls::plain_adjoint(m, a, b, c, curve, plain);
-    let Answer::Finished = answer else {
-        return answer;
-    };
+    plain_calls::plain_adjoint(m, a, b, c, curve, plain)?;
     tree_calls::tree_adjoint(m, a, b, c, curve, tree, work)
 }
 
@@ -162,14 +143,11 @@ fn decompose_by_both_ways(
     plain: &mut [u32],
     tree: &mut [u32],
     work: &mut [u32],
-) -> Answer
+) -> Result<(), Refusal>
     ensures { Agreed decompose (family m a.now b.now c.now) coefficients.now result
         plain.old plain.new tree.old tree.new work.old work.new }
 {
-    let answer = plain_calls::plain_decompose(m, a, b, c, coefficients, plain);
-    let Answer::Finished = answer else {
-        return answer;
-    };
+    plain_calls::plain_decompose(m, a, b, c, coefficients, plain)?;
     tree_calls::tree_decompose(m, a, b, c, coefficients, tree, work)
 }
 
@@ -188,28 +166,19 @@ fn hand_out(
     moment: &mut [u32],
     norm: &mut [u32],
     work: &mut [u32],
-) -> Answer
+) -> Result<(), Refusal>
     ensures { HandedOut first second (family m a.now b.now c.now) u.now v.now
         (lists s.old t.old moment.old norm.old work.old) result
         (lists s.new t.new moment.new norm.new work.new) }
 {
-    let one = expand_by(first, m, a, b, c, u, s, work);
-    let Answer::Finished = one else {
-        return one;
-    };
-    let two = expand_by(second, m, a, b, c, v, t, work);
-    let Answer::Finished = two else {
-        return two;
-    };
-    let three = tree_calls::moments(m, a, b, c, moment, work);
-    let Answer::Finished = three else {
-        return three;
-    };
+    expand_by(first, m, a, b, c, u, s, work)?;
+    expand_by(second, m, a, b, c, v, t, work)?;
+    tree_calls::moments(m, a, b, c, moment, work)?;
     plain_calls::norms(m, a, b, c, norm)
 }
 
 // The product law, demand 3: the uncut product of what Expand hands out for u and for v, weighed with the moments, and the products of
-// the entries of u and v, weighed with the norms. Both totals are answered, and are equal; each norm has an inverse.
+// the entries of u and v, weighed with the norms. Both totals are answered, that by the moments first, and are equal; each norm has an inverse.
 pub fn product_law(
     first: Way,
     second: Way,
@@ -224,17 +193,14 @@ pub fn product_law(
     moment: &mut [u32],
     norm: &mut [u32],
     work: &mut [u32],
-) -> Totals
+) -> Result<(u32, u32), Refusal>
     ensures { Weighed first second (family m a.now b.now c.now) u.now v.now
         (lists s.old t.old moment.old norm.old work.old) result
         (lists s.new t.new moment.new norm.new work.new) }
 {
-    let answer = hand_out(first, second, m, a, b, c, u, v, s, t, moment, norm, work);
-    if let Answer::Refused(k) = answer {
-        return Totals::Refused(k);
-    }
+    hand_out(first, second, m, a, b, c, u, v, s, t, moment, norm, work)?;
     let n = a.len() + 1;
     let by_moments = totals::moment_total(m, n, s, t, moment);
     let by_norms = totals::norm_total(m, n, u, v, norm);
-    Totals::Weighed(by_moments, by_norms)
+    Ok((by_moments, by_norms))
 }

@@ -5,4 +5,4 @@ pub mod Held
 pub mod Lent
 pub mod Inverses
 pub mod Whole
-pub mod Accepting
+pub mod Lending

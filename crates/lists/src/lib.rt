@@ -4,26 +4,12 @@
 
 ghost use Rattle.std.specs.Prelude.{◌≡◌, ◌+◌, ◌≤◌, length, get_or, take, replicate};
 ghost use Rattle.definitions.specs.Answers.{cleared};
-ghost use Rattle.lists.specs.Lent.{LentRows};
 ghost use Rattle.numbers.specs.Lists.{filled};
 ghost use Rattle.numbers.specs.Regions.{written};
 
 use std::marker::Model;
 
-// The rows of a family, lent: three lists of one length, of residues.
-#[derive(Clone, Copy)]
-pub struct Rows<'a> {
-    pub modulus: u32,
-    pub a: &'a [u32],
-    pub b: &'a [u32],
-    pub c: &'a [u32],
-    pub ghost lent: { LentRows modulus (length a.now) a.now b.now c.now },
-    pub ghost b_length: { length b.now ≡ length a.now },
-    pub ghost c_length: { length c.now ≡ length a.now },
-    pub ghost few: { length a.now ≤ 127 },
-}
-
-// A family that is accepted, lent.
+// The rows of a family, lent: three lists of one length, of residues. What closes them is 1 1 1.
 #[derive(Drop)]
 pub struct Family<'a> {
     pub modulus: u32,
@@ -34,13 +20,13 @@ pub struct Family<'a> {
 
 impl<'a> Model for Family<'a> {
     ghost use Rattle.definitions.specs.Family as F;
-    ghost use Rattle.lists.specs.Accepting.{Accepting};
+    ghost use Rattle.lists.specs.Lending.{Lending};
 
     ghost Value = { F.Family };
 
     ghost view = { λ f. F.family f.modulus f.a.now f.b.now f.c.now };
 
-    ghost invariant = { λ f. Accepting (F.family f.modulus f.a.now f.b.now f.c.now) };
+    ghost invariant = { λ f. Lending (F.family f.modulus f.a.now f.b.now f.c.now) };
 }
 
 // A local list, all zeros.

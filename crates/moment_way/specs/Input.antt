@@ -1,5 +1,6 @@
 -- What the moments and Decompose by the moments assume of the lists and numbers that they are lent. The lists may be longer than
 -- the n - 1 rows that take part, which close closes.
+--   ClosedBy           what is lent beside a family: a closing row below m, and the inverses of the a, the closing row's too
 --   ClosedInput        the rows and the closing row are below m
 --   PolynomialsInput   what F_n and G_{n-1} are taken of;  Polynomials  what is left of them
 --   MomentsCoreInput   what the moments are taken of: the inverses of the a, that of the closing row too
@@ -8,12 +9,16 @@
 use Rattle.std.specs.Prelude.{◌≡◌, List, ◌++◌, ℕ, suc, ◌+◌, ◌*◌, ◌-◌, ◌≤◌, length, drop}
 use Rattle.std.proofs.Common.{arith}
 use Rattle.definitions.specs.Answers.{cleared}
-use Rattle.definitions.specs.Family.{Row, Family, F, G, RowBelow, Accepted}
+use Rattle.definitions.specs.Family.{Row, Family, F, G, RowBelow, Accepted, rows}
 use Rattle.definitions.specs.Number.{table}
 use Rattle.definitions.specs.Refusals.{work_length}
 use Rattle.lists.specs.Held.{Holds}
 use Rattle.lists.specs.Inverses.{Inverts}
 use Rattle.lists.specs.Lent.{Long, LentRows, lent, accepted-few, accepted-rows, accepted-closing}
+
+pub record ClosedBy (f : Family) (close : Row) (a_inverses : List ℕ) (close_a_inverse : ℕ) : Type 0 where
+  pub closing : RowBelow f.m close
+  pub a_inverts : Inverts f.m 0 (rows f) f.a a_inverses close.a close_a_inverse
 
 pub record ClosedInput (m : ℕ) (a b c : List ℕ) (close : Row) (n : ℕ) : Type 0 where
   pub rows : LentRows m (n - 1) a b c

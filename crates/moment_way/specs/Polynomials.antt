@@ -77,12 +77,12 @@ module _ {blank : List ℕ} (z : blank ≡ replicate 255 0) {m : ℕ} {a b c : L
   blank-length : length blank ≡ 255
   blank-length = ap length z ∙ length-replicate {A = ℕ} 255 0
 
-  unit-is : take (suc r) (set blank r 1) ≡ last_unit r
+  pub unit-is : take (suc r) (set blank r 1) ≡ last_unit r
   unfolding last_unit
   unit-is = take-suc-set blank r 1 (omega (arith, blank-length, input.most))
       ∙ ap (λ t. t ++ 1 ∷ []) (ap (take r) z ∙ take-zeros r 255 (omega (arith, input.most)))
 
-  unit-below : (i : ℕ) → i ≤ r → get_or (set blank r 1) i 0 < m
+  pub unit-below : (i : ℕ) → i ≤ r → get_or (set blank r 1) i 0 < m
   unfolding last_unit
   unit-below i l =
       let least : 2 ≤ m = input.rows.modulus.least in
@@ -128,20 +128,20 @@ take_rest (suc k) [] = refl
 take_rest k (x ∷ xs) = refl
 
 -- what &xs[1..] lends of an array
-abbrev rest : List ℕ → List ℕ
+abbrev pub rest : List ℕ → List ℕ
 rest xs = take 127 (drop 1 xs)
 
 module _ {list : List ℕ} {count last : ℕ} {xs : List ℕ} (h : Extends list count last xs) where
   first-are : {n : ℕ} → suc count ≡ n → take n xs ≡ take count list ++ last ∷ []
   first-are e = ap (λ k. take k xs) (sym e) ∙ h.first
 
-  rest-whole : rest xs ≡ drop 1 xs
+  pub rest-whole : rest xs ≡ drop 1 xs
   rest-whole = take_all 127 (drop 1 xs) (omega (arith, length-drop 1 xs, h.long))
 
   rest-first : take count (rest xs) ≡ drop 1 (take count list ++ last ∷ [])
   rest-first = ap (take count) rest-whole ∙ take_rest count xs ∙ ap (drop 1) h.first
 
-  rest-holds : {m : ℕ} → Holds m (suc count) xs → Holds m count (rest xs)
+  pub rest-holds : {m : ℕ} → Holds m (suc count) xs → Holds m count (rest xs)
   rest-holds held = rw rest-whole record {
     long = omega (arith, held.long, length-drop 1 xs);
     below = λ i l. rw (get_or-drop 1 xs i 0) (held.below (1 + i) (omega arith));
@@ -171,7 +171,7 @@ module _ {m : ℕ} {a b c : List ℕ} {close : Row} {n : ℕ} (closed : ClosedIn
     few : n - 1 < 128
     few = omega (arith, closed.least, closed.most)
 
-    extended-lent : LentRows m (suc (n - 1)) xs ys zs
+    pub extended-lent : LentRows m (suc (n - 1)) xs ys zs
     extended-lent = record {
       modulus = closed.rows.modulus;
       a_holds = extends-holds ex closed.rows.a_holds closed.closing.a_below few;
@@ -180,10 +180,10 @@ module _ {m : ℕ} {a b c : List ℕ} {close : Row} {n : ℕ} (closed : ClosedIn
     }
 
     -- what the two calls are taken of
-    abbrev all : Family
+    abbrev pub all : Family
     all = lent m n xs ys zs ones
 
-    abbrev others : Family
+    abbrev pub others : Family
     others = lent m (n - 1) (rest xs) (rest ys) (rest zs) ones
 
     extended-is : closed_by close all ≡ extended f
@@ -194,12 +194,12 @@ module _ {m : ℕ} {a b c : List ℕ} {close : Row} {n : ℕ} (closed : ClosedIn
     unfolding extended from_second
     second_is = rw (rest-first ex, rest-first ey, rest-first ez)
 
-    divisor-is : tree_expand all (last_unit n) ≡ table (suc n) (F f n)
+    pub divisor-is : tree_expand all (last_unit n) ≡ table (suc n) (F f n)
     divisor-is =
         sym (tree_expand-close all close (last_unit n)) ∙ ap₂ (λ g k. tree_expand g (last_unit k)) extended-is (sym closed-size)
         ∙ tree-F f closed.rows.modulus.least closed-lengths ∙ ap (λ k. table (suc k) (F f k)) closed-size
 
-    numerator-is : tree_expand others (last_unit (n - 1)) ≡ table n (G f (n - 1))
+    pub numerator-is : tree_expand others (last_unit (n - 1)) ≡ table n (G f (n - 1))
     numerator-is =
         sym (tree_expand-close others close (last_unit (n - 1))) ∙ ap₂ (λ g k. tree_expand g (last_unit k)) second_is (sym rows_are)
         ∙ tree-G f closed.rows.modulus.least closed-lengths ∙ ap₂ (λ k j. table k (G f j)) closed-size rows_are

@@ -1,103 +1,129 @@
 // The moments, and Decompose by the moments, on input that is already checked. The tree gives F_n and G_{n-1}, Expand of 0 .. 0 1 over the
 // rows with the closing row as one row more; the quotient of their reversals is the series of the moments. Decompose is by F^t H F = D with
 // the Hankel matrix H of the moments and the norms D: u = D^-1 F^t H p, a Hankel product, Adjoint, and the norms (the report, Figure 3).
-// Lists are lent whole, with n: the first n - 1 entries of the rows' lists take part, and close_a, close_b, close_c close them. The
-// inverses are lent beside the rows, and none is searched for.
+// The inverses are lent beside the rows, and none is searched for.
 #![tactic(auto)]
 
-ghost use Rattle.std.specs.Prelude.{◌≡◌, suc, ◌*◌, ◌-◌, ◌≤◌, ◌<◌, length, take, replicate};
-ghost use Rattle.definitions.specs.Family.{ones, row_of};
-ghost use Rattle.definitions.specs.Conversion.{decompose};
+ghost use Rattle.std.specs.Prelude.{◌≡◌, ◌*◌, ◌-◌, ◌≤◌, ◌<◌, length, replicate};
+ghost use Rattle.definitions.specs.Answers.{cleared};
+ghost use Rattle.definitions.specs.Conversion.{expand, decompose};
+ghost use Rattle.definitions.specs.Family.{Curve, ones, rows, size};
 ghost use Rattle.definitions.specs.Orthogonality.{moments};
+ghost use Rattle.definitions.specs.Refusals.{work_length};
 ghost use Rattle.tree_model.specs.Extended.{last_unit};
 ghost use Rattle.numbers.specs.Lists.{filled};
 ghost use Rattle.numbers.specs.RunningProduct.{running_product};
-ghost use Rattle.tree_model.specs.Tree.{tree_expand};
-ghost use Rattle.lists.specs.Held.{Output};
-ghost use Rattle.lists.specs.Lent.{lent};
+ghost use Rattle.lists.specs.Inverses.{Inverts};
+ghost use Rattle.theory.specs.Closing.{closed_by};
 ghost use Rattle.moment_way.specs.Decompose.{DivideInput, divided};
-ghost use Rattle.moment_way.specs.Input.{PolynomialsInput, Polynomials, MomentsCoreInput, DecomposeInput};
+ghost use Rattle.moment_way.specs.Input.{PolynomialsInput, Polynomials};
 ghost use Rattle.moment_way.specs.Moments.{entry_or};
-ghost use Rattle.moment_way.specs.Polynomials.{Extends, LastInput};
+ghost use Rattle.moment_way.specs.Polynomials.{Extends};
 
-use lists::{clear, copy, row_entry, zeros};
+use lists::{Family, clear, copy, row_entry, zeros};
 use products::{transposed, used_length};
-use residue::{negative, product_by};
+use reduction::Modulus;
+use residue::negative;
 use series::quotient;
+use std::marker::Model;
 use tree::{adjoint, expand};
 
-// A local list with room for every moment, all zeros.
-fn blank() -> [u32; 255]
-    ensures { result ≡ replicate 255 0 }
-{
-    [0u32; 255]
+// A row's three numbers.
+#[derive(Clone, Copy)]
+pub struct Row {
+    pub a: u32,
+    pub b: u32,
+    pub c: u32,
 }
 
-// A local list for the product of the coefficients with the Hankel matrix of the moments, all zeros: room for 128 terms, from place 128
-// on for 255 moments, and from place 383 on for 128 coefficients.
-fn hankel_room() -> [u32; 511]
-    ensures { result ≡ replicate 511 0 }
-{
-    [0u32; 511]
+// A family closed by a row of its own, with the inverses of its a: a_inverses[i] is that of a_{i+1}, and the closing row's stands beside.
+#[derive(Drop)]
+pub struct Inverted<'a> {
+    pub family: Family<'a>,
+    pub close: Row,
+    pub a_inverses: &'a [u32],
+    pub close_a_inverse: u32,
 }
 
-// The first count entries of a list, and then one more.
-fn extend(list: &[u32], count: usize, last: u32) -> [u32; 128]
-    requires { (count ≤ length list.now) × (count < 128) }
-    ensures { Extends list.now count last result }
+impl<'a> Model for Inverted<'a> {
+    ghost use Rattle.definitions.specs.Family as F;
+    ghost use Rattle.moment_way.specs.Input.{ClosedBy};
+    ghost use Rattle.theory.specs.Closing.{closed_by};
+
+    ghost Value = { F.Family };
+
+    ghost view = { λ f. closed_by (F.row_of f.close.a f.close.b f.close.c) f.family };
+
+    ghost invariant = { λ f. ClosedBy f.family (F.row_of f.close.a f.close.b f.close.c) f.a_inverses.now f.close_a_inverse };
+}
+
+impl<'a> Inverted<'a> {
+    // Closed by 1 1 1.
+    pub fn by_ones(family: Family<'a>, a_inverses: &'a [u32]) -> Self
+        requires { Inverts family.m 0 (rows family) family.a a_inverses.now 1 1 }
+        ensures { result ≡ closed_by ones family.entry }
+    {
+        Inverted {
+            family,
+            close: Row { a: 1, b: 1, c: 1 },
+            a_inverses,
+            close_a_inverse: 1,
+        }
+    }
+}
+
+// The entries of a list, and then one more.
+fn extend(list: &[u32], last: u32) -> [u32; 128]
+    requires { length list.now < 128 }
+    ensures { Extends list.now (length list.now) last result }
 {
-    let mut rows = zeros();
+    let count = list.len();
+    let mut rows = zeros::<128>();
     copy(list, count, &mut rows);
     rows[count] = last;
     rows
 }
 
-// The coefficients of F_r of the first r rows: Expand of 0 .. 0 1.
-fn last_polynomial(
-    m: u32,
-    a: &[u32],
-    b: &[u32],
-    c: &[u32],
-    r: usize,
-    output: &mut [u32],
-    work: &mut [u32],
-)
-    requires { LastInput m a.now b.now c.now r output.old work.old }
-    ensures { Output (tree_expand (lent m r a.now b.now c.now ones) (last_unit r)) (suc r)
-        output.old output.new work.old work.new }
+// The coefficients of F_r of the r rows: Expand of 0 .. 0 1.
+fn last_polynomial(family: &Family, output: &mut [u32], work: &mut [u32])
+    requires few { rows family.now ≤ 128 }
+    requires room { length output.old ≡ size family.now }
+    requires work { work_length ≤ length work.old }
+    ensures written { output.new ≡ expand family.now (last_unit (rows family.now)) }
+    ensures wiped { work.new ≡ cleared work.old }
 {
-    let mut curve = blank();
+    let r = family.a.len();
+    let mut curve = zeros::<255>();
     curve[r] = 1;
-    expand(m, a, b, c, &curve, r + 1, output, work);
+    expand(family, &curve[..r + 1], output, work);
 }
 
 // The n + 1 coefficients of F_n and the n of G_{n-1}. The closing row is row n of both, and G begins with row 2.
-fn polynomials(
-    m: u32,
-    a: &[u32],
-    b: &[u32],
-    c: &[u32],
-    close_a: u32,
-    close_b: u32,
-    close_c: u32,
-    n: usize,
-    divisor: &mut [u32],
-    numerator: &mut [u32],
-    work: &mut [u32],
-)
-    requires { PolynomialsInput m a.now b.now c.now (row_of close_a close_b close_c) n
-        divisor.old numerator.old work.old }
-    ensures { Polynomials
-        (lent m (n - 1) a.now b.now c.now (row_of close_a close_b close_c)) n
-        divisor.old divisor.new numerator.old numerator.new
-        work.old work.new }
+fn polynomials(inverted: &Inverted, divisor: &mut [u32], numerator: &mut [u32], work: &mut [u32])
+    requires { PolynomialsInput inverted.now.m inverted.now.a inverted.now.b inverted.now.c inverted.now.close
+        (size inverted.now) divisor.old numerator.old work.old }
+    ensures { Polynomials inverted.now (size inverted.now)
+        divisor.old divisor.new numerator.old numerator.new work.old work.new }
 {
-    let rows = n - 1;
-    let xs = extend(a, rows, close_a);
-    let ys = extend(b, rows, close_b);
-    let zs = extend(c, rows, close_c);
-    last_polynomial(m, &xs, &ys, &zs, n, divisor, work);
-    last_polynomial(m, &xs[1..], &ys[1..], &zs[1..], rows, numerator, work);
+    let m = inverted.family.modulus;
+    let n = inverted.family.a.len() + 1;
+    let xs = extend(inverted.family.a, inverted.close.a);
+    let ys = extend(inverted.family.b, inverted.close.b);
+    let zs = extend(inverted.family.c, inverted.close.c);
+    let all = Family {
+        modulus: m,
+        a: &xs[..n],
+        b: &ys[..n],
+        c: &zs[..n],
+    };
+    let others = Family {
+        modulus: m,
+        a: &xs[1..n],
+        b: &ys[1..n],
+        c: &zs[1..n],
+    };
+    last_polynomial(&all, &mut divisor[..n + 1], work);
+    last_polynomial(&others, &mut numerator[..n], work);
 }
 
 // The product of the inverses of the a, that of the closing row too.
@@ -105,127 +131,94 @@ fn leading_inverse(m: u32, a_inverses: &[u32], close_a_inverse: u32, n: usize) -
     requires { (0 < m) × (1 ≤ n) × (n - 1 ≤ length a_inverses.now) }
     ensures { result ≡ running_product m (entry_or a_inverses.now (n - 1) close_a_inverse) n }
 {
-    let rows = n - 1;
-    let reciprocal = reduction::reciprocal(m);
+    let last = n - 1;
+    let modulus = Modulus::new(m);
     let mut result: u32 = 1;
-    let mut i: usize = 0;
-    while i < n {
-        let factor = row_entry(a_inverses, rows, i, close_a_inverse);
-        result = product_by(m, reciprocal, result, factor);
-        i += 1;
+    for i in 0..n {
+        let factor = row_entry(a_inverses, last, i, close_a_inverse);
+        result = modulus.product(result, factor);
     }
     result
 }
 
-// The 2 n - 1 moments of the family of the first n - 1 rows and the closing row; a_inverses[i] is the inverse of a_{i+1}.
-pub fn moments(
-    m: u32,
-    a: &[u32],
-    b: &[u32],
-    c: &[u32],
-    a_inverses: &[u32],
-    close_a: u32,
-    close_b: u32,
-    close_c: u32,
-    close_a_inverse: u32,
-    n: usize,
-    output: &mut [u32],
-    work: &mut [u32],
-)
-    requires { MomentsCoreInput m a.now b.now c.now a_inverses.now (row_of close_a close_b close_c) close_a_inverse n
-        output.old work.old }
-    ensures { Output
-        (moments (lent m (n - 1) a.now b.now c.now (row_of close_a close_b close_c))) (2 * n - 1)
-        output.old output.new work.old work.new }
+// The 2 n - 1 moments of a family of n - 1 rows and its closing row.
+pub fn moments(inverted: &Inverted, output: &mut [u32], work: &mut [u32])
+    requires few { size inverted.now ≤ 128 }
+    requires room { length output.old ≡ 2 * size inverted.now - 1 }
+    requires work { work_length ≤ length work.old }
+    ensures written { output.new ≡ moments inverted.now }
+    ensures wiped { work.new ≡ cleared work.old }
 {
-    let mut divisor = blank();
-    let mut numerator = blank();
-    polynomials(
-        m,
-        a,
-        b,
-        c,
-        close_a,
-        close_b,
-        close_c,
+    let n = inverted.family.a.len() + 1;
+    let top = leading_inverse(
+        inverted.family.modulus,
+        inverted.a_inverses,
+        inverted.close_a_inverse,
         n,
-        &mut divisor,
-        &mut numerator,
-        work,
     );
-    let top = leading_inverse(m, a_inverses, close_a_inverse, n);
-    quotient(m, &numerator, &divisor, n, top, 2 * n - 1, output);
+    let mut divisor = zeros::<255>();
+    let mut numerator = zeros::<255>();
+    polynomials(inverted, &mut divisor, &mut numerator, work);
+    quotient(
+        inverted.family.modulus,
+        &numerator,
+        &divisor,
+        n,
+        top,
+        2 * n - 1,
+        output,
+    );
 }
 
-// Each of the first n entries times the inverse of its norm, (-1)^i a_{i+1} / (c_2 .. c_{i+1}); c_inverses[i] is the inverse of c_{i+1}.
+// Each of the n entries times the inverse of its norm, (-1)^i a_{i+1} / (c_2 .. c_{i+1}); c_inverses[i] is the inverse of c_{i+1}.
 fn divide_by_norms(
     m: u32,
     a: &[u32],
     c_inverses: &[u32],
     close_a: u32,
     close_c_inverse: u32,
-    n: usize,
     output: &mut [u32],
 )
-    requires { DivideInput m a.now c_inverses.now n output.old }
+    requires { DivideInput m a.now c_inverses.now (length output.old) output.old }
     ensures { output.new ≡ filled
-        (divided m a.now c_inverses.now close_a close_c_inverse n output.old) n
-        output.old }
+        (divided m a.now c_inverses.now close_a close_c_inverse (length output.old) output.old) (length output.old) output.old }
 {
-    let rows = n - 1;
-    let reciprocal = reduction::reciprocal(m);
+    let n = output.len();
+    let last = n - 1;
+    let modulus = Modulus::new(m);
     let mut signed: u32 = 1;
-    let mut i: usize = 0;
-    while i < n {
-        let x = row_entry(a, rows, i, close_a);
-        let y = product_by(m, reciprocal, signed, x);
-        output[i] = product_by(m, reciprocal, output[i], y);
-        let w = row_entry(c_inverses, rows, i + 1, close_c_inverse);
-        signed = product_by(m, reciprocal, signed, negative(m, reciprocal, w));
-        i += 1;
+    for i in 0..n {
+        let x = row_entry(a, last, i, close_a);
+        let y = modulus.product(signed, x);
+        output[i] = modulus.product(output[i], y);
+        let w = row_entry(c_inverses, last, i + 1, close_c_inverse);
+        signed = modulus.product(signed, negative(modulus, w));
     }
 }
 
-// Decompose of n coefficients, from n = 2 on, by F^t H F = D: the product with the moments, Adjoint, and the norms.
+// Decompose of n coefficients, from n = 2 on, by F^t H F = D: the product with the moments, Adjoint, and the norms. The product is taken in
+// one local list: room for 128 terms, from place 128 on for 255 moments, and from place 383 on for 128 coefficients.
 fn decompose_tree(
-    m: u32,
-    a: &[u32],
-    b: &[u32],
-    c: &[u32],
-    a_inverses: &[u32],
+    inverted: &Inverted,
     c_inverses: &[u32],
-    close_a: u32,
-    close_b: u32,
-    close_c: u32,
-    close_a_inverse: u32,
     close_c_inverse: u32,
     coefficients: &[u32],
-    n: usize,
     output: &mut [u32],
     work: &mut [u32],
 )
-    requires { DecomposeInput m a.now b.now c.now a_inverses.now c_inverses.now
-        (row_of close_a close_b close_c) close_a_inverse close_c_inverse coefficients.now n output.old work.old × (2 ≤ n) }
-    ensures { Output
-        (decompose (lent m (n - 1) a.now b.now c.now (row_of close_a close_b close_c))
-        (take n coefficients.now)) n
-        output.old output.new work.old work.new }
+    requires inverses { Inverts inverted.now.m 1 (rows inverted.now) inverted.now.c c_inverses.now inverted.now.close.c close_c_inverse }
+    requires curve { Curve inverted.now coefficients.now }
+    requires many { 2 ≤ length coefficients.now }
+    requires few { length coefficients.now ≤ 128 }
+    requires room { length output.old ≡ length coefficients.now }
+    requires work { work_length ≤ length work.old }
+    ensures written { output.new ≡ decompose inverted.now coefficients.now }
+    ensures wiped { work.new ≡ cleared work.old }
 {
-    let mut lists = hankel_room();
-    moments(
-        m,
-        a,
-        b,
-        c,
-        a_inverses,
-        close_a,
-        close_b,
-        close_c,
-        close_a_inverse,
-        n,
-        &mut lists[128..383],
-        work,
-    );
+    let m = inverted.family.modulus;
+    let n = coefficients.len();
+    let mut lists = zeros::<511>();
+    moments(inverted, &mut lists[128..127 + 2 * n], work);
     copy(coefficients, n, &mut lists[383..]);
     let used = used_length(&lists, 383, 383, n);
     let half = used - used / 2;
@@ -241,55 +234,45 @@ fn decompose_tree(
         128 + half,
         n + half - 1,
     );
-    adjoint(m, a, b, c, &lists, n, output, work);
-    divide_by_norms(m, a, c_inverses, close_a, close_c_inverse, n, output);
+    adjoint(&inverted.family, &lists[..n], output, work);
+    divide_by_norms(
+        m,
+        inverted.family.a,
+        c_inverses,
+        inverted.close.a,
+        close_c_inverse,
+        output,
+    );
 }
 
-// The curve of the first n coefficients in powers of x. With one coefficient there is no tree, and the answer is that of F_0.
-// a_inverses[i] is the inverse of a_{i+1}, and c_inverses[i] that of c_{i+1} from i = 1 on.
+// The curve of the n coefficients in powers of x. With one coefficient there is no tree, and the answer is that of F_0.
+// c_inverses[i] is the inverse of c_{i+1} from i = 1 on.
 pub fn decompose(
-    m: u32,
-    a: &[u32],
-    b: &[u32],
-    c: &[u32],
-    a_inverses: &[u32],
+    inverted: &Inverted,
     c_inverses: &[u32],
-    close_a: u32,
-    close_b: u32,
-    close_c: u32,
-    close_a_inverse: u32,
     close_c_inverse: u32,
     coefficients: &[u32],
-    n: usize,
     output: &mut [u32],
     work: &mut [u32],
 )
-    requires { DecomposeInput m a.now b.now c.now a_inverses.now c_inverses.now
-        (row_of close_a close_b close_c) close_a_inverse close_c_inverse coefficients.now n output.old work.old }
-    ensures { Output
-        (decompose (lent m (n - 1) a.now b.now c.now (row_of close_a close_b close_c))
-        (take n coefficients.now)) n
-        output.old output.new work.old work.new }
+    requires inverses { Inverts inverted.now.m 1 (rows inverted.now) inverted.now.c c_inverses.now inverted.now.close.c close_c_inverse }
+    requires curve { Curve inverted.now coefficients.now }
+    requires few { length coefficients.now ≤ 128 }
+    requires room { length output.old ≡ length coefficients.now }
+    requires work { work_length ≤ length work.old }
+    ensures written { output.new ≡ decompose inverted.now coefficients.now }
+    ensures wiped { work.new ≡ cleared work.old }
 {
-    if n == 1 {
-        output[0] = coefficients[0] % m;
+    if coefficients.len() == 1 {
+        output[0] = coefficients[0] % inverted.family.modulus;
         clear(work);
         return;
     }
     decompose_tree(
-        m,
-        a,
-        b,
-        c,
-        a_inverses,
+        inverted,
         c_inverses,
-        close_a,
-        close_b,
-        close_c,
-        close_a_inverse,
         close_c_inverse,
         coefficients,
-        n,
         output,
         work,
     );

@@ -9,7 +9,7 @@ ghost use Rattle.lists.specs.Lent.{lent};
 ghost use Rattle.operations.specs.Results.{result_count};
 ghost use Rattle.operations.specs.Lists.{Sized, Parts, ConvertedValues, ConvertedFront};
 
-use definitions::{Answer, Operation};
+use definitions::{Operation, Refusal};
 
 // How many numbers an operation hands out, on a family of that many rows.
 pub fn result_count(operation: Operation, rows: usize) -> usize
@@ -36,7 +36,7 @@ fn convert_lists(
     curve: &[u32],
     output: &mut [u32],
     work: &mut [u32],
-) -> Answer
+) -> Result<(), Refusal>
     requires { Sized operation (family m a.now b.now c.now) curve.now (length output.old) (length work.old) }
     ensures { ConvertedValues operation (family m a.now b.now c.now) curve.now (answered result)
         output.old output.new work.old work.new }
@@ -47,12 +47,9 @@ fn convert_lists(
         Operation::Decompose => tree_calls::tree_decompose(m, a, b, c, curve, output, work),
         Operation::Moments => tree_calls::moments(m, a, b, c, output, work),
         Operation::Norms => {
-            let tested = plain_calls::norms(m, a, b, c, output);
-            let Answer::Finished = tested else {
-                return tested;
-            };
+            plain_calls::norms(m, a, b, c, output)?;
             lists::clear(work);
-            Answer::Finished
+            Ok(())
         }
     }
 }
@@ -70,7 +67,7 @@ pub fn convert_parts(
     output: &mut [u32],
     count: usize,
     work: &mut [u32],
-) -> Answer
+) -> Result<(), Refusal>
     requires { Parts operation m a.now b.now c.now rows curve.now entries output.old count (length work.old) }
     ensures { ConvertedFront operation (lent m rows a.now b.now c.now ones)
         (take entries curve.now) count (answered result)

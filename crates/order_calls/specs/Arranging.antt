@@ -3,13 +3,12 @@
 -- the call was lent where its tests pass, and what it keeps of its promise there and where one refuses.
 -- Assumes nothing.
 use mathlib.Core.List.{List, [], ◌∷◌, ◌++◌, append-nil}
-use Rattle.std.specs.Prelude.{◌≡◌, ℕ, ◌+◌, ◌*◌, ◌-◌, ◌/◌, ◌%◌, ◌<◌, ◌≤◌, length, get_or, set}
+use Rattle.std.specs.Prelude.{◌≡◌, ℕ, ◌+◌, ◌*◌, ◌-◌, ◌/◌, ◌%◌, ◌<◌, ◌≤◌, length, get_or, set, Ok, Err}
 use Rattle.std.proofs.Math.Path.{sym}
 use Rattle.std.proofs.Common.{◌∙◌, ap, arith, drop_of_length-le, lt-ltb, le-ltb}
-use Rattle.definitions.specs.Answers.{answered}
+use Rattle.definitions.specs.Answers.{Answer, answered}
 use Rattle.definitions.specs.Number.{table}
 use Rattle.definitions.specs.Refusals.{finished, refused, verdict, output_test}
-use Rattle.definitions.specs.declared.Answer.{Answer}
 use Rattle.acceptance.specs.Stages.{Remaining, all-remain, none-remain, stage-none, list-stays}
 use Rattle.acceptance.specs.Verdicts.{verdict-here}
 use Rattle.numbers.specs.Lists.{filled, Filling, filling-next, filling-stop}
@@ -19,6 +18,7 @@ use Rattle.storing.specs.declared.Direction.{Direction}
 use Rattle.parity.specs.Orders.{source, source-below, arranged-table}
 use Rattle.parity.specs.Places.{index-front, index-rest, place-even, place-odd}
 use Rattle.order_calls.specs.Accepting.{order-passes}
+use Rattle.definitions.specs.declared.Refusal.{Refusal}
 
 -- ---- the index, as it is computed
 module _ (d : Direction) (n k : ℕ) (inside : k < n) where
@@ -72,15 +72,15 @@ module _ (n output : ℕ) where
 
 -- ---- the call, where a test refuses and where all pass
 pub order-refused : (d : Direction) (xs output : List ℕ) (r : Answer) → answered r ≡ verdict (order_tests (length xs) (length output)) []
-    → (k : ℕ) → r ≡ Answer.Refused k → OrderCall d xs (answered r) output output
+    → (k : Refusal) → r ≡ Err k → OrderCall d xs (answered r) output output
 order-refused d xs output r is k q = record { answer = is; written = list-stays r k (arranged d xs) output q }
 
-pub order-lent : (n output : ℕ) (r : Answer) → answered r ≡ verdict (order_tests n output) [] → r ≡ Answer.Finished
+pub order-lent : (n output : ℕ) (r : Answer) → answered r ≡ verdict (order_tests n output) [] → r ≡ Ok tt
     → (n ≤ most_entries) × (output ≡ n)
 order-lent n output r is q =
     let input = (order-passes n output).0 (stage-none (order_tests n output) r is q) in
     (input.few, input.output_length)
 
 pub order-made : (d : Direction) (xs output : List ℕ) (r : Answer) → answered r ≡ verdict (order_tests (length xs) (length output)) []
-    → r ≡ Answer.Finished → (output' : List ℕ) → output' ≡ arranged d xs → OrderCall d xs (finished []) output output'
+    → r ≡ Ok tt → (output' : List ℕ) → output' ≡ arranged d xs → OrderCall d xs (finished []) output output'
 order-made d xs output r is q output' e = record { answer = sym (ap answered q) ∙ is; written = e }

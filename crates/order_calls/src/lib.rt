@@ -11,7 +11,7 @@ ghost use Rattle.storing.specs.Order.{arranged};
 ghost use Rattle.storing.specs.declared.Direction.{Direction};
 ghost use Rattle.parity.specs.Orders.{source};
 
-use definitions::Answer;
+use definitions::Refusal;
 use storing::Direction;
 
 // Of n entries, the index of the one that comes to place k.
@@ -32,47 +32,42 @@ fn write_arranged(direction: Direction, list: &[u32], output: &mut [u32])
     ensures { output.new ≡ arranged direction list.now }
 {
     let n = list.len();
-    let mut k: usize = 0;
-    while k < n {
+    for k in 0..n {
         output[k] = list[source(direction, n, k)];
-        k += 1;
     }
 }
 
 // 5 and 7, of a list of n numbers.
-fn lengths(n: usize, output: usize) -> Answer
+fn lengths(n: usize, output: usize) -> Result<(), Refusal>
     ensures { answered result ≡ verdict (order_tests n output) [] }
 {
     let is_too_long = 128 < n;
     if is_too_long {
-        return Answer::Refused(5);
+        return Err(Refusal::TooManyRows);
     }
     checks::output_length(n, output)
 }
 
 // The output becomes the list in the order of a direction.
-pub fn arrange(direction: Direction, list: &[u32], output: &mut [u32]) -> Answer
+pub fn arrange(direction: Direction, list: &[u32], output: &mut [u32]) -> Result<(), Refusal>
     ensures { OrderCall direction list.now (answered result) output.old output.new }
 {
-    let tested = lengths(list.len(), output.len());
-    let Answer::Finished = tested else {
-        return tested;
-    };
+    lengths(list.len(), output.len())?;
     write_arranged(direction, list, output);
-    Answer::Finished
+    Ok(())
 }
 
 // Even first: the output becomes the list's entries at even indices rising, then those at odd indices rising.
 // Refused with 5: the list has more than 128 numbers; with 7: the output is not as long as the list (both caused by the
 // writer of the station's program).
-pub fn even_first(list: &[u32], output: &mut [u32]) -> Answer
+pub fn even_first(list: &[u32], output: &mut [u32]) -> Result<(), Refusal>
     ensures { OrderCall Direction.EvenFirst list.now (answered result) output.old output.new }
 {
     arrange(Direction::EvenFirst, list, output)
 }
 
 // Even back: the output becomes the list that even_first turns into this one. Refused as even_first is.
-pub fn even_back(list: &[u32], output: &mut [u32]) -> Answer
+pub fn even_back(list: &[u32], output: &mut [u32]) -> Result<(), Refusal>
     ensures { OrderCall Direction.EvenBack list.now (answered result) output.old output.new }
 {
     arrange(Direction::EvenBack, list, output)

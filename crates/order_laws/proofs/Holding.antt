@@ -2,16 +2,15 @@
 -- definitions.
 -- Proved: a call and then the other come to OrderTrip, and Expand and then Even first to EvenExpanded, whichever call refuses. These rest on
 -- the laws of specs/, which edits change. Assumes nothing.
-use Rattle.std.specs.Prelude.{List, [], ◌++◌, ◌≡◌, ℕ, ◌*◌, ◌%◌, ◌≤◌, get_or}
+use Rattle.std.specs.Prelude.{List, [], ◌++◌, ◌≡◌, ℕ, ◌*◌, ◌%◌, ◌≤◌, get_or, Ok, Err}
 use Rattle.std.proofs.Common.{sym, ◌∙◌, arith}
 use Rattle.std.proofs.Math.Path.{ap}
 use Rattle.std.proofs.Math.ListN.{length}
-use Rattle.definitions.specs.Answers.{answered, after}
+use Rattle.definitions.specs.Answers.{Answer, number_of, answered, after}
 use Rattle.definitions.specs.Conversion.{expand}
 use Rattle.definitions.specs.Family.{Family, Accepted, size, F}
 use Rattle.definitions.specs.Number.{sum}
 use Rattle.definitions.specs.Refusals.{Test, finished, verdict}
-use Rattle.definitions.specs.declared.Answer.{Answer}
 use Rattle.acceptance.specs.Stages.{all-remain, stage-refuses, stage-passes, stages-end, list-new, list-stays}
 use Rattle.acceptance.specs.Verdicts.{None, verdict-finished, none-append}
 use Rattle.laws.specs.ByWay.{two-calls-pass}
@@ -26,6 +25,7 @@ use Rattle.storing.specs.Order.{even_first, arranged, opposite}
 use Rattle.storing.specs.Parity.{NoB}
 use Rattle.storing.specs.declared.Direction.{Direction}
 use Rattle.order_laws.specs.Laws.{TripHolds, OrderTrip, ZerosHold, EvenExpanded}
+use Rattle.definitions.specs.declared.Refusal.{Refusal}
 
 -- ---- either after the other
 module _ (d : Direction) (xs one one' two : List ℕ) (s : Answer) (made₁ : OrderCall d xs (answered s) one one') where
@@ -52,13 +52,13 @@ module _ (d : Direction) (xs one one' two : List ℕ) (s : Answer) (made₁ : Or
         law = w ∙ ap (λ v. after v (arranged (opposite d) one') two) done ∙ ap (arranged (opposite d)) new ∙ arranged-back d xs;
       }
 
-  pub trip-refused : (k : ℕ) → s ≡ Answer.Refused k → OrderTrip d xs (answered s) one one' two two
+  pub trip-refused : (k : Refusal) → s ≡ Err k → OrderTrip d xs (answered s) one one' two two
   trip-refused k q =
       let e = stage-refuses T₁ later all-remain s made₁.answer k q in
       let stays = list-stays s k (arranged (opposite d) one') two q in
       record { answer = e; first_is = first-is; second_is = stays; holds = trip-holds s two e stays }
 
-  module _ (q : s ≡ Answer.Finished) (r : Answer) (two' : List ℕ) (made₂ : OrderCall (opposite d) one' (answered r) two two') where
+  module _ (q : s ≡ Ok tt) (r : Answer) (two' : List ℕ) (made₂ : OrderCall (opposite d) one' (answered r) two two') where
     handed : one' ≡ arranged d xs
     handed = made₁.written ∙ ap (λ x. after (answered x) (arranged d xs) one) q
 
@@ -111,13 +111,13 @@ module _ (way : Way) (f : Family) (u expanded expanded' output work work' : List
             (λ i h. expand-zero f accepted.b_length no_b u input.curve.long 0 only i (omega (arith, long))));
       }
 
-  pub expand-refused : (k : ℕ) → s ≡ Answer.Refused k → EvenExpanded way f u (answered s) expanded expanded' output output work work'
+  pub expand-refused : (k : Refusal) → s ≡ Err k → EvenExpanded way f u (answered s) expanded expanded' output output work work'
   expand-refused k q =
       let e = stage-refuses E₁ afterwards all-remain s made₁.answer k q in
       let stays = list-stays s k (even_first (expand f u)) output q in
       record { answer = e; expanded_is = expanded-is; output_is = stays; worked = worked-is; holds = zeros-hold s output e stays }
 
-  module _ (q : s ≡ Answer.Finished) (r : Answer) (output' : List ℕ)
+  module _ (q : s ≡ Ok tt) (r : Answer) (output' : List ℕ)
       (made₂ : OrderCall Direction.EvenFirst expanded' (answered r) output output') where
     handed_out : expanded' ≡ expand f u
     handed_out = made₁.written ∙ ap (λ x. after (answered x) (expand f u) expanded) q

@@ -8,30 +8,24 @@ ghost use Rattle.definitions.specs.Family.{family};
 ghost use Rattle.storing.specs.declared.Direction.{Direction};
 ghost use Rattle.order_laws.specs.Laws.{OrderTrip, EvenExpanded};
 
-use definitions::Answer;
+use definitions::Refusal;
 use laws::Way;
 
 // Even back of what Even first handed out returns the list.
-fn back_after_first(list: &[u32], between: &mut [u32], output: &mut [u32]) -> Answer
+fn back_after_first(list: &[u32], between: &mut [u32], output: &mut [u32]) -> Result<(), Refusal>
     ensures { OrderTrip Direction.EvenFirst list.now (answered result)
         between.old between.new output.old output.new }
 {
-    let answer = order_calls::even_first(list, between);
-    let Answer::Finished = answer else {
-        return answer;
-    };
+    order_calls::even_first(list, between)?;
     order_calls::even_back(between, output)
 }
 
 // Even first of what Even back handed out returns the list.
-fn first_after_back(list: &[u32], between: &mut [u32], output: &mut [u32]) -> Answer
+fn first_after_back(list: &[u32], between: &mut [u32], output: &mut [u32]) -> Result<(), Refusal>
     ensures { OrderTrip Direction.EvenBack list.now (answered result)
         between.old between.new output.old output.new }
 {
-    let answer = order_calls::even_back(list, between);
-    let Answer::Finished = answer else {
-        return answer;
-    };
+    order_calls::even_back(list, between)?;
     order_calls::even_first(between, output)
 }
 
@@ -47,13 +41,10 @@ fn expanded_even_first(
     expanded: &mut [u32],
     output: &mut [u32],
     work: &mut [u32],
-) -> Answer
+) -> Result<(), Refusal>
     ensures { EvenExpanded way (family m a.now b.now c.now) curve.now (answered result)
         expanded.old expanded.new output.old output.new work.old work.new }
 {
-    let answer = laws::expand_by(way, m, a, b, c, curve, expanded, work);
-    let Answer::Finished = answer else {
-        return answer;
-    };
+    laws::expand_by(way, m, a, b, c, curve, expanded, work)?;
     order_calls::even_first(expanded, output)
 }

@@ -1,34 +1,36 @@
 // The plain ways, on input that is already checked: row by row, one remainder for each coefficient and no division, in local arrays.
-// Lists are lent whole, with n: the first n - 1 entries of the rows' lists take part, the first n of the curve, and the first n of the
-// output are written. The 1 that stands for a row's number past these is the closing row's.
+// The lists are as long as the family and its curve: n entries of the curve and of the output, n - 1 rows. The 1 that stands for a row's
+// number past these is the closing row's.
 #![tactic(auto)]
 
-ghost use Rattle.std.specs.Prelude.{◌≡◌, List, ◌++◌, ℕ, ◌+◌, ◌-◌, ◌<◌, ◌≤◌, length, take, drop};
-ghost use Rattle.definitions.specs.Conversion.{expand, adjoint, decompose};
-ghost use Rattle.definitions.specs.Family.{row_of, ones, Curve};
+ghost use Rattle.std.specs.Prelude.{◌≡◌, List, ℕ, ◌-◌, ◌<◌, ◌≤◌, length};
+ghost use Rattle.definitions.specs.Conversion.{expand, adjoint};
+ghost use Rattle.definitions.specs.Family.{row_of, Curve};
 ghost use Rattle.definitions.specs.Orthogonality.{norms};
 ghost use Rattle.definitions.specs.Family as definition;
 ghost use Rattle.lists.specs.Inverses.{Inverts};
 ghost use Rattle.lists.specs.Lent.{lent};
 ghost use Rattle.numbers.specs.Lists.{filled};
-ghost use Rattle.plain.specs.Decomposing.{negative_product};
-ghost use Rattle.plain.specs.Input.{ConvertInput, NormsCoreInput};
+ghost use Rattle.plain.specs.Decomposing.{Decomposes, negative_product};
+ghost use Rattle.plain.specs.Input.{NormsCoreInput};
 
 use lists::{Family, copy, row_entry, zeros};
-use residue::{negative, product_by};
+use reduction::Modulus;
+use residue::negative;
 use row_steps::{adjoint_row, decompose_row, expand_row};
 
 // The coefficients in powers of x, downwards (Clenshaw): after i steps current is B_{n-i}, of i coefficients, and older
 // B_{n-i+1}, where B_k = u_k + (a_{k+1} x + b_{k+1}) B_{k+1} + c_{k+2} B_{k+2}. The closing row multiplies zeros.
 pub fn expand(family: &Family, curve: &[u32], output: &mut [u32])
     requires curve { Curve family.now curve.now }
+    requires few { length curve.now ≤ 128 }
     requires room { length output.old ≡ length curve.now }
     ensures { output.new ≡ expand family.now curve.now }
 {
     let n = curve.len();
     let last = n - 1;
-    let mut current = zeros();
-    let mut older = zeros();
+    let mut current = zeros::<128>();
+    let mut older = zeros::<128>();
     for i in 0..n {
         let k = last - i;
         let x = curve[k];
@@ -44,14 +46,15 @@ pub fn expand(family: &Family, curve: &[u32], output: &mut [u32])
 // n - j, and older the same of F_{j-1}. Entry j of the output is the first of them.
 pub fn adjoint(family: &Family, curve: &[u32], output: &mut [u32])
     requires curve { Curve family.now curve.now }
+    requires few { length curve.now ≤ 128 }
     requires room { length output.old ≡ length curve.now }
     ensures { output.new ≡ adjoint family.now curve.now }
 {
     let m = family.modulus;
     let n = curve.len();
     let last = n - 1;
-    let mut current = zeros();
-    let mut older = zeros();
+    let mut current = zeros::<128>();
+    let mut older = zeros::<128>();
     copy(curve, n, &mut current);
     for j in 0..n {
         output[j] = current[0];
@@ -68,6 +71,7 @@ pub trait Conversion {
 
     fn convert(family: &Family, curve: &[u32], output: &mut [u32])
         requires curve { Curve family.now curve.now }
+        requires few { length curve.now ≤ 128 }
         requires room { length output.old ≡ length curve.now }
         ensures { output.new ≡ converted family.now curve.now };
 }
@@ -94,90 +98,82 @@ impl Conversion for Adjoining {
     }
 }
 
-// Each of the first count entries times the factor beside it, with the negative sign.
-fn negative_products(m: u32, list: &[u32], factors: &[u32], count: usize, output: &mut [u32])
-    requires { (0 < m) × (count ≤ length list.now) × (count ≤ length factors.now) × (count ≤ length output.old) }
+// Each entry times the factor beside it, with the negative sign.
+#[tactic(auto, using(lists::proofs::Fills::fillings), unfolding(crate::specs::Decomposing::negative_product))]
+fn negative_products(m: u32, list: &[u32], factors: &[u32], output: &mut [u32])
+    requires positive { 0 < m }
+    requires factors { length factors.now ≡ length list.now }
+    requires room { length list.now ≤ length output.old }
     ensures { output.new
-        ≡ filled (negative_product m list.now factors.now) count output.old }
+        ≡ filled (negative_product m list.now factors.now) (length list.now) output.old }
 {
-    let reciprocal = reduction::reciprocal(m);
-    let mut i: usize = 0;
-    while i < count {
-        output[i] = product_by(m, reciprocal, negative(m, reciprocal, list[i]), factors[i]);
-        i += 1;
+    let modulus = Modulus::new(m);
+    for i in 0..list.len() {
+        output[i] = modulus.product(negative(modulus, list[i]), factors[i]);
     }
 }
 
 // The curve of coefficients in powers of x, from the top power down (Horner in the basis F): after i steps current is the curve
 // of the i top powers, each lowered by n - i, and the next is x times that and a coefficient more. In the basis
-// x F_i = (F_{i+1} - b_{i+1} F_i - c_{i+1} F_{i-1}) / a_{i+1}; a_inverses[i] is the inverse of a_{i+1}.
-pub fn decompose(
-    m: u32,
-    a_inverses: &[u32],
-    b: &[u32],
-    c: &[u32],
-    coefficients: &[u32],
-    n: usize,
-    output: &mut [u32],
-)
-    requires { ConvertInput m a_inverses.now b.now c.now coefficients.now n output.old }
-    ensures { (a : List ℕ) → Inverts m 0 (n - 1) a a_inverses.now 1 1
-        → output.new
-        ≡ decompose (lent m (n - 1) a b.now c.now ones) (take n coefficients.now)
-        ++ drop n output.old }
+// x F_i = (F_{i+1} - b_{i+1} F_i - c_{i+1} F_{i-1}) / a_{i+1}. No a is read, only its inverse: inverted has the inverses of the a in their
+// place.
+pub fn decompose(inverted: &Family, coefficients: &[u32], output: &mut [u32])
+    requires curve { Curve inverted.now coefficients.now }
+    requires few { length coefficients.now ≤ 128 }
+    requires room { length output.old ≡ length coefficients.now }
+    ensures { Decomposes inverted.now coefficients.now output.new }
 {
+    let n = coefficients.len();
     // No n is greater. The compiler is told so, and leaves out its own comparisons in the rows.
     if 128 < n {
         return;
     }
-    let rows = n - 1;
-    let mut rise = zeros();
-    let mut stay = zeros();
-    let mut fall = zeros();
-    let mut current = zeros();
-    copy(a_inverses, rows, &mut rise);
-    negative_products(m, b, a_inverses, rows, &mut stay);
-    negative_products(m, c, a_inverses, rows, &mut fall);
-    let mut i: usize = 0;
-    while i < n {
+    let last = n - 1;
+    let mut rise = zeros::<128>();
+    let mut stay = zeros::<128>();
+    let mut fall = zeros::<128>();
+    let mut current = zeros::<128>();
+    copy(inverted.a, last, &mut rise);
+    negative_products(inverted.modulus, inverted.b, inverted.a, &mut stay);
+    negative_products(inverted.modulus, inverted.c, inverted.a, &mut fall);
+    for i in 0..n {
         decompose_row(
-            m,
-            coefficients[rows - i],
+            inverted.modulus,
+            coefficients[last - i],
             &rise,
             &stay,
             &fall,
             &mut current,
             i + 1,
         );
-        i += 1;
     }
     copy(&current, n, output);
 }
 
-// The norms (-1)^i c_2 .. c_{i+1} / a_{i+1}; a_inverses[i] is the inverse of a_{i+1}. The closing row's numbers are handed in beside.
+// The norms (-1)^i c_2 .. c_{i+1} / a_{i+1}, n of them; a_inverses[i] is the inverse of a_{i+1}. The closing row's numbers are handed in
+// beside, and the lists may be longer than the n - 1 rows.
 pub fn norms(
     m: u32,
     a_inverses: &[u32],
     c: &[u32],
     close_a_inverse: u32,
     close_c: u32,
-    n: usize,
     output: &mut [u32],
 )
-    requires { NormsCoreInput m a_inverses.now c.now n output.old }
-    ensures { (a b : List ℕ) (close_a close_b : ℕ) → Inverts m 0 (n - 1) a a_inverses.now close_a close_a_inverse
+    requires { NormsCoreInput m a_inverses.now c.now (length output.old) output.old }
+    ensures { (a b : List ℕ) (close_a close_b : ℕ)
+        → Inverts m 0 (length output.old - 1) a a_inverses.now close_a close_a_inverse
         → output.new
-        ≡ norms (lent m (n - 1) a b c.now (row_of close_a close_b close_c)) ++ drop n output.old }
+        ≡ norms (lent m (length output.old - 1) a b c.now (row_of close_a close_b close_c)) }
 {
-    let rows = n - 1;
-    let reciprocal = reduction::reciprocal(m);
+    let n = output.len();
+    let last = n - 1;
+    let modulus = Modulus::new(m);
     let mut signed: u32 = 1;
-    let mut i: usize = 0;
-    while i < n {
-        let p = row_entry(a_inverses, rows, i, close_a_inverse);
-        output[i] = product_by(m, reciprocal, signed, p);
-        let r = row_entry(c, rows, i + 1, close_c);
-        signed = product_by(m, reciprocal, signed, negative(m, reciprocal, r));
-        i += 1;
+    for i in 0..n {
+        let p = row_entry(a_inverses, last, i, close_a_inverse);
+        output[i] = modulus.product(signed, p);
+        let r = row_entry(c, last, i + 1, close_c);
+        signed = modulus.product(signed, negative(modulus, r));
     }
 }

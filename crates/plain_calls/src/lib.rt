@@ -8,13 +8,13 @@ ghost use Rattle.definitions.specs.Answers.{answered, inverse_answered, inverse_
 ghost use Rattle.definitions.specs.Conversion.{expand, adjoint, decompose};
 ghost use Rattle.definitions.specs.Family.{family};
 
-use definitions::{Answer, InverseAnswer};
+use definitions::{NotInverted, Refusal};
 use lists::Family;
 use plain::{Adjoining, Conversion, Expanding};
 
 // Inverse: the number below m that times x leaves 1 modulo m, and the greatest common factor of x and m, which is then 1.
 // Refused with 3: m is out of its range; with 12: x is not below m; with 13: x has no inverse, and the factor tells why: m where x is zero.
-pub fn invert(m: u32, x: u32) -> InverseAnswer
+pub fn invert(m: u32, x: u32) -> Result<u32, NotInverted>
     ensures { InverseCall m x (inverse_answered result) [] (inverse_handed result) [] (factor_handed result) }
 {
     verdicts::inverse(m, x)
@@ -28,14 +28,11 @@ fn call<C: Conversion>(
     c: &[u32],
     curve: &[u32],
     output: &mut [u32],
-) -> Answer
+) -> Result<(), Refusal>
     ensures { PlainCall C.converted (family m a.now b.now c.now) curve.now (answered result)
         output.old output.new }
 {
-    let tested = verdicts::plain(m, a, b, c, curve, output.len());
-    let Answer::Finished = tested else {
-        return tested;
-    };
+    verdicts::plain(m, a, b, c, curve, output.len())?;
     let family = Family {
         modulus: m,
         a,
@@ -43,7 +40,7 @@ fn call<C: Conversion>(
         c,
     };
     C::convert(&family, curve, output);
-    Answer::Finished
+    Ok(())
 }
 
 // Expand, row by row: from a curve the n coefficients, in powers of x, of the sum of its entries times F_i.
@@ -58,7 +55,7 @@ pub fn plain_expand(
     c: &[u32],
     curve: &[u32],
     output: &mut [u32],
-) -> Answer
+) -> Result<(), Refusal>
     ensures { PlainCall expand (family m a.now b.now c.now) curve.now (answered result)
         output.old output.new }
 {
@@ -74,7 +71,7 @@ pub fn plain_adjoint(
     c: &[u32],
     curve: &[u32],
     output: &mut [u32],
-) -> Answer
+) -> Result<(), Refusal>
     ensures { PlainCall adjoint (family m a.now b.now c.now) curve.now (answered result)
         output.old output.new }
 {
@@ -90,32 +87,33 @@ pub fn plain_decompose(
     c: &[u32],
     coefficients: &[u32],
     output: &mut [u32],
-) -> Answer
+) -> Result<(), Refusal>
     ensures { PlainCall decompose (family m a.now b.now c.now) coefficients.now (answered result)
         output.old output.new }
 {
-    let tested = verdicts::plain(m, a, b, c, coefficients, output.len());
-    let Answer::Finished = tested else {
-        return tested;
+    verdicts::plain(m, a, b, c, coefficients, output.len())?;
+    let rows = a.len();
+    let mut a_inverses = lists::zeros::<128>();
+    inverses::of_list(m, a, 0, rows, &mut a_inverses);
+    let inverted = Family {
+        modulus: m,
+        a: &a_inverses[..rows],
+        b,
+        c,
     };
-    let mut a_inverses = lists::zeros();
-    inverses::of_list(m, a, 0, a.len(), &mut a_inverses);
-    plain::decompose(m, &a_inverses, b, c, coefficients, a.len() + 1, output);
-    Answer::Finished
+    plain::decompose(&inverted, coefficients, output);
+    Ok(())
 }
 
 // Norms: d_i = (-1)^i c_2 .. c_{i+1} / a_{i+1} for i from 0 to n - 1, with the closing row 1 1 1 as row n.
 // Refused with 3, 4, 5 and 7 (the station's program), and with 9, 17, 10, 18 and 11 (the maker of the element).
-pub fn norms(m: u32, a: &[u32], b: &[u32], c: &[u32], output: &mut [u32]) -> Answer
+pub fn norms(m: u32, a: &[u32], b: &[u32], c: &[u32], output: &mut [u32]) -> Result<(), Refusal>
     ensures { NormsCall (family m a.now b.now c.now) (answered result)
         output.old output.new }
 {
-    let tested = verdicts::norms(m, a, b, c, output.len());
-    let Answer::Finished = tested else {
-        return tested;
-    };
-    let mut a_inverses = lists::zeros();
+    verdicts::norms(m, a, b, c, output.len())?;
+    let mut a_inverses = lists::zeros::<128>();
     inverses::of_list(m, a, 0, a.len(), &mut a_inverses);
-    plain::norms(m, &a_inverses, c, 1, 1, a.len() + 1, output);
-    Answer::Finished
+    plain::norms(m, &a_inverses, c, 1, 1, output);
+    Ok(())
 }

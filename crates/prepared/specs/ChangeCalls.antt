@@ -2,18 +2,17 @@
 -- Proved: 5, 15 and 16 after a record that is right; where the tests refuse, the change keeps its promise with the record that it was handed; where
 -- they pass, its input is one that it takes, its arrays can be prepared, and it keeps its promise with the record of the changed family.
 -- Assumes nothing.
-use Rattle.std.specs.Prelude.{◌≡◌, ℕ, suc, ◌+◌, ◌-◌, ◌<◌, ◌≤◌, length, get_or, set, replicate}
+use Rattle.std.specs.Prelude.{◌≡◌, ℕ, suc, ◌+◌, ◌-◌, ◌<◌, ◌≤◌, length, get_or, set, replicate, Ok, Err}
 use Rattle.std.proofs.Common.{sym, ◌∙◌, ap}
 use mathlib.Core.List.{List, [], ◌∷◌}
 use native.Mathlib.Omega.{arith}
 use Rattle.std.proofs.lemmas.List.{length-replicate}
-use Rattle.definitions.specs.Answers.{answered}
+use Rattle.definitions.specs.Answers.{Answer, number_of, answered}
 use Rattle.definitions.specs.Family.{Row, Modulus, most_rows, ones, family}
 use Rattle.definitions.specs.Prepared.{Prepared, Changed, handed_back, prepared, all_zeros, most_norms, record_test, no_rows_test}
 use Rattle.definitions.specs.Prepared.{absent_row_test, row_tests}
 use Rattle.definitions.specs.Prepared.{empty_tests, append_tests, drop_tests, replace_tests, EmptyCall, AppendCall, DropCall, ReplaceCall}
 use Rattle.definitions.specs.Refusals.{Test, finished, refused, verdict, modulus_test, row_count_test}
-use Rattle.definitions.specs.declared.Answer.{Answer}
 use Rattle.acceptance.specs.Stages.{all-remain, stage-none, stage-passes}
 use Rattle.acceptance.specs.Verdicts.{modulus-passes, row-count-passes}
 use Rattle.checks.specs.Settling.{refuses, goes_on, refuses-alone, finishes}
@@ -26,9 +25,10 @@ use Rattle.prepared_model.specs.Parts.{fields}
 use Rattle.prepared_model.specs.Preparing.{Preparable}
 use Rattle.prepared_model.specs.Rightness.{right-few}
 use Rattle.prepared_model.specs.Rows.{rows-accepted}
+use Rattle.definitions.specs.declared.Refusal.{Refusal}
 
 -- ---- 5, 15 and 16, where 14 has passed
-module _ (p : Prepared) (r : Answer) (is : answered r ≡ verdict (record_test p ∷ []) []) (q : r ≡ Answer.Finished) where
+module _ (p : Prepared) (r : Answer) (is : answered r ≡ verdict (record_test p ∷ []) []) (q : r ≡ Ok tt) where
   module _ (row : Row) where
     pub append-full : most_rows ≤ p.rows → refused 5 ≡ verdict (append_tests p row) []
     unfolding append_tests row_count_test
@@ -67,21 +67,21 @@ module _ (p : Prepared) (r : Answer) (is : answered r ≡ verdict (record_test p
 
 -- ---- what a change hands out
 module _ (tests : List Test) (new old : Prepared) (r : Answer) (is : answered r ≡ verdict tests []) where
-  pub change-refused : (k : ℕ) → r ≡ Answer.Refused k → Changed tests new old (answered r) old
+  pub change-refused : (k : Refusal) → r ≡ Err k → Changed tests new old (answered r) old
   change-refused k q = record { answer = is; handed = sym (ap (λ x. handed_back (answered x) new old) q) }
 
-  pub change-made : (out : Prepared) → r ≡ Answer.Finished → out ≡ new → Changed tests new old (answered Answer.Finished) out
+  pub change-made : (out : Prepared) → r ≡ Ok tt → out ≡ new → Changed tests new old (answered (Ok tt)) out
   change-made out q e = record { answer = sym (ap answered q) ∙ is; handed = e }
 
-module _ (p : Prepared) (row : Row) (r : Answer) (is : answered r ≡ verdict (append_tests p row) []) (q : r ≡ Answer.Finished) where
+module _ (p : Prepared) (row : Row) (r : Answer) (is : answered r ≡ verdict (append_tests p row) []) (q : r ≡ Ok tt) where
   pub append-taken : AppendInput p row
   append-taken = (append-passes p row).0 (stage-none (append_tests p row) r is q)
 
   pub append-made : (out : Prepared) → out ≡ prepared (lent p.modulus (p.rows + 1) (set p.a p.rows row.a)
-      (set p.b p.rows row.b) (set p.c p.rows row.c) ones) → AppendCall p row (answered Answer.Finished) out
+      (set p.b p.rows row.b) (set p.c p.rows row.c) ones) → AppendCall p row (answered (Ok tt)) out
   append-made out e = change-made (append_tests p row) _ p r is out q (e ∙ ap prepared (append-rows append-taken))
 
-module _ (p : Prepared) (r : Answer) (is : answered r ≡ verdict (drop_tests p) []) (q : r ≡ Answer.Finished) where
+module _ (p : Prepared) (r : Answer) (is : answered r ≡ verdict (drop_tests p) []) (q : r ≡ Ok tt) where
   pub drop-taken : DropInput p
   drop-taken = (drop-passes p).0 (stage-none (drop_tests p) r is q)
 
@@ -89,11 +89,11 @@ module _ (p : Prepared) (r : Answer) (is : answered r ≡ verdict (drop_tests p)
   drop-within = omega (arith, drop-taken.some, right-few drop-taken.right)
 
   pub drop-made : (out : Prepared) → out ≡ prepared (lent p.modulus (p.rows - 1) (set p.a (p.rows - 1) 0)
-      (set p.b (p.rows - 1) 0) (set p.c (p.rows - 1) 0) ones) → DropCall p (answered Answer.Finished) out
+      (set p.b (p.rows - 1) 0) (set p.c (p.rows - 1) 0) ones) → DropCall p (answered (Ok tt)) out
   drop-made out e = change-made (drop_tests p) _ p r is out q (e ∙ ap prepared (drop-rows drop-taken))
 
 module _ (p : Prepared) (i : ℕ) (row : Row) (r : Answer) (is : answered r ≡ verdict (replace_tests p i row) [])
-    (q : r ≡ Answer.Finished) where
+    (q : r ≡ Ok tt) where
   pub replace-taken : ReplaceInput p i row
   replace-taken = (replace-passes p i row).0 (stage-none (replace_tests p i row) r is q)
 
@@ -102,18 +102,18 @@ module _ (p : Prepared) (i : ℕ) (row : Row) (r : Answer) (is : answered r ≡ 
       omega (arith, replace-taken.first, replace-taken.last, right-few replace-taken.right)
 
   pub replace-made : (out : Prepared) → out ≡ prepared (lent p.modulus p.rows (set p.a (i - 1) row.a)
-      (set p.b (i - 1) row.b) (set p.c (i - 1) row.c) ones) → ReplaceCall p i row (answered Answer.Finished) out
+      (set p.b (i - 1) row.b) (set p.c (i - 1) row.c) ones) → ReplaceCall p i row (answered (Ok tt)) out
   replace-made out e = change-made (replace_tests p i row) _ p r is out q (e ∙ ap prepared (replace-rows replace-taken))
 
 -- ---- the empty family
-pub empty-refused : (m : ℕ) (r : Answer) → answered r ≡ verdict (modulus_test m ∷ []) [] → (k : ℕ) → r ≡ Answer.Refused k
+pub empty-refused : (m : ℕ) (r : Answer) → answered r ≡ verdict (modulus_test m ∷ []) [] → (k : Refusal) → r ≡ Err k
     → (none d : List ℕ) → none ≡ replicate most_rows 0 → d ≡ replicate most_norms 0
     → EmptyCall m (answered r) (fields 0 0 none none none none none d)
 unfolding empty_tests all_zeros
 empty-refused m r is k q none d none_is d_is =
     rw (none_is, d_is) (change-refused (empty_tests m) (prepared (family m [] [] [])) all_zeros r is k q)
 
-module _ (m : ℕ) (r : Answer) (is : answered r ≡ verdict (modulus_test m ∷ []) []) (q : r ≡ Answer.Finished)
+module _ (m : ℕ) (r : Answer) (is : answered r ≡ verdict (modulus_test m ∷ []) []) (q : r ≡ Ok tt)
     (none : List ℕ) (none_is : none ≡ replicate most_rows 0) where
   modulus : Modulus m
   modulus = (modulus-passes m).0 (stage-none (modulus_test m ∷ []) r is q).0
@@ -138,6 +138,6 @@ module _ (m : ℕ) (r : Answer) (is : answered r ≡ verdict (modulus_test m ∷
     c_zeros = zeros;
   }
 
-  pub empty-made : (out : Prepared) → out ≡ prepared (lent m 0 none none none ones) → EmptyCall m (answered Answer.Finished) out
+  pub empty-made : (out : Prepared) → out ≡ prepared (lent m 0 none none none ones) → EmptyCall m (answered (Ok tt)) out
   unfolding empty_tests
   empty-made out e = change-made (empty_tests m) _ all_zeros r is out q e

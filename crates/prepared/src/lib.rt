@@ -14,7 +14,7 @@ ghost use Rattle.lists.specs.Lent.{lent};
 ghost use Rattle.prepared_model.specs.Preparing.{Preparable};
 ghost use Rattle.prepared.specs.Held.{held};
 
-use definitions::{Answer, FIRST_C};
+use definitions::{FIRST_C, Refusal};
 
 // The record: modulus, row count, rows, the inverses beside them (0 for c_1), and the norms. Unused places are zero.
 #[repr(C)]
@@ -33,12 +33,12 @@ pub struct Prepared {
 // The answer of a change, and the record after it.
 #[derive(Drop)]
 pub struct Change {
-    pub answer: Answer,
+    pub answer: Result<(), Refusal>,
     pub family: Prepared,
 }
 
 // 14: the record is right.
-fn test(p: Prepared) -> Answer
+fn test(p: Prepared) -> Result<(), Refusal>
     ensures { answered result ≡ verdict (record_test (held p) ∷ []) [] }
 {
     record_check::record(
@@ -76,47 +76,47 @@ fn prepare(m: u32, rows: u32, a: [u32; 127], b: [u32; 127], c: [u32; 127]) -> Pr
 
 // 14, 5, 9, 17, 10, 18 and 11.
 #[inline(never)]
-fn append_verdict(p: Prepared, a: u32, b: u32, c: u32) -> Answer
+fn append_verdict(p: Prepared, a: u32, b: u32, c: u32) -> Result<(), Refusal>
     ensures { answered result ≡ verdict (append_tests (held p) (row_of a b c)) [] }
 {
     let right = test(p);
-    let Answer::Finished = right else {
+    let Ok(()) = right else {
         return right;
     };
     if Prepared::MOST_ROWS <= p.rows {
-        return Answer::Refused(5);
+        return Err(Refusal::TooManyRows);
     }
     checks::new_row(p.modulus, p.rows as usize, a, b, c)
 }
 
 // 14 and 15.
-fn drop_verdict(p: Prepared) -> Answer
+fn drop_verdict(p: Prepared) -> Result<(), Refusal>
     ensures { answered result ≡ verdict (drop_tests (held p)) [] }
 {
     let right = test(p);
-    let Answer::Finished = right else {
+    let Ok(()) = right else {
         return right;
     };
     if p.rows == 0 {
-        return Answer::Refused(15);
+        return Err(Refusal::NoRows);
     }
-    Answer::Finished
+    Ok(())
 }
 
 // 14, 16, 9, 17, 10, 18 and 11.
 #[inline(never)]
-fn replace_verdict(p: Prepared, row: u32, a: u32, b: u32, c: u32) -> Answer
+fn replace_verdict(p: Prepared, row: u32, a: u32, b: u32, c: u32) -> Result<(), Refusal>
     ensures { answered result ≡ verdict (replace_tests (held p) row (row_of a b c)) [] }
 {
     let right = test(p);
-    let Answer::Finished = right else {
+    let Ok(()) = right else {
         return right;
     };
     if row == 0 {
-        return Answer::Refused(16);
+        return Err(Refusal::NoSuchRow);
     }
     if p.rows < row {
-        return Answer::Refused(16);
+        return Err(Refusal::NoSuchRow);
     }
     checks::new_row(p.modulus, (row - 1) as usize, a, b, c)
 }
@@ -129,9 +129,9 @@ impl Prepared {
     pub fn empty(m: u32) -> Change
         ensures { EmptyCall m (answered result.answer) (held result.family) }
     {
-        let none = preparing::no_rows();
+        let none = lists::zeros::<127>();
         let tested = checks::modulus(m);
-        let Answer::Finished = tested else {
+        let Ok(()) = tested else {
             let norms = lists::zeros();
             return Change {
                 answer: tested,
@@ -148,7 +148,7 @@ impl Prepared {
             };
         };
         Change {
-            answer: Answer::Finished,
+            answer: Ok(()),
             family: prepare(m, 0, none, none, none),
         }
     }
@@ -159,7 +159,7 @@ impl Prepared {
         ensures { AppendCall (held self) (row_of a b c) (answered result.answer) (held result.family) }
     {
         let tested = append_verdict(self, a, b, c);
-        let Answer::Finished = tested else {
+        let Ok(()) = tested else {
             return Change {
                 answer: tested,
                 family: self,
@@ -173,7 +173,7 @@ impl Prepared {
         y[place] = b;
         z[place] = c;
         Change {
-            answer: Answer::Finished,
+            answer: Ok(()),
             family: prepare(self.modulus, self.rows + 1, x, y, z),
         }
     }
@@ -183,7 +183,7 @@ impl Prepared {
         ensures { DropCall (held self) (answered result.answer) (held result.family) }
     {
         let tested = drop_verdict(self);
-        let Answer::Finished = tested else {
+        let Ok(()) = tested else {
             return Change {
                 answer: tested,
                 family: self,
@@ -198,7 +198,7 @@ impl Prepared {
         y[place] = 0;
         z[place] = 0;
         Change {
-            answer: Answer::Finished,
+            answer: Ok(()),
             family: prepare(self.modulus, rows, x, y, z),
         }
     }
@@ -209,7 +209,7 @@ impl Prepared {
         ensures { ReplaceCall (held self) row (row_of a b c) (answered result.answer) (held result.family) }
     {
         let tested = replace_verdict(self, row, a, b, c);
-        let Answer::Finished = tested else {
+        let Ok(()) = tested else {
             return Change {
                 answer: tested,
                 family: self,
@@ -223,7 +223,7 @@ impl Prepared {
         y[place] = b;
         z[place] = c;
         Change {
-            answer: Answer::Finished,
+            answer: Ok(()),
             family: prepare(self.modulus, self.rows, x, y, z),
         }
     }

@@ -2,14 +2,13 @@
 -- Proved: where an append refuses, the family is not accepted and the lists stay; where all finish, the family is accepted, its record is what
 -- was made, and each operation on it keeps the promise of the call on the lists. These rest on the laws of specs/, which edits change.
 -- Assumes nothing.
-use Rattle.std.specs.Prelude.{◌≡◌, List, [], ℕ}
+use Rattle.std.specs.Prelude.{◌≡◌, List, [], ℕ, Ok, Err}
 use Rattle.std.proofs.Common.{sym, ◌∙◌, ap, subst}
-use Rattle.definitions.specs.Answers.{answered, NormsCall, MomentsCall}
+use Rattle.definitions.specs.Answers.{Answer, answered, NormsCall, MomentsCall}
 use Rattle.definitions.specs.Family.{Family, Accepted, family}
 use Rattle.definitions.specs.Prepared.{Prepared, prepared}
 use Rattle.definitions.specs.PreparedCalls.{PreparedPlainCall, PreparedTreeCall, PreparedNormsCall, PreparedMomentsCall}
 use Rattle.definitions.specs.Refusals.{Verdict, finished}
-use Rattle.definitions.specs.declared.Answer.{Answer}
 use Rattle.acceptance.specs.Verdicts.{refused-not-finished}
 use Rattle.laws.specs.ByWay.{by-plain, by-tree}
 use Rattle.laws.specs.Laws.{Made}
@@ -17,17 +16,18 @@ use Rattle.laws.specs.declared.Way.{Way}
 use Rattle.prepared_laws.specs.PreparedLaws.{ByAppends}
 use Rattle.prepared_model.specs.AsLists.{plain-as-lists, tree-as-lists, norms-as-lists, moments-as-lists}
 use Rattle.prepared_laws.specs.RecordLaws.{ByRecord}
+use Rattle.definitions.specs.declared.Refusal.{Refusal}
 
 module _ (m : ℕ) (a b c : List ℕ) (made : Answer) (q : Prepared) (appends : ByAppends m a b c (answered made) q) where
   abbrev f : Family
   f = family m a b c
 
-  pub rows-refused : (call kept : Type 0) (k : ℕ) → made ≡ Answer.Refused k → kept → ByRecord f call (answered made) kept
+  pub rows-refused : (call kept : Type 0) (k : Refusal) → made ≡ Err k → kept → ByRecord f call (answered made) kept
   rows-refused call kept k e stay =
       let not : answered made ≡ finished [] → ⊥ = λ done. refused-not-finished k [] (sym (ap answered e) ∙ done) in
       record { law = λ accepted. absurd (not (appends.finishes.1 accepted)); refusal = λ none. (not, stay) }
 
-  module _ (e : made ≡ Answer.Finished) where
+  module _ (e : made ≡ Ok tt) where
     rows_taken : Accepted f
     rows_taken = appends.finishes.0 (ap answered e)
 

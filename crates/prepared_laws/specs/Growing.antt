@@ -2,14 +2,13 @@
 --   Grown m a b c i q   q is the record of the first i rows of the lists, which are accepted
 -- Proved: where it begins, one row more, and where it ends; a row of an accepted family is taken; what the two round trips hand out.
 -- Assumes nothing.
-use Rattle.std.specs.Prelude.{◌≡◌, refl, List, [], ℕ, ◌+◌, ◌-◌, ◌<◌, ◌≤◌, length, take}
+use Rattle.std.specs.Prelude.{◌≡◌, refl, List, [], ℕ, ◌+◌, ◌-◌, ◌<◌, ◌≤◌, length, take, Ok, Err}
 use Rattle.std.proofs.Common.{sym, ◌∙◌, ap, add-one, arith, length-take-le, take_all}
-use Rattle.definitions.specs.Answers.{answered}
+use Rattle.definitions.specs.Answers.{Answer, number_of, answered}
 use Rattle.definitions.specs.Family.{Family, Row, Accepted, most_rows, family, ones, rows}
 use Rattle.definitions.specs.Prepared.{Prepared, Right, prepared, own_rows, appended, replaced, handed_back}
 use Rattle.definitions.specs.Prepared.{EmptyCall, AppendCall, DropCall, ReplaceCall}
 use Rattle.definitions.specs.Refusals.{Verdict, finished, refused, verdict, family_shape}
-use Rattle.definitions.specs.declared.Answer.{Answer}
 use Rattle.acceptance.specs.Acceptance.{family-passes}
 use Rattle.acceptance.specs.Verdicts.{refused-not-finished, verdict-finished}
 use Rattle.checks.specs.Shape.{Shaped}
@@ -22,6 +21,7 @@ use Rattle.prepared_model.specs.Preparing.{own-rows, prepared-right}
 use Rattle.prepared_model.specs.Rightness.{right-rows, right-few}
 use Rattle.prepared_model.specs.Rows.{NewRow, listed}
 use Rattle.prepared_laws.specs.PreparedLaws.{ByAppends, PutBack, Dropped}
+use Rattle.definitions.specs.declared.Refusal.{Refusal}
 
 abbrev front : ℕ → List ℕ → List ℕ → List ℕ → ℕ → Family
 front m a b c i = family m (take i a) (take i b) (take i c)
@@ -82,7 +82,7 @@ module _ (m : ℕ) (a b c : List ℕ) (i : ℕ) (q : Prepared) (grown : Grown m 
           is = append-out q (listed a b c i) v out call done ∙ ap prepared next;
         }
 
-    pub grown-refused : (k : ℕ) → v ≡ refused k → ByAppends m a b c v out
+    pub grown-refused : (k : ℕ) → v ≡ refused (number_of k) → ByAppends m a b c v out
     grown-refused k q' = record {
       finishes = (
         λ done. absurd (refused-not-finished k [] (sym q' ∙ done)),
@@ -105,7 +105,7 @@ module _ (m : ℕ) (a b c : List ℕ) (i : ℕ) (q : Prepared) (grown : Grown m 
       }
 
 pub shape-refused : (m : ℕ) (a b c : List ℕ) (r : Answer) (out : Prepared) → answered r ≡ verdict (family_shape (family m a b c)) []
-    → (k : ℕ) → r ≡ Answer.Refused k → ByAppends m a b c (answered r) out
+    → (k : Refusal) → r ≡ Err k → ByAppends m a b c (answered r) out
 shape-refused m a b c r out is k q =
     let not : answered r ≡ finished [] → ⊥ = λ done. refused-not-finished k [] (sym (ap answered q) ∙ done) in
     record {
@@ -118,31 +118,31 @@ shape-refused m a b c r out is k q =
 
 -- ---- the round trips
 module _ (p : Prepared) (i : ℕ) (row : Row) (r : Answer) (q : Prepared) (call : ReplaceCall p i row (answered r) q) where
-  pub replace-kept : (k : ℕ) → r ≡ Answer.Refused k → PutBack p i row (answered r) q
+  pub replace-kept : (k : Refusal) → r ≡ Err k → PutBack p i row (answered r) q
   replace-kept k e = record {
     answer = call.answer;
     law = call.handed ∙ ap (λ x. handed_back (answered x) (prepared (replaced (own_rows p) (i - 1) row)) p) e;
   }
 
-  pub replace-back : r ≡ Answer.Finished → (w : Verdict) (out : Prepared)
+  pub replace-back : r ≡ Ok tt → (w : Verdict) (out : Prepared)
       → ReplaceCall q i (listed p.a p.b p.c (i - 1)) w out → PutBack p i row w out
   replace-back e w out again =
       let back = back-handed p i row (answered r) q call (ap answered e) w out again in
       record { answer = back.0 ∙ sym (ap answered e) ∙ call.answer; law = back.1 }
 
-  pub replace-inside : r ≡ Answer.Finished → (1 ≤ i) × (i - 1 < most_rows)
+  pub replace-inside : r ≡ Ok tt → (1 ≤ i) × (i - 1 < most_rows)
   replace-inside e =
       let taken = replace-taken p i row (answered r) q call (ap answered e) in
       (taken.first, omega (arith, taken.first, taken.last, right-few taken.right))
 
 module _ (p : Prepared) (row : Row) (r : Answer) (q : Prepared) (call : AppendCall p row (answered r) q) where
-  pub append-kept : (k : ℕ) → r ≡ Answer.Refused k → Dropped p row (answered r) q
+  pub append-kept : (k : Refusal) → r ≡ Err k → Dropped p row (answered r) q
   append-kept k e = record {
     answer = call.answer;
     law = call.handed ∙ ap (λ x. handed_back (answered x) (prepared (appended (own_rows p) row)) p) e;
   }
 
-  pub append-back : r ≡ Answer.Finished → (w : Verdict) (out : Prepared) → DropCall q w out → Dropped p row w out
+  pub append-back : r ≡ Ok tt → (w : Verdict) (out : Prepared) → DropCall q w out → Dropped p row w out
   append-back e w out again =
       let back = dropped-handed p row (answered r) q call (ap answered e) w out again in
       record { answer = back.0 ∙ sym (ap answered e) ∙ call.answer; law = back.1 }

@@ -13,7 +13,7 @@ ghost use Rattle.prepared.specs.Held.{held};
 ghost use Rattle.prepared_laws.specs.PreparedLaws.{ByAppends, PutBack, Dropped};
 ghost use Rattle.prepared_laws.specs.RecordLaws.{ByRecord};
 
-use definitions::Answer;
+use definitions::Refusal;
 use laws::Way;
 use prepared::{Change, Prepared};
 
@@ -23,7 +23,7 @@ fn replace_and_put_back(p: Prepared, row: u32, a: u32, b: u32, c: u32) -> Change
 {
     let first = p.replace(row, a, b, c);
     let answer = first.answer;
-    let Answer::Finished = answer else {
+    let Ok(()) = answer else {
         return first;
     };
     let place = (row - 1) as usize;
@@ -40,7 +40,7 @@ fn append_and_drop(p: Prepared, a: u32, b: u32, c: u32) -> Change
 {
     let first = p.append(a, b, c);
     let answer = first.answer;
-    let Answer::Finished = answer else {
+    let Ok(()) = answer else {
         return first;
     };
     let changed = first.family;
@@ -54,7 +54,7 @@ fn by_appends(m: u32, a: &[u32], b: &[u32], c: &[u32]) -> Change
     let start = Prepared::empty(m);
     let shape = checks::family_shape(m, a.len(), b.len(), c.len());
     let mut family = start.family;
-    let Answer::Finished = shape else {
+    let Ok(()) = shape else {
         return Change {
             answer: shape,
             family: family,
@@ -64,14 +64,14 @@ fn by_appends(m: u32, a: &[u32], b: &[u32], c: &[u32]) -> Change
     while i < a.len() {
         let next = family.append(a[i], b[i], c[i]);
         let answer = next.answer;
-        let Answer::Finished = answer else {
+        let Ok(()) = answer else {
             return next;
         };
         family = next.family;
         i += 1;
     }
     Change {
-        answer: Answer::Finished,
+        answer: Ok(()),
         family: family,
     }
 }
@@ -86,7 +86,7 @@ fn expand_by_record(
     curve: &[u32],
     output: &mut [u32],
     work: &mut [u32],
-) -> Answer
+) -> Result<(), Refusal>
     ensures { ByRecord (family m a.now b.now c.now)
         (Made expand way (family m a.now b.now c.now) curve.now result
         output.old output.new work.old work.new)
@@ -94,7 +94,7 @@ fn expand_by_record(
 {
     let made = by_appends(m, a, b, c);
     let answer = made.answer;
-    let Answer::Finished = answer else {
+    let Ok(()) = answer else {
         return answer;
     };
     let family = made.family;
@@ -114,7 +114,7 @@ fn adjoint_by_record(
     curve: &[u32],
     output: &mut [u32],
     work: &mut [u32],
-) -> Answer
+) -> Result<(), Refusal>
     ensures { ByRecord (family m a.now b.now c.now)
         (Made adjoint way (family m a.now b.now c.now) curve.now result
         output.old output.new work.old work.new)
@@ -122,7 +122,7 @@ fn adjoint_by_record(
 {
     let made = by_appends(m, a, b, c);
     let answer = made.answer;
-    let Answer::Finished = answer else {
+    let Ok(()) = answer else {
         return answer;
     };
     let family = made.family;
@@ -142,7 +142,7 @@ fn decompose_by_record(
     coefficients: &[u32],
     output: &mut [u32],
     work: &mut [u32],
-) -> Answer
+) -> Result<(), Refusal>
     ensures { ByRecord (family m a.now b.now c.now)
         (Made decompose way (family m a.now b.now c.now) coefficients.now result
         output.old output.new work.old work.new)
@@ -150,7 +150,7 @@ fn decompose_by_record(
 {
     let made = by_appends(m, a, b, c);
     let answer = made.answer;
-    let Answer::Finished = answer else {
+    let Ok(()) = answer else {
         return answer;
     };
     let family = made.family;
@@ -167,7 +167,7 @@ fn moments_by_record(
     c: &[u32],
     output: &mut [u32],
     work: &mut [u32],
-) -> Answer
+) -> Result<(), Refusal>
     ensures { ByRecord (family m a.now b.now c.now)
         (MomentsCall (family m a.now b.now c.now) (answered result)
         output.old output.new work.old work.new)
@@ -175,14 +175,14 @@ fn moments_by_record(
 {
     let made = by_appends(m, a, b, c);
     let answer = made.answer;
-    let Answer::Finished = answer else {
+    let Ok(()) = answer else {
         return answer;
     };
     let family = made.family;
     prepared_tree::moments(family, output, work)
 }
 
-fn norms_by_record(m: u32, a: &[u32], b: &[u32], c: &[u32], output: &mut [u32]) -> Answer
+fn norms_by_record(m: u32, a: &[u32], b: &[u32], c: &[u32], output: &mut [u32]) -> Result<(), Refusal>
     ensures { ByRecord (family m a.now b.now c.now)
         (NormsCall (family m a.now b.now c.now) (answered result)
         output.old output.new)
@@ -190,7 +190,7 @@ fn norms_by_record(m: u32, a: &[u32], b: &[u32], c: &[u32], output: &mut [u32]) 
 {
     let made = by_appends(m, a, b, c);
     let answer = made.answer;
-    let Answer::Finished = answer else {
+    let Ok(()) = answer else {
         return answer;
     };
     let family = made.family;

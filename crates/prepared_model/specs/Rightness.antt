@@ -2,7 +2,7 @@
 --   Sized p   its lists are as long as the arrays are
 -- Proved: the test (record-passes, and its verdicts record-finished, record-refused); of a right record, that it has as many rows as it says,
 -- the lengths of its lists, its norms, and that its stored inverses are such as the cores ask for. Assumes nothing.
-use Rattle.std.specs.Prelude.{◌≡◌, true, false, ◌↔◌, get_or}
+use Rattle.std.specs.Prelude.{◌≡◌, true, false, ◌↔◌, get_or, Ok}
 use Rattle.std.proofs.Math.Path.{refl, sym, ap}
 use Rattle.std.proofs.Common.{◌∙◌, arith, length-take, ext_get_or, le-ltb}
 use Rattle.std.proofs.Math.Bool.{not-eq-not}
@@ -13,11 +13,10 @@ use Rattle.std.proofs.Math.ListN.{length}
 use Rattle.definitions.specs.Number.{inverse, table}
 use Rattle.definitions.specs.Family.{Family, most_rows, first_c, ones, rows, size, row_at}
 use Rattle.definitions.specs.Orthogonality.{norm, norms}
-use Rattle.definitions.specs.Answers.{answered}
+use Rattle.definitions.specs.Answers.{Answer, answered}
 use Rattle.definitions.specs.Refusals.{Test, finished, refused, verdict}
 use Rattle.definitions.specs.Prepared.{Prepared, Right, most_norms, padded, stored_a, stored_c, prepared, own_rows}
 use Rattle.definitions.specs.Prepared.{any_holds, unlike, differs, broken, record_test}
-use Rattle.definitions.specs.declared.Answer.{Answer}
 use Rattle.numbers.specs.Inverse.{inverse-below}
 use Rattle.numbers.specs.Lists.{table-length, table-entry}
 use Rattle.acceptance.specs.Acceptance.{family-passes}
@@ -94,7 +93,7 @@ module _ (p : Prepared) where
       ((not-eq-not {a = (record_test p).holds} {b = true}).0 (λ e. wrong (record-passes.0 e))))
 
   -- from the answer of a check that makes the test alone
-  pub record-tested : (r : Answer) → answered r ≡ verdict (record_test p ∷ []) [] → r ≡ Answer.Finished → Right p
+  pub record-tested : (r : Answer) → answered r ≡ verdict (record_test p ∷ []) [] → r ≡ Ok tt → Right p
   record-tested r is q = record-passes.0 (stage-none (record_test p ∷ []) r is q).0
 
 -- ---- what a right record holds

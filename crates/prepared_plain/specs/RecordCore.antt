@@ -1,16 +1,15 @@
 -- An operation on a record by the plain way, and Norms, from the verdict of its tests.
 -- Proved: where they pass, the core is handed what it asks for, and with what it writes the promise is kept: for Expand, Adjoint and
 -- Decompose, which is lent the stored inverses, and for Norms, which are copied. Assumes nothing.
-use Rattle.std.specs.Prelude.{◌≡◌, List, [], ◌++◌, ℕ, ◌+◌, ◌-◌, ◌≤◌, length, get_or, take, drop}
+use Rattle.std.specs.Prelude.{◌≡◌, List, [], ◌++◌, ℕ, ◌+◌, ◌-◌, ◌≤◌, length, get_or, take, drop, Ok}
 use Rattle.std.proofs.Math.Path.{sym}
 use Rattle.std.proofs.Common.{◌∙◌, arith}
-use Rattle.definitions.specs.Answers.{answered}
+use Rattle.definitions.specs.Answers.{Answer, answered}
 use Rattle.definitions.specs.Conversion.{decompose}
 use Rattle.definitions.specs.Family.{Family, ones}
 use Rattle.definitions.specs.Prepared.{Prepared, Right, own_rows}
 use Rattle.definitions.specs.PreparedCalls.{prepared_plain_tests, prepared_norms_tests, PreparedPlainCall, PreparedNormsCall}
 use Rattle.definitions.specs.Refusals.{verdict}
-use Rattle.definitions.specs.declared.Answer.{Answer}
 use Rattle.numbers.specs.Lists.{filled}
 use Rattle.acceptance.specs.Acceptance.{PlainInput, NormsInput}
 use Rattle.acceptance.specs.Promises.{tests-finish}
@@ -26,12 +25,18 @@ use Rattle.prepared_model.specs.Rightness.{right-few, right-long, right-sized, r
 
 -- ---- the conversions
 module _ (p : Prepared) (u output : List ℕ) {r : Answer} (is : answered r ≡ verdict (prepared_plain_tests p u (length output)) [])
-    (q : r ≡ Answer.Finished) where
+    (q : r ≡ Ok tt) where
   accepted : Right p × PlainInput (own_rows p) u (length output)
   accepted = (prepared-plain-passes p u (length output)).0 (stage-none (prepared_plain_tests p u (length output)) r is q)
 
   right : Right p
   right = accepted.0
+
+  pub record-input : PlainInput (own_rows p) u (length output)
+  record-input = accepted.1
+
+  pub record-few : p.rows ≤ 127
+  record-few = right-few right
 
   -- v stands in the place of the a
   core-input : {v : List ℕ} → Holds p.modulus p.rows v → ConvertInput p.modulus v p.b p.c u (p.rows + 1) output
@@ -47,7 +52,7 @@ module _ (p : Prepared) (u output : List ℕ) {r : Answer} (is : answered r ≡ 
 
   pub plain-made : (convert : Family → List ℕ → List ℕ) {output' : List ℕ}
       → output' ≡ convert (lent p.modulus (p.rows + 1 - 1) p.a p.b p.c ones) (take (p.rows + 1) u) ++ drop (p.rows + 1) output
-      → PreparedPlainCall convert p u (answered Answer.Finished) output output'
+      → PreparedPlainCall convert p u (answered (Ok tt)) output output'
   plain-made convert e =
       tests-finish _ r is q (e ∙ written-whole _ output (p.rows + 1) (accepted.1.output_length ∙ sym (right-size right))
       ∙ right-converts right accepted.1.curve convert)
@@ -55,11 +60,11 @@ module _ (p : Prepared) (u output : List ℕ) {r : Answer} (is : answered r ≡ 
   pub decompose-made : {output' : List ℕ}
       → ((a : List ℕ) → Inverts p.modulus 0 (p.rows + 1 - 1) a p.a_inverses 1 1
       → output' ≡ decompose (lent p.modulus (p.rows + 1 - 1) a p.b p.c ones) (take (p.rows + 1) u) ++ drop (p.rows + 1) output)
-      → PreparedPlainCall decompose p u (answered Answer.Finished) output output'
+      → PreparedPlainCall decompose p u (answered (Ok tt)) output output'
   decompose-made made = plain-made decompose (made p.a (right-inverts-a right))
 
 -- ---- the norms, which are stored
-module _ (p : Prepared) {r : Answer} (q : r ≡ Answer.Finished) where
+module _ (p : Prepared) {r : Answer} (q : r ≡ Ok tt) where
   stored : (output : ℕ) → answered r ≡ verdict (prepared_norms_tests p output) [] → Right p × NormsInput (own_rows p) output
   stored output is = (prepared-norms-passes p output).0 (stage-none (prepared_norms_tests p output) r is q)
 
@@ -71,7 +76,7 @@ module _ (p : Prepared) {r : Answer} (q : r ≡ Answer.Finished) where
       (omega (arith, right-few right, (right-sized right).norms_length), omega (arith, right-size right, output_length))
 
   pub norms-made : (output : List ℕ) → answered r ≡ verdict (prepared_norms_tests p (length output)) [] → {output' : List ℕ}
-      → output' ≡ filled (λ i. get_or p.norms i 0) (p.rows + 1) output → PreparedNormsCall p (answered Answer.Finished) output output'
+      → output' ≡ filled (λ i. get_or p.norms i 0) (p.rows + 1) output → PreparedNormsCall p (answered (Ok tt)) output output'
   unfolding filled
   norms-made output is e =
       let right = (stored (length output) is).0 in

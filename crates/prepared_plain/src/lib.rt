@@ -13,7 +13,9 @@ ghost use Rattle.prepared.specs.Held.{held};
 ghost use Rattle.prepared_model.specs.Parts.{fields};
 ghost use Rattle.prepared_model.specs.Rightness.{Sized};
 
-use definitions::Answer;
+use definitions::Refusal;
+use lists::Family;
+use plain::{Adjoining, Conversion, Expanding};
 use prepared::Prepared;
 
 // 14, 6, 7 and 12.
@@ -28,22 +30,22 @@ fn plain_verdict<'a>(
     norms: &'a [u32],
     curve: &[u32],
     output: usize,
-) -> Answer
+) -> Result<(), Refusal>
     requires { Sized (fields modulus rows a.now b.now c.now a_inverses.now c_inverses.now norms.now) }
     ensures { answered result ≡ verdict (prepared_plain_tests (fields modulus rows a.now b.now c.now
         a_inverses.now c_inverses.now norms.now) curve.now output) [] }
 {
     let right = record_check::record(modulus, rows, a, b, c, a_inverses, c_inverses, norms);
-    let Answer::Finished = right else {
+    let Ok(()) = right else {
         return right;
     };
     let n = rows as usize + 1;
     let entries = checks::curve_length(n, curve.len());
-    let Answer::Finished = entries else {
+    let Ok(()) = entries else {
         return entries;
     };
     let place = checks::output_length(n, output);
-    let Answer::Finished = place else {
+    let Ok(()) = place else {
         return place;
     };
     checks::curve_entries(modulus, curve)
@@ -60,79 +62,69 @@ fn norms_verdict<'a>(
     c_inverses: &'a [u32],
     norms: &'a [u32],
     output: usize,
-) -> Answer
+) -> Result<(), Refusal>
     requires { Sized (fields modulus rows a.now b.now c.now a_inverses.now c_inverses.now norms.now) }
     ensures { answered result ≡ verdict (prepared_norms_tests (fields modulus rows a.now b.now c.now
         a_inverses.now c_inverses.now norms.now) output) [] }
 {
     let right = record_check::record(modulus, rows, a, b, c, a_inverses, c_inverses, norms);
-    let Answer::Finished = right else {
+    let Ok(()) = right else {
         return right;
     };
     checks::output_length(rows as usize + 1, output)
 }
 
+// A conversion by the plain way on a record: its tests, and then its core, lent the rows.
+fn call<C: Conversion>(family: Prepared, curve: &[u32], output: &mut [u32]) -> Result<(), Refusal>
+    ensures { PreparedPlainCall C.converted (held family) curve.now (answered result)
+        output.old output.new }
+{
+    plain_verdict(
+        family.modulus,
+        family.rows,
+        &family.a,
+        &family.b,
+        &family.c,
+        &family.a_inverses,
+        &family.c_inverses,
+        &family.norms,
+        curve,
+        output.len(),
+    )?;
+    let rows = family.rows as usize;
+    let lent = Family {
+        modulus: family.modulus,
+        a: &family.a[..rows],
+        b: &family.b[..rows],
+        c: &family.c[..rows],
+    };
+    C::convert(&lent, curve, output);
+    Ok(())
+}
+
 // Expand, row by row. Refused with 14: the record is not right; with 6 and 7: curve or output is not n long; with 12: a curve entry is not
 // below m.
-pub fn plain_expand(family: Prepared, curve: &[u32], output: &mut [u32]) -> Answer
+pub fn plain_expand(family: Prepared, curve: &[u32], output: &mut [u32]) -> Result<(), Refusal>
     ensures { PreparedPlainCall expand (held family) curve.now (answered result)
         output.old output.new }
 {
-    let tested = plain_verdict(
-        family.modulus,
-        family.rows,
-        &family.a,
-        &family.b,
-        &family.c,
-        &family.a_inverses,
-        &family.c_inverses,
-        &family.norms,
-        curve,
-        output.len(),
-    );
-    let Answer::Finished = tested else {
-        return tested;
-    };
-    let b = family.b;
-    let c = family.c;
-    let n = family.rows as usize + 1;
-    plain::expand(family.modulus, &family.a, &b, &c, curve, n, output);
-    Answer::Finished
+    call::<Expanding>(family, curve, output)
 }
 
 // Adjoint, row by row. Refused as plain_expand is.
-pub fn plain_adjoint(family: Prepared, curve: &[u32], output: &mut [u32]) -> Answer
+pub fn plain_adjoint(family: Prepared, curve: &[u32], output: &mut [u32]) -> Result<(), Refusal>
     ensures { PreparedPlainCall adjoint (held family) curve.now (answered result)
         output.old output.new }
 {
-    let tested = plain_verdict(
-        family.modulus,
-        family.rows,
-        &family.a,
-        &family.b,
-        &family.c,
-        &family.a_inverses,
-        &family.c_inverses,
-        &family.norms,
-        curve,
-        output.len(),
-    );
-    let Answer::Finished = tested else {
-        return tested;
-    };
-    let b = family.b;
-    let c = family.c;
-    let n = family.rows as usize + 1;
-    plain::adjoint(family.modulus, &family.a, &b, &c, curve, n, output);
-    Answer::Finished
+    call::<Adjoining>(family, curve, output)
 }
 
 // Decompose, from the top power, by the stored inverses of the a. Refused as plain_expand is, with the coefficients in the curve's place.
-pub fn plain_decompose(family: Prepared, coefficients: &[u32], output: &mut [u32]) -> Answer
+pub fn plain_decompose(family: Prepared, coefficients: &[u32], output: &mut [u32]) -> Result<(), Refusal>
     ensures { PreparedPlainCall decompose (held family) coefficients.now (answered result)
         output.old output.new }
 {
-    let tested = plain_verdict(
+    plain_verdict(
         family.modulus,
         family.rows,
         &family.a,
@@ -143,10 +135,7 @@ pub fn plain_decompose(family: Prepared, coefficients: &[u32], output: &mut [u32
         &family.norms,
         coefficients,
         output.len(),
-    );
-    let Answer::Finished = tested else {
-        return tested;
-    };
+    )?;
     let b = family.b;
     let c = family.c;
     let n = family.rows as usize + 1;
@@ -159,14 +148,14 @@ pub fn plain_decompose(family: Prepared, coefficients: &[u32], output: &mut [u32
         n,
         output,
     );
-    Answer::Finished
+    Ok(())
 }
 
 // Norms: those that are stored. Refused with 14: the record is not right; with 7: the output is not n long.
-pub fn norms(family: Prepared, output: &mut [u32]) -> Answer
+pub fn norms(family: Prepared, output: &mut [u32]) -> Result<(), Refusal>
     ensures { PreparedNormsCall (held family) (answered result) output.old output.new }
 {
-    let tested = norms_verdict(
+    norms_verdict(
         family.modulus,
         family.rows,
         &family.a,
@@ -176,10 +165,7 @@ pub fn norms(family: Prepared, output: &mut [u32]) -> Answer
         &family.c_inverses,
         &family.norms,
         output.len(),
-    );
-    let Answer::Finished = tested else {
-        return tested;
-    };
+    )?;
     lists::copy(&family.norms, family.rows as usize + 1, output);
-    Answer::Finished
+    Ok(())
 }

@@ -13,7 +13,7 @@ ghost use Rattle.prepared.specs.Held.{held};
 ghost use Rattle.prepared_model.specs.Parts.{fields};
 ghost use Rattle.prepared_model.specs.Rightness.{Sized};
 
-use definitions::Answer;
+use definitions::Refusal;
 use prepared::Prepared;
 
 // 14, 6, 7, 8 and 12.
@@ -29,26 +29,26 @@ fn tree_verdict<'a>(
     curve: &[u32],
     output: usize,
     work: usize,
-) -> Answer
+) -> Result<(), Refusal>
     requires { Sized (fields modulus rows a.now b.now c.now a_inverses.now c_inverses.now norms.now) }
     ensures { answered result ≡ verdict (prepared_tree_tests (fields modulus rows a.now b.now c.now
         a_inverses.now c_inverses.now norms.now) curve.now output work) [] }
 {
     let right = record_check::record(modulus, rows, a, b, c, a_inverses, c_inverses, norms);
-    let Answer::Finished = right else {
+    let Ok(()) = right else {
         return right;
     };
     let n = rows as usize + 1;
     let entries = checks::curve_length(n, curve.len());
-    let Answer::Finished = entries else {
+    let Ok(()) = entries else {
         return entries;
     };
     let place = checks::output_length(n, output);
-    let Answer::Finished = place else {
+    let Ok(()) = place else {
         return place;
     };
     let room = checks::work_length(work);
-    let Answer::Finished = room else {
+    let Ok(()) = room else {
         return room;
     };
     checks::curve_entries(modulus, curve)
@@ -66,17 +66,17 @@ fn moments_verdict<'a>(
     norms: &'a [u32],
     output: usize,
     work: usize,
-) -> Answer
+) -> Result<(), Refusal>
     requires { Sized (fields modulus rows a.now b.now c.now a_inverses.now c_inverses.now norms.now) }
     ensures { answered result ≡ verdict (prepared_moments_tests (fields modulus rows a.now b.now c.now
         a_inverses.now c_inverses.now norms.now) output work) [] }
 {
     let right = record_check::record(modulus, rows, a, b, c, a_inverses, c_inverses, norms);
-    let Answer::Finished = right else {
+    let Ok(()) = right else {
         return right;
     };
     let place = checks::output_length(2 * (rows as usize) + 1, output);
-    let Answer::Finished = place else {
+    let Ok(()) = place else {
         return place;
     };
     checks::work_length(work)
@@ -84,11 +84,11 @@ fn moments_verdict<'a>(
 
 // Expand by the subproduct tree. After an accepted call the first 16,384 numbers of the working list are zero. Refused with 14: the record
 // is not right; with 6 to 8: curve or output is not n long, or the working list too short; with 12: a curve entry is not below m.
-pub fn tree_expand(family: Prepared, curve: &[u32], output: &mut [u32], work: &mut [u32]) -> Answer
+pub fn tree_expand(family: Prepared, curve: &[u32], output: &mut [u32], work: &mut [u32]) -> Result<(), Refusal>
     ensures { PreparedTreeCall expand (held family) curve.now (answered result)
         output.old output.new work.old work.new }
 {
-    let tested = tree_verdict(
+    tree_verdict(
         family.modulus,
         family.rows,
         &family.a,
@@ -100,23 +100,20 @@ pub fn tree_expand(family: Prepared, curve: &[u32], output: &mut [u32], work: &m
         curve,
         output.len(),
         work.len(),
-    );
-    let Answer::Finished = tested else {
-        return tested;
-    };
+    )?;
     let b = family.b;
     let c = family.c;
     let n = family.rows as usize + 1;
     tree::expand(family.modulus, &family.a, &b, &c, curve, n, output, work);
-    Answer::Finished
+    Ok(())
 }
 
 // Adjoint by the subproduct tree. The working list and the refusals are as for tree_expand.
-pub fn tree_adjoint(family: Prepared, curve: &[u32], output: &mut [u32], work: &mut [u32]) -> Answer
+pub fn tree_adjoint(family: Prepared, curve: &[u32], output: &mut [u32], work: &mut [u32]) -> Result<(), Refusal>
     ensures { PreparedTreeCall adjoint (held family) curve.now (answered result)
         output.old output.new work.old work.new }
 {
-    let tested = tree_verdict(
+    tree_verdict(
         family.modulus,
         family.rows,
         &family.a,
@@ -128,15 +125,12 @@ pub fn tree_adjoint(family: Prepared, curve: &[u32], output: &mut [u32], work: &
         curve,
         output.len(),
         work.len(),
-    );
-    let Answer::Finished = tested else {
-        return tested;
-    };
+    )?;
     let b = family.b;
     let c = family.c;
     let n = family.rows as usize + 1;
     tree::adjoint(family.modulus, &family.a, &b, &c, curve, n, output, work);
-    Answer::Finished
+    Ok(())
 }
 
 // Decompose by the moments and the subproduct tree, by the stored inverses. The working list and the refusals are as for tree_expand, with
@@ -146,11 +140,11 @@ pub fn tree_decompose(
     coefficients: &[u32],
     output: &mut [u32],
     work: &mut [u32],
-) -> Answer
+) -> Result<(), Refusal>
     ensures { PreparedTreeCall decompose (held family) coefficients.now (answered result)
         output.old output.new work.old work.new }
 {
-    let tested = tree_verdict(
+    tree_verdict(
         family.modulus,
         family.rows,
         &family.a,
@@ -162,10 +156,7 @@ pub fn tree_decompose(
         coefficients,
         output.len(),
         work.len(),
-    );
-    let Answer::Finished = tested else {
-        return tested;
-    };
+    )?;
     let b = family.b;
     let c = family.c;
     let a_inverses = family.a_inverses;
@@ -188,16 +179,16 @@ pub fn tree_decompose(
         output,
         work,
     );
-    Answer::Finished
+    Ok(())
 }
 
 // Moments, by the stored inverses of the a. The working list is as for tree_expand. Refused with 14: the record is not right; with 7 and 8:
 // the output is not 2n - 1 long, or the working list too short.
-pub fn moments(family: Prepared, output: &mut [u32], work: &mut [u32]) -> Answer
+pub fn moments(family: Prepared, output: &mut [u32], work: &mut [u32]) -> Result<(), Refusal>
     ensures { PreparedMomentsCall (held family) (answered result)
         output.old output.new work.old work.new }
 {
-    let tested = moments_verdict(
+    moments_verdict(
         family.modulus,
         family.rows,
         &family.a,
@@ -208,10 +199,7 @@ pub fn moments(family: Prepared, output: &mut [u32], work: &mut [u32]) -> Answer
         &family.norms,
         output.len(),
         work.len(),
-    );
-    let Answer::Finished = tested else {
-        return tested;
-    };
+    )?;
     let b = family.b;
     let c = family.c;
     let a_inverses = family.a_inverses;
@@ -230,5 +218,5 @@ pub fn moments(family: Prepared, output: &mut [u32], work: &mut [u32]) -> Answer
         output,
         work,
     );
-    Answer::Finished
+    Ok(())
 }

@@ -1,7 +1,7 @@
 // What a record stores beside the rows, worked out from them: the inverses, with zeros behind, and the norms.
 #![tactic(auto)]
 
-ghost use Rattle.std.specs.Prelude.{◌≡◌, List, ℕ, ◌<◌, ◌≤◌, length, replicate};
+ghost use Rattle.std.specs.Prelude.{◌≡◌, List, ℕ, ◌<◌, ◌≤◌, length};
 ghost use Rattle.definitions.specs.Family.{most_rows, ones};
 ghost use Rattle.definitions.specs.Number.{table};
 ghost use Rattle.definitions.specs.Orthogonality as Orthogonality;
@@ -10,30 +10,25 @@ ghost use Rattle.inverses.specs.Range.{inverse_from};
 ghost use Rattle.lists.specs.Inverses.{Inverts};
 ghost use Rattle.lists.specs.Lent.{lent};
 
-// As many zeros as there can be rows.
-pub fn no_rows() -> [u32; 127]
-    ensures { result ≡ replicate most_rows 0 }
-{
-    [0u32; 127]
-}
+use lists::zeros;
 
 // The inverses of the first count entries, with 0 at the places below first.
 pub fn inverses_of(m: u32, list: &[u32], first: usize, count: usize) -> [u32; 127]
     requires { (count ≤ most_rows) × (count ≤ length list.now) }
     ensures { result ≡ padded most_rows (table count (inverse_from m first list.now)) }
 {
-    let mut result = no_rows();
+    let mut result = zeros::<127>();
     inverses::of_list(m, list, first, count, &mut result);
     result
 }
 
 // The norms of the family of the first count rows, from the inverses of its a.
-pub fn norms_of<'a>(m: u32, a_inverses: &'a [u32], c: &'a [u32], count: usize) -> [u32; 128]
+pub fn norms_of(m: u32, a_inverses: &[u32], c: &[u32], count: usize) -> [u32; 128]
     requires { (0 < m) × (count ≤ most_rows) × (count ≤ length a_inverses.now) × (count ≤ length c.now) }
     ensures { (a b : List ℕ) → Inverts m 0 count a a_inverses.now 1 1
         → result ≡ padded most_norms (Orthogonality.norms (lent m count a b c.now ones)) }
 {
-    let mut result = lists::zeros();
-    plain::norms(m, a_inverses, c, 1, 1, count + 1, &mut result);
+    let mut result = zeros::<128>();
+    plain::norms(m, a_inverses, c, 1, 1, &mut result[..count + 1]);
     result
 }

@@ -2,22 +2,22 @@
 --   Prints t bytes n   the first n bytes are what is printed for t, and the others are zero
 -- Proved: so is what the text call leaves if it is finished, and the refusal text of its number otherwise; the first n bytes
 -- (prints-within, prints-front). Assumes nothing.
-use Rattle.std.specs.Prelude.{◌≡◌, List, [], ◌∷◌, ◌++◌, ℕ, ◌+◌, ◌-◌, ◌≤◌, length, take, replicate}
+use Rattle.std.specs.Prelude.{◌≡◌, List, [], ◌∷◌, ◌++◌, ℕ, ◌+◌, ◌-◌, ◌≤◌, length, take, replicate, Ok, Err}
 use Rattle.std.proofs.Math.Path.{sym, ap, ap₂}
 use Rattle.std.proofs.Common.{◌∙◌, arith, length-append, take_at, drop_at}
 use Rattle.std.proofs.Math.Nat.{sub-zero}
 use Rattle.std.proofs.Math.ListN.{drop}
 use Rattle.std.proofs.lemmas.List.{length-replicate, replicate-append-replicate}
-use Rattle.definitions.specs.Answers.{valued, after}
+use Rattle.definitions.specs.Answers.{number_of, Valued, valued, after}
 use Rattle.definitions.specs.Printing.{shown, printed}
 use Rattle.definitions.specs.Refusals.{finished, verdict, work_length}
 use Rattle.definitions.specs.Text.{refusal_text}
 use Rattle.definitions.specs.TextCall.{text_output_length, text_tests, reply, TextConverted}
-use Rattle.definitions.specs.declared.Valued.{Valued}
 use Rattle.acceptance.specs.Verdicts.{with_values}
 use Rattle.writer.specs.Refusal.{RefusalWritten}
 use Rattle.acceptance.specs.Given.{revalued}
 use Rattle.printing.specs.Limits.{lent_tests, printed-fits}
+use Rattle.definitions.specs.declared.Refusal.{Refusal}
 
 pub record Prints (t bytes : List ℕ) (n : ℕ) : Type 0 where
   pub count : n ≡ length (printed t)
@@ -61,7 +61,7 @@ module _ (t : List ℕ) (r : Valued) (output output' work work' : List ℕ) (cal
   unfolding printed
   printed-shown = ap shown (revalued (lent_tests t) (long ∷ []) (reply t) ∙ ap (with_values (reply t)) (sym given))
 
-  pub answer-printed : (n : ℕ) → r ≡ Valued.Value n → Prints t output' n
+  pub answer-printed : (n : ℕ) → r ≡ Ok n → Prints t output' n
   unfolding shown
   answer-printed n is =
       let told : finished (n ∷ []) ≡ finished (long ∷ []) =
@@ -70,9 +70,9 @@ module _ (t : List ℕ) (r : Valued) (output output' work work' : List ℕ) (cal
       front-prints t (reply t) output' n (printed-shown ∙ ap (λ v. shown (with_values (reply t) (valued v))) is) count
       (call.written ∙ ap (λ v. after (valued v) (reply t ++ drop long output) output) is ∙ ap₂ (λ i zeros. reply t ++ drop i zeros) (sym count) blank)
 
-  pub refusal-printed : (k : ℕ) → r ≡ Valued.Refused k → (n : ℕ) (output'' : List ℕ) → RefusalWritten k n output' output'' → Prints t output'' n
+  pub refusal-printed : (k : Refusal) → r ≡ Err k → (n : ℕ) (output'' : List ℕ) → RefusalWritten (number_of k) n output' output'' → Prints t output'' n
   unfolding shown
   refusal-printed k is n output'' p =
       let kept = call.written ∙ ap (λ v. after (valued v) (reply t ++ drop long output) output) is ∙ blank in
-      front-prints t (refusal_text k) output'' n (printed-shown ∙ ap (λ v. shown (with_values (reply t) (valued v))) is) p.answer
-      (p.written ∙ ap (λ zeros. refusal_text k ++ drop n zeros) kept)
+      front-prints t (refusal_text (number_of k)) output'' n (printed-shown ∙ ap (λ v. shown (with_values (reply t) (valued v))) is) p.answer
+      (p.written ∙ ap (λ zeros. refusal_text (number_of k) ++ drop n zeros) kept)

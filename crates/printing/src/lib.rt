@@ -4,7 +4,7 @@
 ghost use Rattle.std.specs.Prelude.{◌≡◌, replicate};
 ghost use Rattle.printing.specs.Printouts.{Prints};
 
-use definitions::Valued;
+
 
 // The bytes to print stand at the front; zeros follow them.
 #[derive(Drop)]
@@ -32,12 +32,12 @@ pub fn print_job(text: &[u8]) -> Printout
     let mut bytes = output();
     let mut work = working_list();
     match job::convert_text(text, &mut bytes, &mut work) {
-        Valued::Value(count) => {
+        Ok(count) => {
             let length = count as usize;
             Printout { bytes, length }
         }
-        Valued::Refused(number) => {
-            let length = writer::write_refusal(&mut bytes, number);
+        Err(refusal) => {
+            let length = writer::write_refusal(&mut bytes, u32::from(refusal));
             Printout { bytes, length }
         }
     }

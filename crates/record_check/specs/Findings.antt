@@ -2,19 +2,19 @@
 -- Proved: an answer no, where yes would say P, is that P fails (says-no, denied); what the check of the modulus found (modulus-found,
 -- modulus-denied); a list is residues and then zeros if and only if the pass over its front and the one behind it find nothing
 -- (front-passes, behind-passes). Assumes nothing.
-use Rattle.std.specs.Prelude.{◌≡◌, Bool, true, false, List, [], ◌∷◌, ◌↔◌, ℕ, ◌+◌, ◌-◌, ◌<◌, ◌≤◌, length, get_or, take, drop}
+use Rattle.std.specs.Prelude.{◌≡◌, Bool, true, false, List, [], ◌∷◌, ◌↔◌, ℕ, ◌+◌, ◌-◌, ◌<◌, ◌≤◌, length, get_or, take, drop, Ok, Err}
 use Rattle.std.proofs.Common.{sym, ◌∙◌, ap, true≢false, arith, length-drop, get_or-take, get_or-drop, length-take-le}
 use Rattle.std.proofs.lemmas.Bool.{false≢true}
 use Rattle.std.proofs.Math.Logic.Iff
 use Rattle.std.proofs.Math.Logic.{by_cases}
 use Rattle.std.proofs.Math.Decide.{dec_lt}
 use Rattle.std.proofs.Math.ListN.{get_or-eq_default}
-use Rattle.definitions.specs.Answers.{answered}
+use Rattle.definitions.specs.Answers.{Answer, number_of, answered}
 use Rattle.definitions.specs.Family.{Modulus}
 use Rattle.definitions.specs.Refusals.{verdict, some, not_below, modulus_test}
-use Rattle.definitions.specs.declared.Answer.{Answer}
 use Rattle.acceptance.specs.Stages.{stage-none}
 use Rattle.acceptance.specs.Verdicts.{verdict-finished, refused-not-finished, some-not_below-false, modulus-passes}
+use Rattle.definitions.specs.declared.Refusal.{Refusal}
 
 -- ---- answers
 module _ {P : Type 0} where
@@ -25,13 +25,13 @@ module _ {P : Type 0} where
   denied says e p = true≢false (sym (says.1 p) ∙ e)
 
 module _ (m : ℕ) (r : Answer) (is : answered r ≡ verdict (modulus_test m ∷ []) []) where
-  pub modulus-found : r ≡ Answer.Finished → Modulus m
+  pub modulus-found : r ≡ Ok tt → Modulus m
   modulus-found q = (modulus-passes m).0 (stage-none (modulus_test m ∷ []) r is q).0
 
-  pub modulus-denied : (k : ℕ) → r ≡ Answer.Refused k → Modulus m → ⊥
+  pub modulus-denied : (k : Refusal) → r ≡ Err k → Modulus m → ⊥
   modulus-denied k q h =
       let passes = (verdict-finished (modulus_test m ∷ []) []).1 ((modulus-passes m).1 h, tt) in
-      refused-not-finished k [] (sym (ap answered q) ∙ is ∙ passes)
+      refused-not-finished (number_of k) [] (sym (ap answered q) ∙ is ∙ passes)
 
 -- ---- residues and then zeros
 module _ (count : ℕ) (list : List ℕ) (long : count ≤ length list) where

@@ -16,8 +16,7 @@ ghost use Rattle.prepared_model.specs.Parts.{fields, Residues, Inverted, RowsKep
 ghost use Rattle.prepared_model.specs.Rightness.{Sized};
 ghost use Rattle.reduction.specs.Reciprocal.{Reciprocal};
 
-use checks::Entries;
-use definitions::{Answer, FIRST_C};
+use definitions::{FIRST_C, Refusal};
 use lists::row_entry;
 use residue::product_by;
 
@@ -26,10 +25,10 @@ fn residues(m: u32, list: &[u32], count: usize) -> bool
     requires { (0 < m) × (count ≤ length list.now) }
     ensures { (result ≡ true) ↔ Residues m count list.now }
 {
-    let Entries::Residues = checks::entries_below(m, &list[..count]) else {
+    let None = checks::entries_below(m, &list[..count]) else {
         return false;
     };
-    let Entries::Residues = checks::entries_below(1, &list[count..]) else {
+    let None = checks::entries_below(1, &list[count..]) else {
         return false;
     };
     true
@@ -47,12 +46,10 @@ fn inverted(
     requires { Reciprocal m reciprocal × (count ≤ length list.now) × (count ≤ length inverses.now) }
     ensures { (result ≡ true) ↔ Inverted m first count list.now inverses.now }
 {
-    let mut i = first;
-    while i < count {
+    for i in first..count {
         if product_by(m, reciprocal, list[i], inverses[i]) != 1 {
             return false;
         }
-        i += 1;
     }
     true
 }
@@ -103,8 +100,7 @@ fn norms_tried<'a>(
     if before != 1 {
         return false;
     }
-    let mut i: usize = 0;
-    while i < count {
+    for i in 0..count {
         let next = product_by(m, reciprocal, norms[i + 1], row_entry(a, count, i + 1, 1));
         let factor = row_entry(c, count, i + 1, 1);
         let sum = next as u64 + (before as u64) * (factor as u64);
@@ -112,7 +108,6 @@ fn norms_tried<'a>(
             return false;
         }
         before = next;
-        i += 1;
     }
     true
 }
@@ -147,16 +142,16 @@ pub fn record<'a>(
     a_inverses: &'a [u32],
     c_inverses: &'a [u32],
     norms: &'a [u32],
-) -> Answer
+) -> Result<(), Refusal>
     requires { Sized (fields modulus rows a.now b.now c.now a_inverses.now c_inverses.now norms.now) }
     ensures { answered result ≡ verdict (record_test (fields modulus rows a.now b.now c.now
         a_inverses.now c_inverses.now norms.now) ∷ []) [] }
 {
-    let Answer::Finished = checks::modulus(modulus) else {
-        return Answer::Refused(14);
+    let Ok(()) = checks::modulus(modulus) else {
+        return Err(Refusal::RecordWrong);
     };
     if 127 < rows {
-        return Answer::Refused(14);
+        return Err(Refusal::RecordWrong);
     }
     let count = rows as usize;
     let reciprocal = reduction::reciprocal(modulus);
@@ -164,10 +159,10 @@ pub fn record<'a>(
         if inverted(modulus, reciprocal, a, a_inverses, 0, count) {
             if inverted(modulus, reciprocal, c, c_inverses, FIRST_C, count) {
                 if norms_true(modulus, reciprocal, count, a, c, norms) {
-                    return Answer::Finished;
+                    return Ok(());
                 }
             }
         }
     }
-    Answer::Refused(14)
+    Err(Refusal::RecordWrong)
 }

@@ -1,21 +1,26 @@
 -- From the promises of the two calls to the law over them.
 -- Proved: what is promised where the first call refuses (write-refused) and where it finishes, so that the second is made on the very bytes
 -- that it wrote (text-front, write-answered). These rest on the law of specs/, which an edit changes. Assumes nothing.
-use Rattle.std.specs.Prelude.{◌≡◌, refl, List, [], ◌∷◌, ◌++◌, ℕ, ◌≤◌, length, take, drop}
+use Rattle.std.specs.Prelude.{◌≡◌, refl, List, [], ◌∷◌, ◌++◌, ℕ, ◌≤◌, length, take, drop, Ok, Err, IsErrAnd}
 use Rattle.std.proofs.Common.{sym, ◌∙◌, ap, subst, arith, length-append, take_at}
-use Rattle.definitions.specs.Answers.{valued, after, cleared}
+use Rattle.definitions.specs.Answers.{Valued, number_of, valued, after, cleared}
 use Rattle.definitions.specs.JobWriting.{AcceptedJob, JobWritten}
 use Rattle.definitions.specs.Reading.{read_job}
 use Rattle.definitions.specs.Refusals.{Test, finished, refused, verdict}
 use Rattle.definitions.specs.Text.{WrittenJob, meant, job_text}
 use Rattle.definitions.specs.TextCall.{reply, TextConverted}
-use Rattle.definitions.specs.declared.Valued.{Valued}
 use Rattle.acceptance.specs.Given.{revalued}
 use Rattle.acceptance.specs.Jobs.{writing-finished}
 use Rattle.acceptance.specs.Stages.{all-remain, none-remain}
 use Rattle.acceptance.specs.Verdicts.{None, with_values, refused-not-finished, verdict-finished, verdict-stops}
 use Rattle.text_laws.specs.Laws.{CarriedOutInput, CarriedOut, write_tests, answer_tests, WrittenAndAnswered}
 use Rattle.text_laws.specs.Carried.{written_read, written-reply, written-carried}
+use Rattle.definitions.specs.declared.Refusal.{Refusal}
+
+-- a refusal that is handed on
+pub handed-on : (r : Valued) (k : Refusal) → IsErrAnd r (λ e. e ≡ k) → r ≡ Err k
+handed-on (Ok x) k h = absurd h
+handed-on (Err e) k h = ap Err h
 
 -- first: the answer of the call that writes; text': what it left
 module _ (w : WrittenJob) (text output work : List ℕ) (first : Valued) (text' : List ℕ) (call : JobWritten w first text text') where
@@ -32,21 +37,21 @@ module _ (w : WrittenJob) (text output work : List ℕ) (first : Valued) (text' 
   written-only : verdict tests [] ≡ finished [] → AcceptedJob (meant w)
   written-only e = ((writing-finished (meant w) (length text) []).0 e).job
 
-  pub write-refused : (k : ℕ) → first ≡ Valued.Refused k → (r : Valued) → r ≡ first → WrittenAndAnswered w text output work r text' output work
+  pub write-refused : (k : Refusal) → first ≡ Err k → (r : Valued) → r ≡ first → WrittenAndAnswered w text output work r text' output work
   write-refused k q r is =
-      let no : verdict tests (long ∷ []) ≡ refused k = sym call.answer ∙ ap valued q in
-      let none : verdict tests [] ≡ refused k = revalued tests (long ∷ []) [] ∙ ap (with_values []) no in
+      let no : verdict tests (long ∷ []) ≡ refused (number_of k) = sym call.answer ∙ ap valued q in
+      let none : verdict tests [] ≡ refused (number_of k) = revalued tests (long ∷ []) [] ∙ ap (with_values []) no in
       rw (is ∙ q) (record {
-        answer = sym (verdict-stops (answer_tests w text output work) _ tests (long ∷ []) k no);
+        answer = sym (verdict-stops (answer_tests w text output work) _ tests (long ∷ []) (number_of k) no);
         text_is = call.written ∙ ap (λ v. after (valued v) sheet text) q ∙ sym (ap (λ v. after v sheet text) none);
         written = refl;
         wiped = refl;
         only = written-only;
-        holds = λ input. absurd (refused-not-finished k [] (sym none ∙ (writing-finished (meant w) (length text) []).1
+        holds = λ input. absurd (refused-not-finished (number_of k) [] (sym none ∙ (writing-finished (meant w) (length text) []).1
             (record { job = input.job; output_long = input.text_long })));
       })
 
-  module _ (n : ℕ) (q : first ≡ Valued.Value n) where
+  module _ (n : ℕ) (q : first ≡ Ok n) where
     told : verdict tests (long ∷ []) ≡ finished (long ∷ [])
     told = revalued tests (long ∷ []) (long ∷ []) ∙ ap (with_values (long ∷ [])) (sym call.answer ∙ ap valued q)
 

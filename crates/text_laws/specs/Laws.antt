@@ -8,13 +8,12 @@
 --                      the law holds
 -- Request 1 of the change requests. Assumes nothing.
 use Rattle.std.specs.Prelude.{◌≡◌, List, [], ◌∷◌, ◌++◌, ℕ, ◌≤◌, length, take, drop}
-use Rattle.definitions.specs.Answers.{valued, after, cleared}
+use Rattle.definitions.specs.Answers.{Valued, valued, after, cleared}
 use Rattle.definitions.specs.JobWriting.{job_output_length, AcceptedJob, writing_tests}
 use Rattle.definitions.specs.Reading.{found, read_job}
 use Rattle.definitions.specs.Refusals.{Test, finished, verdict, work_length}
 use Rattle.definitions.specs.Text.{WrittenJob, meant, job_text, answer_text}
 use Rattle.definitions.specs.TextCall.{text_output_length, text_tests, result, reply}
-use Rattle.definitions.specs.declared.Valued.{Valued}
 
 abbrev pub answer_to : WrittenJob → List ℕ
 answer_to w = answer_text w.operation (result (meant w))

@@ -7,7 +7,7 @@
 ghost use Rattle.definitions.specs.JobWriting.{written_job};
 ghost use Rattle.text_laws.specs.Laws.{WrittenAndAnswered};
 
-use definitions::{Operation, Valued};
+use definitions::{Operation, Refusal};
 
 // Writes a job, and has the text call answer the bytes that were written.
 fn write_and_answer(
@@ -20,15 +20,11 @@ fn write_and_answer(
     text: &mut [u8],
     output: &mut [u8],
     work: &mut [u32],
-) -> Valued
+) -> Result<u32, Refusal>
     ensures { WrittenAndAnswered (written_job m a.now b.now c.now operation curve.now)
         text.old output.old work.old result
         text.new output.new work.new }
 {
-    let written = job::write_job(m, a, b, c, operation, curve, text);
-    let Valued::Value(count) = written else {
-        return written;
-    };
-    let end = count as usize;
+    let end = job::write_job(m, a, b, c, operation, curve, text)? as usize;
     job::convert_text(&text[..end], output, work)
 }

@@ -16,8 +16,6 @@ use Rattle.tree_model.proofs.Level.{level-covers, level-least, level-most, level
 use Rattle.numbers.specs.Lists.{Filling, filled, filling-stop}
 use Rattle.numbers.specs.Regions.{part, ResiduesIn}
 use Rattle.numbers.specs.Products.{Below, product_at, plus_product}
-use Rattle.reduction.specs.Reciprocal.{Reciprocal}
-use Rattle.reduction.specs.Wrapping.{Reducible}
 use Rattle.convolution.specs.Coefficients.{ProductsInput, product-one}
 use Rattle.products.specs.Places.{Source, slice, slice-part, slice-below, slice-length}
 use Rattle.subproduct.specs.Layout.{Level}
@@ -60,9 +58,8 @@ pairs-level level h =
     record { most = h; some = omega (arith, span-two level); covers = omega arith }
 
 -- ---- Expand's last step
-pub record CoefficientInput (m reciprocal : ℕ) (w : List ℕ) (at span : ℕ) (first : List ℕ) (k : ℕ) : Type 0 where
-  pub least : 2 ≤ m
-  pub reducible : Reducible m reciprocal
+pub record CoefficientInput (m : ℕ) (w : List ℕ) (at span : ℕ) (first : List ℕ) (k : ℕ) : Type 0 where
+  pub modulus : Modulus m
   pub inside : at + (span + span) ≤ length w
   pub below : ResiduesIn m w at (at + (span + span))
   pub first_long : length first ≡ 2
@@ -81,9 +78,9 @@ pub record RootInput (m : ℕ) (w : List ℕ) (at span : ℕ) (first : List ℕ)
 unfoldable pub root_entry : ℕ → List ℕ → ℕ → ℕ → List ℕ → ℕ → ℕ
 root_entry m w at span first k = (get_or (part w at span) k 0 + product_at (part w (at + span) span) first k) % m
 
-module _ {m reciprocal : ℕ} {w : List ℕ} {at span : ℕ} {first : List ℕ} {k : ℕ} (h : CoefficientInput m reciprocal w at span first k) where
+module _ {m : ℕ} {w : List ℕ} {at span : ℕ} {first : List ℕ} {k : ℕ} (h : CoefficientInput m w at span first k) where
   positive : 0 < m
-  positive = h.reducible.reciprocal.positive
+  positive = omega (arith, h.modulus.least)
 
   zeroth : Source m w at span
   zeroth = record { inside = omega (arith, h.inside); below = λ i p q. h.below i p (omega arith) }
@@ -91,9 +88,9 @@ module _ {m reciprocal : ℕ} {w : List ℕ} {at span : ℕ} {first : List ℕ} 
   second : Source m w (at + span) span
   second = record { inside = omega (arith, h.inside); below = λ i p q. h.below i (omega arith) (omega arith) }
 
-  pub root-input : ProductsInput m reciprocal 0 (slice w at span) (1 ∷ 0 ∷ []) (slice w (at + span) span) first k
+  pub root-input : ProductsInput m 0 (slice w at span) (1 ∷ 0 ∷ []) (slice w (at + span) span) first k
   root-input = record {
-    reducible = h.reducible;
+    most = h.modulus.greatest;
     start_below = positive;
     p_below = slice-below m w at span zeroth positive;
     q_below = one_below;
@@ -105,7 +102,7 @@ module _ {m reciprocal : ℕ} {w : List ℕ} {at span : ℕ} {first : List ℕ} 
   }
     where
       one_below : Below m (1 ∷ 0 ∷ [])
-      one_below zero = h.least
+      one_below zero = h.modulus.least
       one_below (suc zero) = positive
       one_below (suc (suc i)) = positive
 
@@ -118,10 +115,9 @@ module _ {m reciprocal : ℕ} {w : List ℕ} {at span : ℕ} {first : List ℕ} 
       (slice-part m w (at + span) span second)
 
 module _ {m : ℕ} {w : List ℕ} {at span : ℕ} {first : List ℕ} {n : ℕ} {output : List ℕ} (h : RootInput m w at span first n output) where
-  pub root-coefficient : {reciprocal k : ℕ} → Reciprocal m reciprocal → k < n → CoefficientInput m reciprocal w at span first k
-  root-coefficient held l = record {
-    least = h.modulus.least;
-    reducible = record { most = h.modulus.greatest; reciprocal = held };
+  pub root-coefficient : {k : ℕ} → k < n → CoefficientInput m w at span first k
+  root-coefficient l = record {
+    modulus = h.modulus;
     inside = h.inside;
     below = h.below;
     first_long = h.first_long;

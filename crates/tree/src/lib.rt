@@ -1,23 +1,25 @@
 // Expand and Adjoint by the subproduct tree, on input that is already checked. Both work in the first 16,384 numbers of the working list and
-// leave zeros there: the tree from place 0 on, the vectors and their scratch from place 9,212 on.
+// leave zeros there: the tree from place 0 on, the vectors and their scratch from place 9,212 on. The lists are as long as the family and its
+// curve: n entries of the curve and of the output, n - 1 rows.
 #![tactic(auto)]
 
-ghost use Rattle.std.specs.Prelude.{◌≡◌, [], ◌∷◌, ◌++◌, ◌+◌, ◌-◌, ◌≤◌, length, take, drop};
-ghost use Rattle.definitions.specs.Family.{ones};
-ghost use Rattle.lists.specs.Held.{Output};
-ghost use Rattle.lists.specs.Lent.{lent};
+ghost use Rattle.std.specs.Prelude.{◌≡◌, List, ◌++◌, ℕ, ◌+◌, ◌≤◌, length, take, drop};
+ghost use Rattle.definitions.specs.Answers.{cleared};
+ghost use Rattle.definitions.specs.Conversion.{expand, adjoint};
+ghost use Rattle.definitions.specs.Family.{Curve};
+ghost use Rattle.definitions.specs.Family as definition;
+ghost use Rattle.definitions.specs.Refusals.{work_length};
 ghost use Rattle.numbers.specs.Regions.{part, written};
 ghost use Rattle.numbers.specs.Products.{plus_product};
-ghost use Rattle.tree_model.specs.Tree.{tree_expand, tree_adjoint};
 ghost use Rattle.subproduct.specs.Layout.{Level};
 ghost use Rattle.tree.specs.Root.{LevelOf, RootInput, CoefficientInput, root_entry};
 ghost use Rattle.tree.specs.RootPair.{StretchInput, stretched, PairInput, PairOutput};
-ghost use Rattle.tree.specs.Input.{Input};
 ghost use Rattle.tree.specs.Core.{TreeOutput, expand_vectors, adjoint_vectors};
 
 use convolution::products_at;
-use lists::{clear, copy, row_entry};
+use lists::{Family, clear, copy, row_entry, store};
 use products::transposed;
+use reduction::Modulus;
 use subproduct::{build, climb, descend};
 
 // The level of the least tree that covers n rows.
@@ -39,22 +41,20 @@ fn pairs_for(level: usize) -> usize
 
 // The coefficient of x^k in v_0 F_0 + v_1 F_1, where v_0 and v_1 are the lists of span numbers from place at on, and first is F_1.
 fn root_coefficient(
-    m: u32,
-    reciprocal: u64,
+    m: Modulus,
     w: &[u32],
     at: usize,
     span: usize,
     first: &[u32],
     k: usize,
 ) -> u32
-    requires { CoefficientInput m reciprocal w.now at span first.now k }
-    ensures { result ≡ root_entry m w.now at span first.now k }
+    requires { CoefficientInput m.value w.now at span first.now k }
+    ensures { result ≡ root_entry m.value w.now at span first.now k }
 {
     let one = [1u32, 0];
     let second = at + span;
     products_at(
         m,
-        reciprocal,
         0,
         &w[at..at + span],
         &one,
@@ -78,11 +78,9 @@ fn expand_root(
     ensures { output.new ≡ plus_product m n (part w.now at span) (part w.now (at + span) span)
         first.now ++ drop n output.old }
 {
-    let reciprocal = reduction::reciprocal(m);
-    let mut k: usize = 0;
-    while k < n {
-        output[k] = root_coefficient(m, reciprocal, w, at, span, first, k);
-        k += 1;
+    let modulus = Modulus::new(m);
+    for k in 0..n {
+        output[k] = root_coefficient(modulus, w, at, span, first, k);
     }
 }
 
@@ -91,21 +89,10 @@ fn stretch(curve: &[u32], n: usize, first: usize, w: &mut [u32], at: usize, span
     requires { StretchInput curve.now n first w.old at span }
     ensures { w.new ≡ written w.old at (stretched span first (take n curve.now)) }
 {
-    let mut i: usize = 0;
-    while i < span {
+    for i in 0..span {
         let place = at + i;
         w[place] = row_entry(curve, n, first + i, 0);
-        i += 1;
     }
-}
-
-fn store_two(w: &mut [u32], at: usize, x: u32, y: u32)
-    requires { at + 2 ≤ length w.old }
-    ensures { w.new ≡ written w.old at (x ∷ y ∷ []) }
-{
-    let next = at + 1;
-    w[at] = x;
-    w[next] = y;
 }
 
 // Writes the pair of the root from place at on: the transposed products of the curve with F_0 = 1, which is the curve, and with
@@ -119,109 +106,153 @@ fn root_pair(m: u32, b: u32, a: u32, curve: &[u32], n: usize, w: &mut [u32], at:
     let behind = second + span;
     let onward = behind + 2;
     stretch(curve, n, 0, w, at, span);
-    store_two(w, behind, b, a);
+    store(w, behind, [b, a]);
     stretch(curve, n, 1, w, onward, span);
     transposed(m, w, second, span, behind, behind + 1, 1, at, onward, span);
 }
 
 // Expand with two entries at least: the tree is stored, the pairs climb it to the root, and the root's pair gives the coefficients. The
 // tree and that pair are left in the working list, for `expand` to clear.
-fn expand_tree(
-    m: u32,
-    a: &[u32],
-    b: &[u32],
-    c: &[u32],
-    curve: &[u32],
-    n: usize,
-    output: &mut [u32],
-    work: &mut [u32],
-)
-    requires { Input m a.now b.now c.now curve.now n output.old work.old × (2 ≤ n) }
-    ensures { TreeOutput tree_expand expand_vectors
-        (lent m (n - 1) a.now b.now c.now ones) (take n curve.now) n
-        output.old output.new work.old work.new }
+fn expand_tree(family: &Family, curve: &[u32], output: &mut [u32], work: &mut [u32])
+    requires curve { Curve family.now curve.now }
+    requires many { 2 ≤ length curve.now }
+    requires few { length curve.now ≤ 256 }
+    requires room { length output.old ≡ length curve.now }
+    requires work { work_length ≤ length work.old }
+    ensures { TreeOutput expand expand_vectors
+        family.now curve.now (length curve.now) output.old output.new work.old work.new }
 {
+    let m = family.modulus;
+    let n = curve.len();
     let level = level_for(n);
     let pairs = pairs_for(level);
-    let first = [b[0], a[0]];
-    build(m, a, b, c, n - 1, work, 0, level, pairs, 0);
+    let first = [family.b[0], family.a[0]];
+    build(
+        m,
+        family.a,
+        family.b,
+        family.c,
+        n - 1,
+        work,
+        0,
+        level,
+        pairs,
+        0,
+    );
     climb(m, curve, n, work, 0, 9212, level, pairs, 0);
     expand_root(m, work, 9212, pairs + pairs, &first, n, output);
 }
 
 // Adjoint with two entries at least: the tree is stored, and the root's pair descends it to the entries. The tree, that pair and the
 // entries are left in the working list, and scratch behind them, for `adjoint` to clear.
-fn adjoint_tree(
-    m: u32,
-    a: &[u32],
-    b: &[u32],
-    c: &[u32],
-    curve: &[u32],
-    n: usize,
-    output: &mut [u32],
-    work: &mut [u32],
-)
-    requires { Input m a.now b.now c.now curve.now n output.old work.old × (2 ≤ n) }
-    ensures { TreeOutput tree_adjoint adjoint_vectors
-        (lent m (n - 1) a.now b.now c.now ones) (take n curve.now) n
-        output.old output.new work.old work.new }
+fn adjoint_tree(family: &Family, curve: &[u32], output: &mut [u32], work: &mut [u32])
+    requires curve { Curve family.now curve.now }
+    requires many { 2 ≤ length curve.now }
+    requires few { length curve.now ≤ 256 }
+    requires room { length output.old ≡ length curve.now }
+    requires work { work_length ≤ length work.old }
+    ensures { TreeOutput adjoint adjoint_vectors
+        family.now curve.now (length curve.now) output.old output.new work.old work.new }
 {
+    let m = family.modulus;
+    let n = curve.len();
     let level = level_for(n);
     let pairs = pairs_for(level);
     let second = 9212 + (pairs + pairs);
     let at = second + (pairs + pairs);
-    build(m, a, b, c, n - 1, work, 0, level, pairs, 0);
-    root_pair(m, b[0], a[0], curve, n, work, 9212, pairs + pairs);
+    build(
+        m,
+        family.a,
+        family.b,
+        family.c,
+        n - 1,
+        work,
+        0,
+        level,
+        pairs,
+        0,
+    );
+    root_pair(
+        m,
+        family.b[0],
+        family.a[0],
+        curve,
+        n,
+        work,
+        9212,
+        pairs + pairs,
+    );
     descend(m, work, 0, 9212, second, at, level, pairs);
     copy(&work[at..], n, output);
 }
 
-// Expand: the n first coefficients of the sum of the u_j F_j, from n - 1 rows and n entries of a curve. Up to n = 256 the tree fits.
-pub fn expand(
-    m: u32,
-    a: &[u32],
-    b: &[u32],
-    c: &[u32],
-    curve: &[u32],
-    n: usize,
-    output: &mut [u32],
-    work: &mut [u32],
-)
-    requires { Input m a.now b.now c.now curve.now n output.old work.old }
-    ensures { Output
-        (tree_expand (lent m (n - 1) a.now b.now c.now ones) (take n curve.now)) n
-        output.old output.new work.old work.new }
+// Expand: the coefficients of the sum of the u_j F_j. Up to 256 entries the tree fits.
+pub fn expand(family: &Family, curve: &[u32], output: &mut [u32], work: &mut [u32])
+    requires curve { Curve family.now curve.now }
+    requires few { length curve.now ≤ 256 }
+    requires room { length output.old ≡ length curve.now }
+    requires work { work_length ≤ length work.old }
+    ensures written { output.new ≡ expand family.now curve.now }
+    ensures wiped { work.new ≡ cleared work.old }
 {
-    if n == 1 {
-        output[0] = curve[0] % m;
+    if curve.len() == 1 {
+        output[0] = curve[0] % family.modulus;
         clear(work);
         return;
     }
-    expand_tree(m, a, b, c, curve, n, output, work);
+    expand_tree(family, curve, output, work);
     clear(work);
 }
 
-// Adjoint: entry j is the sum over i of u_i times the coefficient of x^i in F_j, for j below n.
-pub fn adjoint(
-    m: u32,
-    a: &[u32],
-    b: &[u32],
-    c: &[u32],
-    curve: &[u32],
-    n: usize,
-    output: &mut [u32],
-    work: &mut [u32],
-)
-    requires { Input m a.now b.now c.now curve.now n output.old work.old }
-    ensures { Output
-        (tree_adjoint (lent m (n - 1) a.now b.now c.now ones) (take n curve.now)) n
-        output.old output.new work.old work.new }
+// Adjoint: entry j is the sum over i of u_i times the coefficient of x^i in F_j.
+pub fn adjoint(family: &Family, curve: &[u32], output: &mut [u32], work: &mut [u32])
+    requires curve { Curve family.now curve.now }
+    requires few { length curve.now ≤ 256 }
+    requires room { length output.old ≡ length curve.now }
+    requires work { work_length ≤ length work.old }
+    ensures written { output.new ≡ adjoint family.now curve.now }
+    ensures wiped { work.new ≡ cleared work.old }
 {
-    if n == 1 {
-        output[0] = curve[0] % m;
+    if curve.len() == 1 {
+        output[0] = curve[0] % family.modulus;
         clear(work);
         return;
     }
-    adjoint_tree(m, a, b, c, curve, n, output, work);
+    adjoint_tree(family, curve, output, work);
     clear(work);
+}
+
+// A conversion by the tree, on input that is already checked.
+pub trait Conversion {
+    ghost converted: { definition.Family → List ℕ → List ℕ };
+
+    fn convert(family: &Family, curve: &[u32], output: &mut [u32], work: &mut [u32])
+        requires curve { Curve family.now curve.now }
+        requires few { length curve.now ≤ 256 }
+        requires room { length output.old ≡ length curve.now }
+        requires work { work_length ≤ length work.old }
+        ensures written { output.new ≡ converted family.now curve.now }
+        ensures wiped { work.new ≡ cleared work.old };
+}
+
+#[derive(Clone, Copy)]
+pub struct Expanding;
+
+impl Conversion for Expanding {
+    ghost converted = { expand };
+
+    fn convert(family: &Family, curve: &[u32], output: &mut [u32], work: &mut [u32]) {
+        expand(family, curve, output, work);
+    }
+}
+
+#[derive(Clone, Copy)]
+pub struct Adjoining;
+
+impl Conversion for Adjoining {
+    ghost converted = { adjoint };
+
+    fn convert(family: &Family, curve: &[u32], output: &mut [u32], work: &mut [u32]) {
+        adjoint(family, curve, output, work);
+    }
 }

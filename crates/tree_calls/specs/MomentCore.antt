@@ -1,12 +1,11 @@
 -- The cores of the moments and of Decompose by the tree way: lent the inverses of the a, and Decompose those of the c from row 2 on.
 -- Proved: what they ask follows from an accepted input, and what the moments' core leaves is the definition's list. Assumes nothing.
-use Rattle.std.specs.Prelude.{◌≡◌, List, [], ℕ, ◌+◌, ◌*◌, ◌-◌, length}
+use Rattle.std.specs.Prelude.{◌≡◌, List, [], ℕ, ◌+◌, ◌*◌, ◌-◌, length, Ok}
 use Rattle.std.proofs.Common.{ap, arith}
-use Rattle.definitions.specs.Answers.{answered, MomentsCall}
+use Rattle.definitions.specs.Answers.{Answer, answered, MomentsCall}
 use Rattle.definitions.specs.Family.{Family, Accepted, family, ones}
 use Rattle.definitions.specs.Orthogonality.{moments}
 use Rattle.definitions.specs.Refusals.{verdict, moments_tests}
-use Rattle.definitions.specs.declared.Answer.{Answer}
 use Rattle.acceptance.specs.Acceptance.{MomentsInput, TreeInput, moments-passes}
 use Rattle.acceptance.specs.Promises.{both-made}
 use Rattle.acceptance.specs.Stages.{stage-none}
@@ -17,7 +16,7 @@ use Rattle.lists.specs.Whole.{accepted-long, accepted-lent, lent-family, curve-h
 use Rattle.moment_way.specs.Input.{MomentsCoreInput, DecomposeInput, accepted-moments, accepted-decompose}
 
 pub moments-accepted : {f : Family} {output work : ℕ} {r : Answer} → answered r ≡ verdict (moments_tests f output work) []
-    → r ≡ Answer.Finished → MomentsInput f output work
+    → r ≡ Ok tt → MomentsInput f output work
 moments-accepted {f} {output} {work} {r} e q =
     (moments-passes f output work).0 (stage-none (moments_tests f output work) r e q)
 
@@ -37,8 +36,8 @@ module _ {m : ℕ} {a b c : List ℕ} (accepted : Accepted (family m a b c)) {v 
 
 pub moments-made : {m : ℕ} {a b c output work : List ℕ} → MomentsInput (family m a b c) (length output) (length work)
     → {r : Answer} {output' work' : List ℕ}
-    → answered r ≡ verdict (moments_tests (family m a b c) (length output) (length work)) [] → r ≡ Answer.Finished
+    → answered r ≡ verdict (moments_tests (family m a b c) (length output) (length work)) [] → r ≡ Ok tt
     → Output (moments (lent m (length a + 1 - 1) a b c ones)) (2 * (length a + 1) - 1) output output' work work'
-    → MomentsCall (family m a b c) (answered Answer.Finished) output output' work work'
+    → MomentsCall (family m a b c) (answered (Ok tt)) output output' work work'
 moments-made {a = a} input e q left =
     both-made e q (output-whole left (omega (arith, input.output_length)) (ap moments (lent-family input.accepted))) left.wiped

@@ -1,13 +1,12 @@
 -- A call on a curve by the tree way.
 -- Proved: from the verdict of the tests to what the tree's cores are handed, and from their list, which is the model's, to the
 -- definition's. Assumes nothing.
-use Rattle.std.specs.Prelude.{◌≡◌, List, [], ℕ, suc, ◌+◌, ◌-◌, length, take}
+use Rattle.std.specs.Prelude.{◌≡◌, List, [], ℕ, suc, ◌+◌, ◌-◌, length, take, Ok}
 use Rattle.std.proofs.Common.{◌∙◌, ap₂, arith, take_all}
-use Rattle.definitions.specs.Answers.{answered, TreeCall}
+use Rattle.definitions.specs.Answers.{Answer, answered, TreeCall}
 use Rattle.definitions.specs.Conversion.{expand, adjoint}
 use Rattle.definitions.specs.Family.{Family, family, ones}
 use Rattle.definitions.specs.Refusals.{verdict, tree_tests}
-use Rattle.definitions.specs.declared.Answer.{Answer}
 use Rattle.acceptance.specs.Acceptance.{TreeInput, tree-passes}
 use Rattle.acceptance.specs.Promises.{both-made}
 use Rattle.acceptance.specs.Stages.{stage-none}
@@ -20,7 +19,7 @@ use Rattle.tree.specs.Input.{Input, accepted-input}
 use Rattle.lists.specs.Whole.{accepted-long, accepted-lent, lent-family, curve-held, output-whole}
 
 pub tree-input : {f : Family} {u : List ℕ} {output work : ℕ} {r : Answer} → answered r ≡ verdict (tree_tests f u output work) []
-    → r ≡ Answer.Finished → TreeInput f u output work
+    → r ≡ Ok tt → TreeInput f u output work
 tree-input {f} {u} {output} {work} {r} e q = (tree-passes f u output work).0 (stage-none (tree_tests f u output work) r e q)
 
 module _ {m : ℕ} {a b c u output work : List ℕ} (input : TreeInput (family m a b c) u (length output) (length work)) where
@@ -32,9 +31,9 @@ module _ {m : ℕ} {a b c u output work : List ℕ} (input : TreeInput (family m
   -- way: what the core computes, which on this input is what is asked for
   pub tree-made : (way convert : Family → List ℕ → List ℕ) → way (family m a b c) u ≡ convert (family m a b c) u
       → {r : Answer} {output' work' : List ℕ}
-      → answered r ≡ verdict (tree_tests (family m a b c) u (length output) (length work)) [] → r ≡ Answer.Finished
+      → answered r ≡ verdict (tree_tests (family m a b c) u (length output) (length work)) [] → r ≡ Ok tt
       → Output (way (lent m (length a + 1 - 1) a b c ones) (take (length a + 1) u)) (length a + 1) output output' work work'
-      → TreeCall convert (family m a b c) u (answered Answer.Finished) output output' work work'
+      → TreeCall convert (family m a b c) u (answered (Ok tt)) output output' work work'
   tree-made way convert same e q left =
       let long : length u ≡ suc (length a) = input.plain.curve.long in
       both-made e q (output-whole left (omega (arith, input.plain.output_length))

@@ -6,7 +6,34 @@ ghost use Rattle.definitions.specs.Answers.{answered, TreeCall, MomentsCall};
 ghost use Rattle.definitions.specs.Conversion.{expand, adjoint, decompose};
 ghost use Rattle.definitions.specs.Family.{family};
 
-use definitions::Answer;
+use definitions::Refusal;
+use lists::{Family, zeros};
+use moment_way::Inverted;
+use tree::{Adjoining, Conversion, Expanding};
+
+// A conversion by the tree: its tests, and then its core.
+fn call<C: Conversion>(
+    m: u32,
+    a: &[u32],
+    b: &[u32],
+    c: &[u32],
+    curve: &[u32],
+    output: &mut [u32],
+    work: &mut [u32],
+) -> Result<(), Refusal>
+    ensures { TreeCall C.converted (family m a.now b.now c.now) curve.now (answered result)
+        output.old output.new work.old work.new }
+{
+    verdicts::tree(m, a, b, c, curve, output.len(), work.len())?;
+    let family = Family {
+        modulus: m,
+        a,
+        b,
+        c,
+    };
+    C::convert(&family, curve, output, work);
+    Ok(())
+}
 
 // Expand by the subproduct tree (Figure 1 of the report): the same list as plain_expand's. After an accepted call the first 16,384
 // numbers of the working list are zero. Refused as plain_expand is, and with 8: the working list is too short.
@@ -18,16 +45,11 @@ pub fn tree_expand(
     curve: &[u32],
     output: &mut [u32],
     work: &mut [u32],
-) -> Answer
+) -> Result<(), Refusal>
     ensures { TreeCall expand (family m a.now b.now c.now) curve.now (answered result)
         output.old output.new work.old work.new }
 {
-    let tested = verdicts::tree(m, a, b, c, curve, output.len(), work.len());
-    let Answer::Finished = tested else {
-        return tested;
-    };
-    tree::expand(m, a, b, c, curve, a.len() + 1, output, work);
-    Answer::Finished
+    call::<Expanding>(m, a, b, c, curve, output, work)
 }
 
 // Adjoint by the subproduct tree (Figure 2 of the report): the same list as plain_adjoint's. The working list and the refusals are as
@@ -40,16 +62,11 @@ pub fn tree_adjoint(
     curve: &[u32],
     output: &mut [u32],
     work: &mut [u32],
-) -> Answer
+) -> Result<(), Refusal>
     ensures { TreeCall adjoint (family m a.now b.now c.now) curve.now (answered result)
         output.old output.new work.old work.new }
 {
-    let tested = verdicts::tree(m, a, b, c, curve, output.len(), work.len());
-    let Answer::Finished = tested else {
-        return tested;
-    };
-    tree::adjoint(m, a, b, c, curve, a.len() + 1, output, work);
-    Answer::Finished
+    call::<Adjoining>(m, a, b, c, curve, output, work)
 }
 
 // Decompose by the moments and the subproduct tree (Figure 3 of the report): the same list as plain_decompose's. The working list
@@ -62,36 +79,25 @@ pub fn tree_decompose(
     coefficients: &[u32],
     output: &mut [u32],
     work: &mut [u32],
-) -> Answer
+) -> Result<(), Refusal>
     ensures { TreeCall decompose (family m a.now b.now c.now) coefficients.now (answered result)
         output.old output.new work.old work.new }
 {
-    let tested = verdicts::tree(m, a, b, c, coefficients, output.len(), work.len());
-    let Answer::Finished = tested else {
-        return tested;
-    };
-    let mut a_inverses = lists::zeros();
-    inverses::of_list(m, a, 0, a.len(), &mut a_inverses);
-    let mut c_inverses = lists::zeros();
-    inverses::of_list(m, c, 1, a.len(), &mut c_inverses);
-    moment_way::decompose(
-        m,
+    verdicts::tree(m, a, b, c, coefficients, output.len(), work.len())?;
+    let rows = a.len();
+    let mut a_inverses = zeros::<128>();
+    inverses::of_list(m, a, 0, rows, &mut a_inverses);
+    let mut c_inverses = zeros::<128>();
+    inverses::of_list(m, c, 1, rows, &mut c_inverses);
+    let family = Family {
+        modulus: m,
         a,
         b,
         c,
-        &a_inverses,
-        &c_inverses,
-        1,
-        1,
-        1,
-        1,
-        1,
-        coefficients,
-        a.len() + 1,
-        output,
-        work,
-    );
-    Answer::Finished
+    };
+    let inverted = Inverted::by_ones(family, &a_inverses);
+    moment_way::decompose(&inverted, &c_inverses, 1, coefficients, output, work);
+    Ok(())
 }
 
 // Moments: the 2n - 1 first coefficients of rev(G_{n-1}, n) / rev(F_n, n + 1), with the closing row 1 1 1 as row n. The working list is
@@ -104,29 +110,20 @@ pub fn moments(
     c: &[u32],
     output: &mut [u32],
     work: &mut [u32],
-) -> Answer
+) -> Result<(), Refusal>
     ensures { MomentsCall (family m a.now b.now c.now) (answered result)
         output.old output.new work.old work.new }
 {
-    let tested = verdicts::moments(m, a, b, c, output.len(), work.len());
-    let Answer::Finished = tested else {
-        return tested;
-    };
-    let mut a_inverses = lists::zeros();
+    verdicts::moments(m, a, b, c, output.len(), work.len())?;
+    let mut a_inverses = zeros::<128>();
     inverses::of_list(m, a, 0, a.len(), &mut a_inverses);
-    moment_way::moments(
-        m,
+    let family = Family {
+        modulus: m,
         a,
         b,
         c,
-        &a_inverses,
-        1,
-        1,
-        1,
-        1,
-        a.len() + 1,
-        output,
-        work,
-    );
-    Answer::Finished
+    };
+    let inverted = Inverted::by_ones(family, &a_inverses);
+    moment_way::moments(&inverted, output, work);
+    Ok(())
 }

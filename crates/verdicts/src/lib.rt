@@ -1,4 +1,4 @@
-// All tests of a call in their order, as its one verdict: the call goes on where the answer is Finished, and hands a refusal on.
+// All tests of a call in their order, as its one verdict: the call goes on where it is Ok, and hands a refusal on.
 #![tactic(auto)]
 
 ghost use Rattle.std.specs.Prelude.{◌≡◌, [], ◌≤◌, length};
@@ -10,10 +10,10 @@ ghost use Rattle.definitions.specs.TextCall.{curve_count, length_tests, size_tes
 ghost use Rattle.definitions.specs.JobWriting.{written_job, writing_tests};
 ghost use Rattle.checks.specs.Shape.{Shaped};
 
-use definitions::{Answer, InverseAnswer, Operation};
+use definitions::{NotInverted, Operation, Refusal};
 
 // 9, 17, 10, 18 and 11 of the rows of three lists, closed by 1 1 1.
-fn rows(m: u32, a: &[u32], b: &[u32], c: &[u32]) -> Answer
+fn rows(m: u32, a: &[u32], b: &[u32], c: &[u32]) -> Result<(), Refusal>
     requires { Shaped m (length a.now) (length b.now) (length c.now) }
     ensures { answered result ≡ verdict (family_rows (family m a.now b.now c.now)) [] }
 {
@@ -22,13 +22,13 @@ fn rows(m: u32, a: &[u32], b: &[u32], c: &[u32]) -> Answer
 
 // And 12 of a curve.
 #[tactic(auto, using(checks::specs::Shape::shaped), unfolding(definitions::specs::Refusals::verdict, definitions::specs::Refusals::value_tests, definitions::specs::Refusals::family_rows, definitions::specs::Refusals::row_inverses))]
-fn values(m: u32, a: &[u32], b: &[u32], c: &[u32], curve: &[u32]) -> Answer
+fn values(m: u32, a: &[u32], b: &[u32], c: &[u32], curve: &[u32]) -> Result<(), Refusal>
     requires { Shaped m (length a.now) (length b.now) (length c.now) }
     ensures { answered result ≡ verdict
         (value_tests (family m a.now b.now c.now) curve.now) [] }
 {
     let family = rows(m, a, b, c);
-    let Answer::Finished = family else {
+    let Ok(()) = family else {
         return family;
     };
     checks::curve_entries(m, curve)
@@ -36,20 +36,20 @@ fn values(m: u32, a: &[u32], b: &[u32], c: &[u32], curve: &[u32]) -> Answer
 
 // Expand, Adjoint and Decompose by the plain way: 3 4 5 6 7 9 17 10 18 11 12.
 #[tactic(auto, using(checks::specs::Shape::shaped), unfolding(definitions::specs::Refusals::verdict, definitions::specs::Refusals::plain_tests, definitions::specs::Refusals::shape_tests))]
-pub fn plain(m: u32, a: &[u32], b: &[u32], c: &[u32], curve: &[u32], output: usize) -> Answer
+pub fn plain(m: u32, a: &[u32], b: &[u32], c: &[u32], curve: &[u32], output: usize) -> Result<(), Refusal>
     ensures { answered result ≡ verdict
         (plain_tests (family m a.now b.now c.now) curve.now output) [] }
 {
     let shape = checks::family_shape(m, a.len(), b.len(), c.len());
-    let Answer::Finished = shape else {
+    let Ok(()) = shape else {
         return shape;
     };
     let entries = checks::curve_length(a.len() + 1, curve.len());
-    let Answer::Finished = entries else {
+    let Ok(()) = entries else {
         return entries;
     };
     let place = checks::output_length(a.len() + 1, output);
-    let Answer::Finished = place else {
+    let Ok(()) = place else {
         return place;
     };
     values(m, a, b, c, curve)
@@ -65,24 +65,24 @@ pub fn tree(
     curve: &[u32],
     output: usize,
     work: usize,
-) -> Answer
+) -> Result<(), Refusal>
     ensures { answered result ≡ verdict
         (tree_tests (family m a.now b.now c.now) curve.now output work) [] }
 {
     let shape = checks::family_shape(m, a.len(), b.len(), c.len());
-    let Answer::Finished = shape else {
+    let Ok(()) = shape else {
         return shape;
     };
     let entries = checks::curve_length(a.len() + 1, curve.len());
-    let Answer::Finished = entries else {
+    let Ok(()) = entries else {
         return entries;
     };
     let place = checks::output_length(a.len() + 1, output);
-    let Answer::Finished = place else {
+    let Ok(()) = place else {
         return place;
     };
     let room = checks::work_length(work);
-    let Answer::Finished = room else {
+    let Ok(()) = room else {
         return room;
     };
     values(m, a, b, c, curve)
@@ -90,16 +90,16 @@ pub fn tree(
 
 // Norms: 3 4 5 7 9 17 10 18 11.
 #[tactic(auto, using(checks::specs::Shape::shaped), unfolding(definitions::specs::Refusals::verdict, definitions::specs::Refusals::norms_tests, definitions::specs::Refusals::shape_tests))]
-pub fn norms(m: u32, a: &[u32], b: &[u32], c: &[u32], output: usize) -> Answer
+pub fn norms(m: u32, a: &[u32], b: &[u32], c: &[u32], output: usize) -> Result<(), Refusal>
     ensures { answered result ≡ verdict
         (norms_tests (family m a.now b.now c.now) output) [] }
 {
     let shape = checks::family_shape(m, a.len(), b.len(), c.len());
-    let Answer::Finished = shape else {
+    let Ok(()) = shape else {
         return shape;
     };
     let place = checks::output_length(a.len() + 1, output);
-    let Answer::Finished = place else {
+    let Ok(()) = place else {
         return place;
     };
     rows(m, a, b, c)
@@ -107,20 +107,20 @@ pub fn norms(m: u32, a: &[u32], b: &[u32], c: &[u32], output: usize) -> Answer
 
 // Moments: 3 4 5 7 8 9 17 10 18 11.
 #[tactic(auto, using(checks::specs::Shape::shaped), unfolding(definitions::specs::Refusals::verdict, definitions::specs::Refusals::moments_tests, definitions::specs::Refusals::shape_tests))]
-pub fn moments(m: u32, a: &[u32], b: &[u32], c: &[u32], output: usize, work: usize) -> Answer
+pub fn moments(m: u32, a: &[u32], b: &[u32], c: &[u32], output: usize, work: usize) -> Result<(), Refusal>
     ensures { answered result ≡ verdict
         (moments_tests (family m a.now b.now c.now) output work) [] }
 {
     let shape = checks::family_shape(m, a.len(), b.len(), c.len());
-    let Answer::Finished = shape else {
+    let Ok(()) = shape else {
         return shape;
     };
     let place = checks::output_length(2 * a.len() + 1, output);
-    let Answer::Finished = place else {
+    let Ok(()) = place else {
         return place;
     };
     let room = checks::work_length(work);
-    let Answer::Finished = room else {
+    let Ok(()) = room else {
         return room;
     };
     rows(m, a, b, c)
@@ -152,15 +152,15 @@ fn lengths(
     curve: usize,
     least: usize,
     output: usize,
-) -> Answer
+) -> Result<(), Refusal>
     ensures { answered result ≡ verdict (length_tests m operation a b c curve least output) [] }
 {
     let shape = checks::family_shape(m, a, b, c);
-    let Answer::Finished = shape else {
+    let Ok(()) = shape else {
         return shape;
     };
     let entries = checks::curve_length(curve_count(operation, a), curve);
-    let Answer::Finished = entries else {
+    let Ok(()) = entries else {
         return entries;
     };
     checks::text_output_length(least, output)
@@ -177,11 +177,11 @@ pub fn sizes(
     curve: usize,
     output: usize,
     work: usize,
-) -> Answer
+) -> Result<(), Refusal>
     ensures { answered result ≡ verdict (size_tests m operation a b c curve output work) [] }
 {
     let job = lengths(m, operation, a, b, c, curve, 4096, output);
-    let Answer::Finished = job else {
+    let Ok(()) = job else {
         return job;
     };
     checks::work_length(work)
@@ -197,7 +197,7 @@ pub fn writing(
     operation: Operation,
     curve: &[u32],
     output: usize,
-) -> Answer
+) -> Result<(), Refusal>
     ensures { answered result ≡ verdict
         (writing_tests (meant (written_job m a.now b.now c.now operation curve.now)) output) [] }
 {
@@ -211,26 +211,20 @@ pub fn writing(
         8192,
         output,
     );
-    let Answer::Finished = job else {
+    let Ok(()) = job else {
         return job;
     };
     values(m, a, b, c, curve)
 }
 
 // Inverse: 3 12 13, with the inverse where none of them holds, and the greatest common factor there and with 13.
-pub fn inverse(m: u32, x: u32) -> InverseAnswer
+pub fn inverse(m: u32, x: u32) -> Result<u32, NotInverted>
     ensures { InverseCall m x (inverse_answered result) [] (inverse_handed result) [] (factor_handed result) }
 {
-    let range = checks::modulus(m);
-    if let Answer::Refused(k) = range {
-        return InverseAnswer::Refused(k);
-    }
-    let below = checks::number_below(m, x);
-    if let Answer::Refused(k) = below {
-        return InverseAnswer::Refused(k);
-    }
+    checks::modulus(m)?;
+    checks::number_below(m, x)?;
     match residue::invert(m, x) {
-        Ok(y) => InverseAnswer::Found(y, 1),
-        Err(shared) => InverseAnswer::NoInverse(shared.factor),
+        Ok(y) => Ok(y),
+        Err(shared) => Err(NotInverted::Shares { factor: shared.factor }),
     }
 }

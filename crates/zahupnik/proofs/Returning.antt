@@ -5,10 +5,10 @@
 --   Inverse, whether it finishes, finds no inverse or refuses before that
 --   the text call, and the call that writes a job, whether its number names an operation or not
 -- These rest on `returned`, which an edit of specs/ changes. Assumes nothing.
-use Rattle.std.specs.Prelude.{◌≡◌, Bool, true, false, List, [], ◌∷◌, ◌++◌, ℕ, zero, suc, ◌<◌, ◌≤◌, eqb, ℤ, length, drop}
+use Rattle.std.specs.Prelude.{◌≡◌, Bool, true, false, List, [], ◌∷◌, ◌++◌, ℕ, zero, suc, ◌<◌, ◌≤◌, eqb, ℤ, length, drop, Ok, Err}
 use Rattle.std.proofs.Math.Path.{refl}
 use Rattle.std.proofs.Common.{sym, ◌∙◌, ap, subst, arith}
-use Rattle.definitions.specs.Answers.{valued, inverse_answered, inverse_handed, factor_handed, after, cleared, Converted, ConvertedIn}
+use Rattle.definitions.specs.Answers.{Valued, InverseAnswer, valued, inverse_answered, inverse_handed, factor_handed, after, cleared, Converted, ConvertedIn}
 use Rattle.definitions.specs.Answers.{InverseCall}
 use Rattle.definitions.specs.Number.{greatest_factor}
 use Rattle.definitions.specs.Prepared.{Prepared, Changed, handed_back}
@@ -16,9 +16,7 @@ use Rattle.definitions.specs.Refusals.{Test, Verdict, finished, refused, verdict
 use Rattle.definitions.specs.Text.{WrittenJob, meant, job_text}
 use Rattle.definitions.specs.TextCall.{text_tests, reply, TextConverted}
 use Rattle.definitions.specs.JobWriting.{writing_tests, JobWritten}
-use Rattle.definitions.specs.declared.InverseAnswer.{InverseAnswer}
 use Rattle.definitions.specs.declared.Operation.{Operation}
-use Rattle.definitions.specs.declared.Valued.{Valued}
 use Rattle.joining.specs.Calls.{WholesHanded}
 use Rattle.acceptance.specs.Given.{revalued, refused-given}
 use Rattle.acceptance.specs.Verdicts.{refused-not-finished, verdict-next, with_values, verdict-values}
@@ -179,14 +177,14 @@ module _ (job : Operation → WrittenJob) (k : ℕ) (output : List ℕ) (count :
     passed : valued r ≡ verdict tests (length (job_text (job operation)) ∷ [])
     passed = written.answer ∙ sym (verdict-next (test 2 false) _ _ refl)
 
-    pub length-returned : (n : ℕ) → r ≡ Valued.Value n → JobReturned job k 0 output output' count n
+    pub length-returned : (n : ℕ) → r ≡ Ok n → JobReturned job k 0 output output' count n
     unfolding chosen_tests chosen_text
     length-returned n q = record {
       text = rw named (valued-returned tests positive _ r passed 0 (sym (ap (λ v. number (valued v)) q)) _ output output' written.written);
       counted = rw named (value-returned tests positive _ count n (sym (ap valued q) ∙ passed));
     }
 
-    pub job-refusal-returned : (j : ℕ) → r ≡ Valued.Refused j → JobReturned job k j output output' count count
+    pub job-refusal-returned : (j : ℕ) → r ≡ Err j → JobReturned job k j output output' count count
     unfolding chosen_tests chosen_text
     job-refusal-returned j q = record {
       text = rw named (valued-returned tests positive _ r passed j (sym (ap (λ v. number (valued v)) q)) _ output output' written.written);

@@ -16,7 +16,7 @@ ghost use Rattle.storing.specs.Calls.{OrderCall};
 ghost use Rattle.storing.specs.declared.Direction.{Direction};
 ghost use Rattle.zahupnik.specs.Returned.{returned, number, TextReturned, choice, job_for, JobReturned};
 
-use definitions::{Answer, InverseAnswer, Operation, Valued};
+use definitions::{Operation, Refusal};
 use prepared::{Change, Prepared};
 
 // What a number names: an operation of a job, or nothing.
@@ -35,12 +35,12 @@ pub struct NumberedChange {
 }
 
 // 0 for the finished kind, and a refusal's number.
-fn number(answer: Answer) -> u32
+fn number(answer: Result<(), Refusal>) -> u32
     ensures { result ≡ number (answered answer) }
 {
     match answer {
-        Answer::Finished => 0,
-        Answer::Refused(k) => k,
+        Ok(()) => 0,
+        Err(k) => k,
     }
 }
 
@@ -68,7 +68,7 @@ pub extern "C" fn zahupnik_invert(m: u32, x: u32, inverse: &mut u32, factor: &mu
             *factor = g;
             13
         }
-        InverseAnswer::Refused(k) => k,
+        Err(k) => k,
     }
 }
 
@@ -208,11 +208,11 @@ pub extern "C" fn zahupnik_convert_text(
         output.old output.new work.old work.new count.old count.new }
 {
     match job::convert_text(text, output, work) {
-        Valued::Value(bytes) => {
+        Ok(bytes) => {
             *count = bytes;
             0
         }
-        Valued::Refused(k) => k,
+        Err(k) => k,
     }
 }
 
@@ -251,11 +251,11 @@ pub extern "C" fn zahupnik_write_job(
         return 2;
     };
     match job::write_job(m, a, b, c, named, curve, output) {
-        Valued::Value(bytes) => {
+        Ok(bytes) => {
             *count = bytes;
             0
         }
-        Valued::Refused(k) => k,
+        Err(k) => k,
     }
 }
 

@@ -8,12 +8,12 @@ use Rattle.checks.proofs.column.Goals as goal
 pub returns-in_default-reason : goal.returns-in_default-reason
 returns-in_default-reason c =
     pass-zero _ _ _ _ _ _ _ c.requires.0 _ c.saturating_sub.ensures c.requires.1 _ c.invertible-factors.ensures _ _
-    c.in-Without.is c.in_default-reason.is
+    c.in-Some.is c.in_default-reason.is
 
-pub returns-in-Without : goal.returns-in-Without
-returns-in-Without c =
+pub returns-in-Some : goal.returns-in-Some
+returns-in-Some c =
     pass-shared _ _ _ _ _ _ _ c.requires.0 _ c.saturating_sub.ensures c.requires.1 _ c.invertible-factors.ensures
-    _ _ _ c.in-Without.is c.in-Shared.is
+    _ _ _ c.in-Some.is c.in-Shared.is
 
 pub returns-then-r-first : goal.returns-then-r-first
 returns-then-r-first c =

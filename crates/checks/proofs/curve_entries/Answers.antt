@@ -11,4 +11,4 @@ returns-in_default c = refuses-alone _ Iff.rfl (one-not-below _ _ _ _ c.in_defau
 
 pub returns : goal.returns
 unfolding curve_entries_test
-returns c = finishes _ Iff.rfl (all-below _ _ _ c.in-Residues.is c.entries_below.ensures)
+returns c = finishes _ Iff.rfl (all-below _ _ _ c.in-None.is c.entries_below.ensures)

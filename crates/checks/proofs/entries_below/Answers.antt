@@ -1,14 +1,8 @@
 -- `entries_below` finds the first entry that is not below m, if there is one. Assumes nothing.
 use borrow.Author.Tests.{le-leb, lt-leb}
 use Rattle.definitions.specs.Refusals.{not_below}
-use Rattle.checks.specs.Passes.{passed-starts, passed-next, passed_first, passed-ends}
+use Rattle.checks.specs.Passes.{passed-next, passed_first, passed-ends}
 use Rattle.checks.proofs.entries_below.Goals as goal
-
-pub returns-then-all_below : goal.returns-then-all_below
-returns-then-all_below c = c.all_below.ensures c.if-all_below.true
-
-pub loop-i-init : goal.loop-i-init
-loop-i-init c = passed-starts _ _
 
 pub returns-then-m-x : goal.returns-then-m-x
 unfolding not_below

@@ -3,22 +3,13 @@
 use mathlib.Core.Path.{subst}
 use Rattle.definitions.specs.Number.{HasInverse}
 use Rattle.residue.specs.Inversion.{inverted-found, inverted-absent, found-has, found-passes, absent-fails}
-use Rattle.checks.specs.Passes.{passed-starts, passed-next, passed_first, passed-ends, all-by-product}
+use Rattle.checks.specs.Passes.{passed-next, passed_first, passed-ends, all-by-product}
 use Rattle.checks.proofs.invertible.Goals as goal
-
-pub invert-whole-requires : goal.invert-whole-requires
-invert-whole-requires c = tt
 
 pub returns-in_default : goal.returns-in_default
 returns-in_default c =
     all-by-product _ _ c.requires (subst (HasInverse _) c.running_product.ensures
     (found-has _ _ _ (inverted-found _ _ c.invert-whole.ensures c.in_default.is)))
-
-pub loop-i-init : goal.loop-i-init
-loop-i-init c = passed-starts _ _
-
-pub invert-inversion-requires : goal.invert-inversion-requires
-invert-inversion-requires c = tt
 
 pub returns-then-x-eq0 : goal.returns-then-x-eq0
 returns-then-x-eq0 c =

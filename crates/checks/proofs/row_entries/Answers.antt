@@ -54,8 +54,8 @@ returns-then-m-close_c c =
 pub returns : goal.returns
 returns c =
     finishes _ (entered-passes _ _ _ _ _ _ c.requires) (record {
-      in_a = all-below _ _ _ c.in-Residues.is c.entries_below.ensures;
-      in_b = all-below _ _ _ c.in-Residues-entries_below.is c.entries_below-2.ensures;
-      in_c = all-below _ _ _ c.in-Residues-entries_below-2.is c.entries_below-3.ensures;
+      in_a = all-below _ _ _ c.in-None.is c.entries_below.ensures;
+      in_b = all-below _ _ _ c.in-None-entries_below.is c.entries_below-2.ensures;
+      in_c = all-below _ _ _ c.in-None-entries_below-2.is c.entries_below-3.ensures;
       closing = record { a_below = c.if-m-close_a.false; b_below = c.if-m-close_b.false; c_below = c.if-m-close_c.false };
     })

@@ -26,4 +26,4 @@ returns-in_default-blamed c = λ b close_b.
 pub returns : goal.returns
 returns c = λ b close_b.
     stages-end _ (stage-passes _ _ (columns-remain _ _ _ _ _ _ _ c.requires.0 c.requires.1 c.requires.2 b close_b) _ c.column-blamed.ensures
-    c.in-Finished.is) c.column.result c.column.ensures
+    c.in-Ok.is) c.column.result c.column.ensures

@@ -9,5 +9,5 @@ use Rattle.expand_join.proofs.column.Goals as goal
 pub returns : goal.returns
 returns c =
     c.column.ensures
-    ∙ ap (λ ts. verdict ts []) (front-column c.args.m c.args.first c.args.list.now c.args.«zero» c.args.shared
+    ∙ ap (λ ts. verdict ts []) (front-column c.args.m c.args.first c.args.list.now _ _
     (drop (length c.args.list.now) c.zeros-x.result) _ c.reduce_list.ensures)

@@ -1,14 +1,19 @@
 -- `expand_channel` lends the remainders of rows and curve to the plain core. Assumes nothing.
-use mathlib.Core.Path.{refl}
-use Rattle.expand_join.specs.Channel.{channel-input, channel-result}
+use Rattle.expand_join.specs.Channel.{channel-lending, channel-curve, channel-made}
 use Rattle.expand_join.proofs.expand_channel.Goals as goal
 
-pub expand-requires : goal.expand-requires
-expand-requires c =
-    channel-input _ _ _ _ _ _ c.requires _ _ _ _ _ _ _ _ c.reduce_list.ensures c.reduce_list-2.ensures
-    c.reduce_list-3.ensures c.reduce_list-4.ensures _ refl
+pub invariant_of-family : goal.invariant_of-family
+invariant_of-family c =
+    channel-lending _ _ _ _ _ _ c.requires _ _ _ _ _ _ _ _ c.reduce_list.ensures c.reduce_list-2.ensures
+    c.reduce_list-3.ensures c.reduce_list-4.ensures
+
+pub expand-requires-clause-curve : goal.expand-requires-clause-curve
+expand-requires-clause-curve c =
+    channel-curve _ _ _ _ _ _ c.requires _ _ _ _ _ _ _ _ c.reduce_list.ensures c.reduce_list-2.ensures
+    c.reduce_list-3.ensures c.reduce_list-4.ensures
 
 pub returns : goal.returns
 returns c =
-    channel-result _ _ _ _ _ _ c.requires _ _ _ _ _ _ _ _ c.reduce_list.ensures c.reduce_list-2.ensures
-    c.reduce_list-3.ensures c.reduce_list-4.ensures _ _ c.expand.ensures
+    channel-made _ _ _ _ _ _ c.requires _ _ _ _ _ _ _ _ c.reduce_list.ensures c.reduce_list-2.ensures
+    c.reduce_list-3.ensures c.reduce_list-4.ensures
+    _ _ c.expand.ensures

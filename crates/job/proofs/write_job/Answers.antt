@@ -1,15 +1,16 @@
 -- `write_job` meets its promise: a refusal by its tests, or the job text. Assumes nothing.
+use Rattle.operations.specs.Lists.{handed-on}
 use Rattle.job.specs.Writing.{job-refused, job-room, job-written}
 use Rattle.job.proofs.write_job.Goals as goal
 
-pub returns-in_default : goal.returns-in_default
-returns-in_default c =
-    job-refused _ _ _ c.writing-tested.ensures _ c.in_default.is _ c.with_length.ensures
+pub returns-in_err-writing : goal.returns-in_err-writing
+returns-in_err-writing c =
+    job-refused _ _ _ c.writing.ensures _ c.in_err-writing.was _ (handed-on _ _ c.from_residual.ensures.1)
 
-pub write_text-length-requires : goal.write_text-length-requires
-write_text-length-requires c =
-    job-room _ _ _ c.writing-tested.ensures c.in-Finished.is
+pub write_text-requires : goal.write_text-requires
+write_text-requires c =
+    job-room _ _ _ c.writing.ensures c.in_ok-writing.was
 
 pub returns : goal.returns
 returns c =
-    job-written _ _ _ c.writing-tested.ensures c.in-Finished.is _ _ c.write_text-length.ensures
+    job-written _ _ _ c.writing.ensures c.in_ok-writing.was _ _ c.write_text.ensures

@@ -1,38 +1,31 @@
 -- `hand_out` meets its promise: each call keeps its own, whichever refuses. Assumes nothing.
+use mathlib.Core.Path.{sym, ◌∙◌}
+use Rattle.laws.specs.Ways.{handed-on}
 use Rattle.laws.specs.HandedOut.{first-refused, second-refused, third-refused, all-handed-out}
 use Rattle.laws.proofs.hand_out.Goals as goal
 
-pub returns-in_default : goal.returns-in_default
-returns-in_default c =
-    first-refused _ _ _ _ _ _ _ _ _
-    c.expand_by-one.ensures _
-    c.in_default.is
+pub returns-in_err-expand_by : goal.returns-in_err-expand_by
+returns-in_err-expand_by c =
+    rw (handed-on _ _ c.from_residual.ensures.1 ∙ sym c.in_err-expand_by.was)
+    (first-refused _ _ _ _ _ _ _ _ _ c.expand_by.ensures _ c.in_err-expand_by.was)
 
-pub returns-in_default-two : goal.returns-in_default-two
-returns-in_default-two c =
-    second-refused _ _ _ _ _ _ _ _ _
-    c.expand_by-one.ensures
-    c.in-Finished.is _ _ _
-    c.expand_by-two.ensures _
-    c.in_default-two.is
+pub returns-in_err-expand_by-2 : goal.returns-in_err-expand_by-2
+returns-in_err-expand_by-2 c =
+    rw (handed-on _ _ c.from_residual-in_err-expand_by-2.ensures.1 ∙ sym c.in_err-expand_by-2.was)
+    (second-refused _ _ _ _ _ _ _ _ _ c.expand_by.ensures c.in_ok-expand_by.was _ _ _ c.expand_by-2.ensures _ c.in_err-expand_by-2.was)
 
-pub returns-in_default-three : goal.returns-in_default-three
-returns-in_default-three c =
-    third-refused _ _ _ _ _ _ _ _ _
-    c.expand_by-one.ensures
-    c.in-Finished.is _ _ _
-    c.expand_by-two.ensures
-    c.in-Finished-two.is _ _ _
-    c.moments-three.ensures _
-    c.in_default-three.is
+pub returns-in_err-moments : goal.returns-in_err-moments
+returns-in_err-moments c =
+    rw (handed-on _ _ c.from_residual-in_err-moments.ensures.1 ∙ sym c.in_err-moments.was)
+    (third-refused _ _ _ _ _ _ _ _ _ c.expand_by.ensures c.in_ok-expand_by.was _ _ _ c.expand_by-2.ensures c.in_ok-expand_by-2.was _ _ _ c.moments.ensures _ c.in_err-moments.was)
 
 pub returns : goal.returns
 returns c =
     all-handed-out _ _ _ _ _ _ _ _ _
-    c.expand_by-one.ensures
-    c.in-Finished.is _ _ _
-    c.expand_by-two.ensures
-    c.in-Finished-two.is _ _ _
-    c.moments-three.ensures
-    c.in-Finished-three.is _ _
+    c.expand_by.ensures
+    c.in_ok-expand_by.was _ _ _
+    c.expand_by-2.ensures
+    c.in_ok-expand_by-2.was _ _ _
+    c.moments.ensures
+    c.in_ok-moments.was _ _
     c.norms.ensures

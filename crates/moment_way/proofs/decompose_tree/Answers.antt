@@ -1,65 +1,84 @@
 -- `decompose_tree` meets its contract: the moments and the coefficients in one list, the product of both, Adjoint, and the norms.
 -- Assumes nothing.
-use mathlib.Core.Path.{refl, sym}
-use Prim.Native.Nat.{◌-◌}
-use native.Mathlib.Omega.{arith}
-use lib.ListN.{take}
-use Rattle.definitions.specs.Family.{row_of}
+use Rattle.std.proofs.Common.{◌∙◌, refl, sym, ap, arith}
+use Rattle.definitions.specs.Answers.{cleared}
 use Rattle.definitions.specs.Orthogonality.{moments}
-use Rattle.lists.specs.Lent.{lent}
-use Rattle.moment_way.proofs.DecomposeByMoments.{decompose-moments, decompose-hankel, decompose-adjoint, decompose-divide, decompose-is}
-use Rattle.moment_way.specs.Hankel.{Weighed, halves, first-long, hankel-copy, second-long, hankel-used, hankel-places}
-use Rattle.moment_way.specs.Hankel.{hankel-weighed}
+use Rattle.lists.specs.Entries.{cleared-twice}
+use Rattle.moment_way.proofs.Steps.{second-length, used-room, places, adjoint-curve, divided-is}
+use Rattle.moment_way.proofs.Taken.{closed-lent, decompose-asked, decompose-whole}
 use Rattle.moment_way.proofs.decompose_tree.Goals as goal
-
-pub moments-requires : goal.moments-requires
-moments-requires c =
-    decompose-moments c.requires.0 c.requires.1 c.hankel_room-lists.ensures
-
-pub slice_bounds-lists-end-2 : goal.slice_bounds-lists-end-2
-slice_bounds-lists-end-2 c =
-    omega (arith, first-long c.hankel_room-lists.ensures ((decompose-hankel c.requires.0 c.requires.1)) c.moments.ensures.written refl)
-
-pub copy-requires : goal.copy-requires
-copy-requires c =
-    hankel-copy c.hankel_room-lists.ensures ((decompose-hankel c.requires.0 c.requires.1)) c.moments.ensures.written refl
 
 pub slice_bounds-used_length-end : goal.slice_bounds-used_length-end
 slice_bounds-used_length-end c =
-    sym (second-long c.hankel_room-lists.ensures ((decompose-hankel c.requires.0 c.requires.1)) c.moments.ensures.written refl
-    c.copy.ensures refl)
+    let lending = c.inverted-inside.invariant in
+    let beside = rw (← c.inverted-inside.view_is) at c.inverted.invariant in
+    let inverses = rw (← c.inverted-inside.view_is) at (rw (← c.inverted.view_is) at c.requires.inverses) in
+    let curve = rw (← c.inverted-inside.view_is) at (rw (← c.inverted.view_is) at c.requires.curve) in
+    let input = decompose-asked lending beside inverses curve c.requires.few c.requires.room c.requires.work in
+    let written = rw (← c.inverted-inside.view_is) at (rw (← c.inverted.view_is) at c.moments.ensures.written) in
+    let made = written ∙ ap moments (sym (closed-lent lending beside.closing (omega (arith, curve.long)) c.requires.few)) in
+    sym (second-length input c.requires.many c.zeros-lists.ensures made c.copy.ensures)
 
 pub used_length-used-requires : goal.used_length-used-requires
 used_length-used-requires c =
-    hankel-used c.hankel_room-lists.ensures ((decompose-hankel c.requires.0 c.requires.1)) c.moments.ensures.written refl c.copy.ensures refl
+    let lending = c.inverted-inside.invariant in
+    let beside = rw (← c.inverted-inside.view_is) at c.inverted.invariant in
+    let inverses = rw (← c.inverted-inside.view_is) at (rw (← c.inverted.view_is) at c.requires.inverses) in
+    let curve = rw (← c.inverted-inside.view_is) at (rw (← c.inverted.view_is) at c.requires.curve) in
+    let input = decompose-asked lending beside inverses curve c.requires.few c.requires.room c.requires.work in
+    let written = rw (← c.inverted-inside.view_is) at (rw (← c.inverted.view_is) at c.moments.ensures.written) in
+    let made = written ∙ ap moments (sym (closed-lent lending beside.closing (omega (arith, curve.long)) c.requires.few)) in
+    used-room input c.requires.many c.zeros-lists.ensures made c.copy.ensures
 
 pub slice_bounds-transposed-end : goal.slice_bounds-transposed-end
 slice_bounds-transposed-end c =
-    sym (second-long c.hankel_room-lists.ensures ((decompose-hankel c.requires.0 c.requires.1)) c.moments.ensures.written refl
-    c.copy.ensures refl)
-
-pub overflow_add-n : goal.overflow_add-n
-overflow_add-n c =
-    omega (arith, c.used_length-used.ensures.used.within, ((decompose-hankel c.requires.0 c.requires.1)).few)
+    let lending = c.inverted-inside.invariant in
+    let beside = rw (← c.inverted-inside.view_is) at c.inverted.invariant in
+    let inverses = rw (← c.inverted-inside.view_is) at (rw (← c.inverted.view_is) at c.requires.inverses) in
+    let curve = rw (← c.inverted-inside.view_is) at (rw (← c.inverted.view_is) at c.requires.curve) in
+    let input = decompose-asked lending beside inverses curve c.requires.few c.requires.room c.requires.work in
+    let written = rw (← c.inverted-inside.view_is) at (rw (← c.inverted.view_is) at c.moments.ensures.written) in
+    let made = written ∙ ap moments (sym (closed-lent lending beside.closing (omega (arith, curve.long)) c.requires.few)) in
+    sym (second-length input c.requires.many c.zeros-lists.ensures made c.copy.ensures)
 
 pub transposed-requires : goal.transposed-requires
 transposed-requires c =
-    hankel-places c.hankel_room-lists.ensures ((decompose-hankel c.requires.0 c.requires.1)) c.moments.ensures.written refl c.copy.ensures refl
-    c.used_length-used.ensures.used (halves _)
+    let lending = c.inverted-inside.invariant in
+    let beside = rw (← c.inverted-inside.view_is) at c.inverted.invariant in
+    let inverses = rw (← c.inverted-inside.view_is) at (rw (← c.inverted.view_is) at c.requires.inverses) in
+    let curve = rw (← c.inverted-inside.view_is) at (rw (← c.inverted.view_is) at c.requires.curve) in
+    let input = decompose-asked lending beside inverses curve c.requires.few c.requires.room c.requires.work in
+    let written = rw (← c.inverted-inside.view_is) at (rw (← c.inverted.view_is) at c.moments.ensures.written) in
+    let made = written ∙ ap moments (sym (closed-lent lending beside.closing (omega (arith, curve.long)) c.requires.few)) in
+    places input c.requires.many c.zeros-lists.ensures made c.copy.ensures c.used_length-used.ensures.used
 
-pub adjoint-requires : goal.adjoint-requires
-adjoint-requires c =
-    decompose-adjoint c.requires.0 c.requires.1 c.hankel_room-lists.ensures c.moments.ensures ((let weighed : Weighed c.args.m c.args.n (take c.args.n c.args.coefficients.now) (moments ((lent c.args.m (c.args.n - 1) c.args.a.now c.args.b.now c.args.c.now (row_of c.args.close_a c.args.close_b c.args.close_c)))) c.transposed.new.w = hankel-weighed c.hankel_room-lists.ensures ((decompose-hankel c.requires.0 c.requires.1)) c.moments.ensures.written refl c.copy.ensures refl
-    c.used_length-used.ensures.used (halves _) c.transposed.ensures in weighed))
+pub adjoint-requires-clause-curve : goal.adjoint-requires-clause-curve
+adjoint-requires-clause-curve c =
+    let lending = c.inverted-inside.invariant in
+    let beside = rw (← c.inverted-inside.view_is) at c.inverted.invariant in
+    let inverses = rw (← c.inverted-inside.view_is) at (rw (← c.inverted.view_is) at c.requires.inverses) in
+    let curve = rw (← c.inverted-inside.view_is) at (rw (← c.inverted.view_is) at c.requires.curve) in
+    let input = decompose-asked lending beside inverses curve c.requires.few c.requires.room c.requires.work in
+    let written = rw (← c.inverted-inside.view_is) at (rw (← c.inverted.view_is) at c.moments.ensures.written) in
+    let made = written ∙ ap moments (sym (closed-lent lending beside.closing (omega (arith, curve.long)) c.requires.few)) in
+    rw (← c.inverted-inside.view_is) (adjoint-curve input c.requires.many c.zeros-lists.ensures made c.copy.ensures c.used_length-used.ensures.used
+    lending (omega (arith, curve.long)) c.requires.room c.moments.ensures.wiped c.transposed.ensures)
 
-pub divide_by_norms-requires : goal.divide_by_norms-requires
-divide_by_norms-requires c =
-    decompose-divide c.requires.0 c.requires.1 c.hankel_room-lists.ensures c.moments.ensures ((let weighed : Weighed c.args.m c.args.n (take c.args.n c.args.coefficients.now) (moments ((lent c.args.m (c.args.n - 1) c.args.a.now c.args.b.now c.args.c.now (row_of c.args.close_a c.args.close_b c.args.close_c)))) c.transposed.new.w = hankel-weighed c.hankel_room-lists.ensures ((decompose-hankel c.requires.0 c.requires.1)) c.moments.ensures.written refl c.copy.ensures refl
-    c.used_length-used.ensures.used (halves _) c.transposed.ensures in weighed))
-    c.adjoint.ensures
+pub returns-clause-written : goal.returns-clause-written
+returns-clause-written c =
+    let lending = c.inverted-inside.invariant in
+    let beside = rw (← c.inverted-inside.view_is) at c.inverted.invariant in
+    let inverses = rw (← c.inverted-inside.view_is) at (rw (← c.inverted.view_is) at c.requires.inverses) in
+    let curve = rw (← c.inverted-inside.view_is) at (rw (← c.inverted.view_is) at c.requires.curve) in
+    let input = decompose-asked lending beside inverses curve c.requires.few c.requires.room c.requires.work in
+    let written = rw (← c.inverted-inside.view_is) at (rw (← c.inverted.view_is) at c.moments.ensures.written) in
+    let made = written ∙ ap moments (sym (closed-lent lending beside.closing (omega (arith, curve.long)) c.requires.few)) in
+    let adjoined = rw (← c.inverted-inside.view_is) at c.adjoint.ensures.written in
+    rw (← c.inverted.view_is) (rw (← c.inverted-inside.view_is)
+    (decompose-whole lending beside.closing (omega (arith, curve.long)) c.requires.few _ refl c.requires.room
+    (divided-is input c.requires.many c.zeros-lists.ensures made c.copy.ensures c.used_length-used.ensures.used
+    lending (omega (arith, curve.long)) c.requires.room c.moments.ensures.wiped c.transposed.ensures
+    adjoined c.adjoint.ensures.wiped (c.adjoint.auto.output ∙ c.requires.room) c.divide_by_norms.ensures)))
 
-pub returns : goal.returns
-returns c =
-    decompose-is c.requires.0 c.requires.1 c.hankel_room-lists.ensures c.moments.ensures ((let weighed : Weighed c.args.m c.args.n (take c.args.n c.args.coefficients.now) (moments ((lent c.args.m (c.args.n - 1) c.args.a.now c.args.b.now c.args.c.now (row_of c.args.close_a c.args.close_b c.args.close_c)))) c.transposed.new.w = hankel-weighed c.hankel_room-lists.ensures ((decompose-hankel c.requires.0 c.requires.1)) c.moments.ensures.written refl c.copy.ensures refl
-    c.used_length-used.ensures.used (halves _) c.transposed.ensures in weighed))
-    c.adjoint.ensures c.divide_by_norms.ensures
+pub returns-clause-wiped : goal.returns-clause-wiped
+returns-clause-wiped c = c.adjoint.ensures.wiped ∙ ap cleared c.moments.ensures.wiped ∙ cleared-twice c.args.work.now

@@ -8,8 +8,8 @@ loop-i-init c = dividing-starts
 pub loop-i-preserved : goal.loop-i-preserved
 loop-i-preserved c =
     dividing-next c.requires c.loop-i.invariant c.loop-i-test.true
-    c.row_entry-x.ensures c.product_by-y.ensures c.product_by.ensures
-    c.row_entry-w.ensures c.negative.ensures c.product_by-signed.ensures
+    c.row_entry-x.ensures (rw c.new-modulus.ensures at c.product-y.ensures) (rw c.new-modulus.ensures at c.product.ensures)
+    c.row_entry-w.ensures (rw c.new-modulus.ensures at c.negative.ensures) (rw c.new-modulus.ensures at c.product-signed.ensures)
 
 pub shape_of-output : goal.shape_of-output
 shape_of-output c = c.loop-i.invariant.written.same_length

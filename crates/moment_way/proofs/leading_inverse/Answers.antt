@@ -8,7 +8,7 @@ loop-i-init c = multiplied-starts
 pub loop-i-preserved : goal.loop-i-preserved
 loop-i-preserved c =
     multiplied-next c.loop-i.invariant c.loop-i-test.true c.row_entry-factor.ensures
-    c.product_by-result.ensures
+    (rw c.new-modulus.ensures at c.product-result.ensures)
 
 pub returns : goal.returns
 returns c = multiplied-ends c.loop-i.invariant c.loop-i-test.false

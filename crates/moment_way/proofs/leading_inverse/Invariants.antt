@@ -1,11 +1,6 @@
--- The loop of `leading_inverse`: the inverses of i rows are multiplied (`Multiplied`). The measure is what is left of the rows. Assumes
--- nothing.
-use Prim.Native.Nat.{◌-◌}
+-- The loop of `leading_inverse`: the inverses of i rows are multiplied (`Multiplied`). Assumes nothing.
 use Rattle.moment_way.specs.Moments.{Multiplied}
 use Rattle.moment_way.proofs.leading_inverse.Given as goal
 
 abbrev pub invariant-loop-i : goal.invariant-loop-i
 invariant-loop-i l = Multiplied l.m l.a_inverses l.close_a_inverse l.n l.result l.i
-
-abbrev pub decreases-loop-i : goal.decreases-loop-i
-decreases-loop-i l = l.n - l.i

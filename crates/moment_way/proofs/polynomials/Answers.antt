@@ -1,20 +1,24 @@
 -- `polynomials` meets its contract: the last polynomials of the rows with the closing row, and of these from the second on.
 -- Assumes nothing.
-use Rattle.moment_way.specs.Polynomials.{divisor-input, numerator-input, polynomials-are}
+use Rattle.std.proofs.Common.{refl, add-one, arith}
+use Rattle.moment_way.proofs.Taken.{all-lending, others-lending, polynomials-made}
 use Rattle.moment_way.proofs.polynomials.Goals as goal
 
-pub last_polynomial-requires : goal.last_polynomial-requires
-last_polynomial-requires c =
-    divisor-input c.requires.closed c.extend-xs.ensures c.extend-ys.ensures
-    c.extend-zs.ensures c.requires
+pub invariant_of-all : goal.invariant_of-all
+invariant_of-all c =
+    let input = rw (← c.inverted-inside.view_is) at (rw (← c.inverted.view_is) at c.requires) in
+    all-lending c.inverted-inside.invariant input.closed.closing refl (omega (arith, input.closed.most)) c.extend-xs.ensures c.extend-ys.ensures c.extend-zs.ensures
 
-pub last_polynomial-requires-2 : goal.last_polynomial-requires-2
-last_polynomial-requires-2 c =
-    numerator-input c.requires.closed c.extend-xs.ensures c.extend-ys.ensures
-    c.extend-zs.ensures c.requires c.last_polynomial.ensures.wiped
+pub invariant_of-others : goal.invariant_of-others
+invariant_of-others c =
+    let input = rw (← c.inverted-inside.view_is) at (rw (← c.inverted.view_is) at c.requires) in
+    others-lending c.inverted-inside.invariant input.closed.closing refl (omega (arith, input.closed.most)) c.extend-xs.ensures c.extend-ys.ensures c.extend-zs.ensures
 
 pub returns : goal.returns
 returns c =
-    polynomials-are c.requires.closed c.extend-xs.ensures c.extend-ys.ensures
-    c.extend-zs.ensures c.requires
-    c.last_polynomial.ensures c.last_polynomial-2.ensures
+    let asked = rw (← c.inverted-inside.view_is) at (rw (← c.inverted.view_is) at c.requires) in
+    let input = rw (← add-one _) at asked in
+    rw (← c.inverted.view_is) (rw (← c.inverted-inside.view_is)
+    (polynomials-made c.inverted-inside.invariant asked.closed.closing refl (omega (arith, asked.closed.most))
+    c.extend-xs.ensures c.extend-ys.ensures c.extend-zs.ensures input
+    c.last_polynomial.ensures.written c.last_polynomial.ensures.wiped c.last_polynomial-2.ensures.written c.last_polynomial-2.ensures.wiped))

@@ -1,13 +1,12 @@
 -- `convert_lists` meets its promise: with the sizes in order, the verdict of each call is that of the tests that are left. Assumes nothing.
-use Rattle.acceptance.specs.Stages.{list-stays}
-use Rattle.operations.specs.Lists.{expand-promised, adjoint-promised, decompose-promised, moments-promised, norms-promised}
+use mathlib.Core.Path.{refl}
+use Rattle.operations.specs.Lists.{handed-on, expand-promised, adjoint-promised, decompose-promised, moments-promised, norms-promised}
 use Rattle.operations.proofs.convert_lists.Goals as goal
 
-pub returns-in_default : goal.returns-in_default
-returns-in_default c =
-    norms-promised _ _ _ _ _ c.requires _ _ _
-    c.in-Norms.is c.norms-tested.ensures
-    (list-stays _ _ _ _ c.in_default.is)
+pub returns-in_err-norms-in-Norms : goal.returns-in_err-norms-in-Norms
+returns-in_err-norms-in-Norms c =
+    let refused = handed-on _ _ c.from_residual.ensures.1 in
+    norms-promised _ _ _ _ _ c.requires _ _ _ c.in-Norms.is (rw refused (rw c.in_err-norms-in-Norms.was at c.norms.ensures)) (rw refused refl)
 
 pub clear-requires : goal.clear-requires
 clear-requires c =
@@ -33,8 +32,8 @@ returns-in-Moments c =
     moments-promised _ _ _ _ _ c.requires _ _ _
     c.in-Moments.is c.moments.ensures
 
-pub returns-in-Finished : goal.returns-in-Finished
-returns-in-Finished c =
+pub returns-in_ok-norms-in-Norms : goal.returns-in_ok-norms-in-Norms
+returns-in_ok-norms-in-Norms c =
     norms-promised _ _ _ _ _ c.requires _ _ _
     c.in-Norms.is
-    (rw c.in-Finished.is at c.norms-tested.ensures) c.clear.ensures
+    (rw c.in_ok-norms-in-Norms.was at c.norms.ensures) c.clear.ensures

@@ -1,19 +1,21 @@
 use Rattle.std.proofs.Common.{arith}
-use Rattle.lists.specs.Accepting.{accepting}
-use Rattle.acceptance.specs.Promises.{tests-refuse, tests-finish}
+use Rattle.lists.specs.Lending.{accepted-lending}
+use Rattle.acceptance.specs.Promises.{tests-finish}
 use Rattle.plain_calls.specs.PlainCall.{plain-input}
 use Rattle.plain_calls.proofs.call.Goals as goal
 
-pub returns-in_default : goal.returns-in_default
-returns-in_default g c = tests-refuse _ _ c.plain-tested.ensures _ c.in_default.is
-
 pub invariant_of-family : goal.invariant_of-family
-invariant_of-family g c = accepting (plain-input _ c.plain-tested.ensures c.in-Finished.is).accepted
+invariant_of-family g c = accepted-lending (plain-input _ c.plain.ensures c.in_ok-plain.was).accepted
 
 pub convert-requires-clause-curve : goal.convert-requires-clause-curve
-convert-requires-clause-curve g c = (plain-input _ c.plain-tested.ensures c.in-Finished.is).curve
+convert-requires-clause-curve g c = (plain-input _ c.plain.ensures c.in_ok-plain.was).curve
+
+pub convert-requires-clause-few : goal.convert-requires-clause-few
+convert-requires-clause-few g c =
+    let input = plain-input _ c.plain.ensures c.in_ok-plain.was in
+    omega (arith, input.curve.long, input.accepted.row_count)
 
 pub convert-requires-clause-room : goal.convert-requires-clause-room
 convert-requires-clause-room g c =
-    let input = plain-input _ c.plain-tested.ensures c.in-Finished.is in
+    let input = plain-input _ c.plain.ensures c.in_ok-plain.was in
     omega (arith, input.output_length, input.curve.long)

@@ -10,10 +10,10 @@ returns-in_default c = rows-refused _ _ _ _ _ _ c.by_appends-made.ensures _ _ _ 
 
 pub returns-in-Plain : goal.returns-in-Plain
 returns-in-Plain c =
-    rw c.in-Plain.is (plain-settled _ _ _ _ _ _ c.by_appends-made.ensures c.in-Finished.is
+    rw c.in-Plain.is (plain-settled _ _ _ _ _ _ c.by_appends-made.ensures c.in-Ok.is
     _ _ _ _ _ adjoint _ c.plain_adjoint.ensures)
 
 pub returns-in-Tree : goal.returns-in-Tree
 returns-in-Tree c =
-    rw c.in-Tree.is (tree-settled _ _ _ _ _ _ c.by_appends-made.ensures c.in-Finished.is
+    rw c.in-Tree.is (tree-settled _ _ _ _ _ _ c.by_appends-made.ensures c.in-Ok.is
     _ _ _ _ _ adjoint _ _ c.tree_adjoint.ensures)

@@ -7,4 +7,4 @@ returns-in_default c = append-kept _ _ _ _ c.append-first.ensures _ c.in_default
 
 pub returns : goal.returns
 returns c =
-    append-back _ _ _ _ c.append-first.ensures c.in-Finished.is _ _ c.drop_last.ensures
+    append-back _ _ _ _ c.append-first.ensures c.in-Ok.is _ _ c.drop_last.ensures

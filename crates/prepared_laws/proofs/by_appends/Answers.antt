@@ -11,7 +11,7 @@ returns-in_default c = shape-refused _ _ _ _ _ _ c.family_shape-shape.ensures _ 
 
 pub loop-i-init : goal.loop-i-init
 loop-i-init c =
-    grown-start _ _ _ _ _ _ (shaped _ _ _ _ _ c.family_shape-shape.ensures c.in-Finished.is) c.empty-start.ensures
+    grown-start _ _ _ _ _ _ (shaped _ _ _ _ _ c.family_shape-shape.ensures c.in-Ok.is) c.empty-start.ensures
 
 pub bounds-b-i : goal.bounds-b-i
 bounds-b-i c =
@@ -29,7 +29,7 @@ returns-in_default-answer c =
 pub loop-i-preserved : goal.loop-i-preserved
 loop-i-preserved c =
     grown-next _ _ _ _ _ _ c.loop-i.invariant _ _ c.loop-i-test.true c.append-next.ensures
-    (ap answered c.in-Finished-answer.is)
+    (ap answered c.in-Ok-answer.is)
 
 pub returns : goal.returns
 returns c = grown-ends _ _ _ _ _ _ c.loop-i.invariant c.loop-i-test.false

@@ -9,4 +9,4 @@ returns-in_default c = rows-refused _ _ _ _ _ _ c.by_appends-made.ensures _ _ _ 
 
 pub returns : goal.returns
 returns c =
-    moments-settled _ _ _ _ _ _ c.by_appends-made.ensures c.in-Finished.is _ _ _ _ _ _ c.moments.ensures
+    moments-settled _ _ _ _ _ _ c.by_appends-made.ensures c.in-Ok.is _ _ _ _ _ _ c.moments.ensures

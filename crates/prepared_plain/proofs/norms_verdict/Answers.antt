@@ -12,6 +12,6 @@ returns-in_default c = stage-refuses _ _ all-remain _ c.record-right.ensures _ c
 pub returns : goal.returns
 unfolding prepared_norms_tests
 returns c =
-    let size = right-size (record-tested _ _ c.record-right.ensures c.in-Finished.is) in
-    let after_right = stage-passes _ _ all-remain _ c.record-right.ensures c.in-Finished.is in
+    let size = right-size (record-tested _ _ c.record-right.ensures c.in-Ok.is) in
+    let after_right = stage-passes _ _ all-remain _ c.record-right.ensures c.in-Ok.is in
     stages-end _ after_right c.output_length.result (rw size at c.output_length.ensures)

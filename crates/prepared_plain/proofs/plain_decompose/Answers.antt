@@ -4,13 +4,10 @@ use Rattle.acceptance.specs.Promises.{tests-refuse}
 use Rattle.prepared_plain.specs.RecordCore.{decompose-core, decompose-made}
 use Rattle.prepared_plain.proofs.plain_decompose.Goals as goal
 
-pub returns-in_default : goal.returns-in_default
-returns-in_default c = tests-refuse _ _ c.plain_verdict-tested.ensures _ c.in_default.is
-
 pub decompose-requires : goal.decompose-requires
 decompose-requires c =
-    decompose-core _ _ _ c.plain_verdict-tested.ensures c.in-Finished.is
+    decompose-core _ _ _ c.plain_verdict.ensures c.in_ok-plain_verdict.was
 
 pub returns : goal.returns
 returns c =
-    decompose-made _ _ _ c.plain_verdict-tested.ensures c.in-Finished.is c.decompose.ensures
+    decompose-made _ _ _ c.plain_verdict.ensures c.in_ok-plain_verdict.was c.decompose.ensures

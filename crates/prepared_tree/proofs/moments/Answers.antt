@@ -4,13 +4,10 @@ use Rattle.acceptance.specs.Promises.{both-kept}
 use Rattle.prepared_tree.specs.RecordTree.{moments-core, moments-made}
 use Rattle.prepared_tree.proofs.moments.Goals as goal
 
-pub returns-in_default : goal.returns-in_default
-returns-in_default c = both-kept c.moments_verdict-tested.ensures c.in_default.is
-
 pub moments-requires : goal.moments-requires
 moments-requires c =
-    moments-core _ _ _ c.moments_verdict-tested.ensures c.in-Finished.is
+    moments-core _ _ _ c.moments_verdict.ensures c.in_ok-moments_verdict.was
 
 pub returns : goal.returns
 returns c =
-    moments-made _ _ _ c.moments_verdict-tested.ensures c.in-Finished.is c.moments.ensures
+    moments-made _ _ _ c.moments_verdict.ensures c.in_ok-moments_verdict.was c.moments.ensures

@@ -4,13 +4,10 @@ use Rattle.acceptance.specs.Promises.{both-kept}
 use Rattle.prepared_tree.specs.RecordTree.{decompose-core, decompose-made}
 use Rattle.prepared_tree.proofs.tree_decompose.Goals as goal
 
-pub returns-in_default : goal.returns-in_default
-returns-in_default c = both-kept c.tree_verdict-tested.ensures c.in_default.is
-
 pub decompose-requires : goal.decompose-requires
 decompose-requires c =
-    decompose-core _ _ _ _ c.tree_verdict-tested.ensures c.in-Finished.is
+    decompose-core _ _ _ _ c.tree_verdict.ensures c.in_ok-tree_verdict.was
 
 pub returns : goal.returns
 returns c =
-    decompose-made _ _ _ _ c.tree_verdict-tested.ensures c.in-Finished.is c.decompose.ensures
+    decompose-made _ _ _ _ c.tree_verdict.ensures c.in_ok-tree_verdict.was c.decompose.ensures

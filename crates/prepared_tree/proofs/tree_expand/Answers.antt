@@ -4,13 +4,10 @@ use Rattle.acceptance.specs.Promises.{both-kept}
 use Rattle.prepared_tree.specs.RecordTree.{tree-core, expand-made}
 use Rattle.prepared_tree.proofs.tree_expand.Goals as goal
 
-pub returns-in_default : goal.returns-in_default
-returns-in_default c = both-kept c.tree_verdict-tested.ensures c.in_default.is
-
 pub expand-requires : goal.expand-requires
 expand-requires c =
-    tree-core _ _ _ _ c.tree_verdict-tested.ensures c.in-Finished.is
+    tree-core _ _ _ _ c.tree_verdict.ensures c.in_ok-tree_verdict.was
 
 pub returns : goal.returns
 returns c =
-    expand-made _ _ _ _ c.tree_verdict-tested.ensures c.in-Finished.is c.expand.ensures
+    expand-made _ _ _ _ c.tree_verdict.ensures c.in_ok-tree_verdict.was c.expand.ensures

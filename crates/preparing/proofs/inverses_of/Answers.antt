@@ -9,7 +9,7 @@ use Rattle.preparing.proofs.inverses_of.Goals as goal
 
 pub of_list-requires : goal.of_list-requires
 of_list-requires c =
-    (search rules, omega (arith, ap length c.no_rows-result.ensures, length-replicate {A = ℕ} 127 0))
+    (search rules, omega (arith, ap length c.zeros-result.ensures, length-replicate {A = ℕ} 127 0))
 
 pub returns : goal.returns
-returns c = filled-padded _ _ c.no_rows-result.ensures _ c.of_list.ensures
+returns c = filled-padded _ _ c.zeros-result.ensures _ c.of_list.ensures

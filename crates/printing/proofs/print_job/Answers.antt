@@ -2,14 +2,14 @@
 use Rattle.printing.specs.Printouts.{answer-printed, refusal-printed}
 use Rattle.printing.proofs.print_job.Goals as goal
 
-pub returns-in-Value : goal.returns-in-Value
-returns-in-Value c = answer-printed _ _ _ _ _ _ c.convert_text.ensures
+pub returns-in-Ok : goal.returns-in-Ok
+returns-in-Ok c = answer-printed _ _ _ _ _ _ c.convert_text.ensures
     c.output-bytes.ensures
     c.working_list-work.ensures
-    _ c.in-Value.is
+    _ c.in-Ok.is
 
-pub returns-in-Refused : goal.returns-in-Refused
-returns-in-Refused c = refusal-printed _ _ _ _ _ _ c.convert_text.ensures
+pub returns-in-Err : goal.returns-in-Err
+returns-in-Err c = refusal-printed _ _ _ _ _ _ c.convert_text.ensures
     c.output-bytes.ensures
     c.working_list-work.ensures
-    _ c.in-Refused.is _ _ c.write_refusal-length.ensures
+    _ c.in-Err.is _ _ (rw c.from.ensures at c.write_refusal-length.ensures)

@@ -18,10 +18,10 @@ pub returns-then-rows-gt127 : goal.returns-then-rows-gt127
 returns-then-rows-gt127 c = record-refused _ (λ right. omega (arith, c.if-rows-gt127.true, (right-parts right).few))
 
 pub reciprocal-reciprocal-requires : goal.reciprocal-reciprocal-requires
-reciprocal-reciprocal-requires c = omega (arith, ((modulus-found _ _ c.modulus.ensures c.in-Finished.is)).least)
+reciprocal-reciprocal-requires c = omega (arith, ((modulus-found _ _ c.modulus.ensures c.in-Ok.is)).least)
 
 pub rows_kept-requires : goal.rows_kept-requires
-rows_kept-requires c = omega (arith, ((modulus-found _ _ c.modulus.ensures c.in-Finished.is)).least)
+rows_kept-requires c = omega (arith, ((modulus-found _ _ c.modulus.ensures c.in-Ok.is)).least)
 
 pub inverted-requires : goal.inverted-requires
 inverted-requires c = (c.reciprocal-reciprocal.ensures, omega arith, omega arith)
@@ -37,10 +37,10 @@ pub returns-then-norms_true : goal.returns-then-norms_true
 returns-then-norms_true c = record-finished _ (((let norms-settle : (c.norms_true.result ≡ true) ↔ Right ((fields c.args.modulus c.args.rows c.args.a.now c.args.b.now c.args.c.now c.args.a_inverses.now c.args.c_inverses.now c.args.norms.now)) = let inverted = c.inverted.ensures.0 c.if-inverted.true in
     let kept = c.rows_kept.ensures.0 c.if-rows_kept.true in
     let inverted2 = c.inverted-then-inverted.ensures.0 c.if-inverted-2.true in
-    let accepted = kept-accepted c.requires ((modulus-found _ _ c.modulus.ensures c.in-Finished.is)) c.if-rows-gt127.false kept inverted inverted2 in
+    let accepted = kept-accepted c.requires ((modulus-found _ _ c.modulus.ensures c.in-Ok.is)) c.if-rows-gt127.false kept inverted inverted2 in
     let norms = c.norms_true.ensures _ accepted in (
       λ e. parts-right c.requires (record {
-        modulus = (modulus-found _ _ c.modulus.ensures c.in-Finished.is);
+        modulus = (modulus-found _ _ c.modulus.ensures c.in-Ok.is);
         few = c.if-rows-gt127.false;
         kept = kept;
         a_inverted = inverted;
@@ -54,10 +54,10 @@ pub returns-else-norms_true : goal.returns-else-norms_true
 returns-else-norms_true c = record-refused _ (denied ((let norms-settle : (c.norms_true.result ≡ true) ↔ Right ((fields c.args.modulus c.args.rows c.args.a.now c.args.b.now c.args.c.now c.args.a_inverses.now c.args.c_inverses.now c.args.norms.now)) = let inverted = c.inverted.ensures.0 c.if-inverted.true in
     let kept = c.rows_kept.ensures.0 c.if-rows_kept.true in
     let inverted2 = c.inverted-then-inverted.ensures.0 c.if-inverted-2.true in
-    let accepted = kept-accepted c.requires ((modulus-found _ _ c.modulus.ensures c.in-Finished.is)) c.if-rows-gt127.false kept inverted inverted2 in
+    let accepted = kept-accepted c.requires ((modulus-found _ _ c.modulus.ensures c.in-Ok.is)) c.if-rows-gt127.false kept inverted inverted2 in
     let norms = c.norms_true.ensures _ accepted in (
       λ e. parts-right c.requires (record {
-        modulus = (modulus-found _ _ c.modulus.ensures c.in-Finished.is);
+        modulus = (modulus-found _ _ c.modulus.ensures c.in-Ok.is);
         few = c.if-rows-gt127.false;
         kept = kept;
         a_inverted = inverted;

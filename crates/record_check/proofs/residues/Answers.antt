@@ -20,8 +20,8 @@ returns-in_default-entries_below c =
 
 pub returns : goal.returns
 returns c =
-    let front = all-below _ _ _ c.in-Residues.is c.entries_below.ensures in
-    let behind = all-below _ _ _ c.in-Residues-entries_below.is c.entries_below-2.ensures in (
+    let front = all-below _ _ _ c.in-None.is c.entries_below.ensures in
+    let behind = all-below _ _ _ c.in-None-entries_below.is c.entries_below-2.ensures in (
       λ _. record {
         below = (front-passes _ c.args.list.now c.requires.1 _).0 front;
         zeros = (behind-passes _ c.args.list.now c.requires.1).0 behind;

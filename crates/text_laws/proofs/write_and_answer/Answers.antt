@@ -1,22 +1,23 @@
 -- `write_and_answer` meets its promise: the text call is made on the bytes that the call before it wrote. Assumes nothing.
-use mathlib.Core.Path.{refl, sym}
+use mathlib.Core.Path.{sym, ◌∙◌}
 use mathlib.Core.List.{[]}
 use lib.Seq.{length-take-le}
-use Rattle.text_laws.proofs.Answered.{write-refused, text-inside, write-answered}
+use Rattle.text_laws.proofs.Answered.{handed-on, write-refused, text-inside, write-answered}
 use Rattle.text_laws.proofs.write_and_answer.Goals as goal
 
-pub returns-in_default : goal.returns-in_default
-returns-in_default c =
-    write-refused _ _ _ _ _ _ c.write_job-written.ensures _ c.in_default.is _ refl
+pub returns-in_err-end : goal.returns-in_err-end
+returns-in_err-end c =
+    write-refused _ _ _ _ _ _ c.write_job.ensures _ c.in_err-end.was _
+    (handed-on _ _ c.from_residual.ensures.1 ∙ sym c.in_err-end.was)
 
 pub slice_bounds-convert_text-end : goal.slice_bounds-convert_text-end
 slice_bounds-convert_text-end c =
-    text-inside _ _ [] [] _ _ c.write_job-written.ensures _ c.in-Value.is
+    text-inside _ _ [] [] _ _ c.write_job.ensures _ c.in_ok-end.was
 
 pub slice_bounds-convert_text-end-2 : goal.slice_bounds-convert_text-end-2
 slice_bounds-convert_text-end-2 c =
-    sym (length-take-le _ _ (text-inside _ _ [] [] _ _ c.write_job-written.ensures _ c.in-Value.is))
+    sym (length-take-le _ _ (text-inside _ _ [] [] _ _ c.write_job.ensures _ c.in_ok-end.was))
 
 pub returns : goal.returns
 returns c =
-    write-answered _ _ _ _ _ _ c.write_job-written.ensures _ c.in-Value.is _ _ _ c.convert_text.ensures
+    write-answered _ _ _ _ _ _ c.write_job.ensures _ c.in_ok-end.was _ _ _ c.convert_text.ensures

@@ -4,22 +4,22 @@ use Rattle.numbers.specs.Lists.{filling-start, filling-next}
 use Rattle.tree.specs.Root.{root-coefficient, root_ends}
 use Rattle.tree.proofs.expand_root.Goals as goal
 
-pub reciprocal-reciprocal-requires : goal.reciprocal-reciprocal-requires
-reciprocal-reciprocal-requires c = omega (arith, c.requires.modulus.least)
+pub new-modulus-requires : goal.new-modulus-requires
+new-modulus-requires c = omega (arith, c.requires.modulus.least)
 
 pub loop-k-init : goal.loop-k-init
-loop-k-init c = (omega arith, filling-start)
+loop-k-init c = filling-start
 
 pub root_coefficient-requires : goal.root_coefficient-requires
 root_coefficient-requires c =
-    root-coefficient c.requires c.reciprocal-reciprocal.ensures c.loop-k-test.true
+    rw c.new-modulus.ensures (root-coefficient c.requires c.loop-k-test.true)
 
 pub loop-k-preserved : goal.loop-k-preserved
 loop-k-preserved c =
-    (omega arith, filling-next c.loop-k.invariant.1 (omega arith) c.root_coefficient.ensures)
+    filling-next c.loop-k.invariant (omega arith) (rw c.new-modulus.ensures at c.root_coefficient.ensures)
 
 pub shape_of-output : goal.shape_of-output
-shape_of-output c = c.loop-k.invariant.1.same_length
+shape_of-output c = c.loop-k.invariant.same_length
 
 pub returns : goal.returns
-returns c = root_ends c.requires (omega arith) c.loop-k.invariant.1
+returns c = root_ends c.requires (omega arith) c.loop-k.invariant

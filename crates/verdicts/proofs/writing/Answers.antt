@@ -10,10 +10,10 @@ returns-in_default c = stage-refuses _ _ all-remain _ c.lengths-job.ensures _ c.
 
 pub values-requires : goal.values-requires
 values-requires c =
-    lengths-shaped _ _ _ _ _ _ _ _ (stage-none _ _ c.lengths-job.ensures c.in-Finished.is)
+    lengths-shaped _ _ _ _ _ _ _ _ (stage-none _ _ c.lengths-job.ensures c.in-Ok.is)
 
 pub returns : goal.returns
 unfolding writing_tests
 returns c =
-    let after_job = stage-passes _ _ all-remain _ c.lengths-job.ensures c.in-Finished.is in
+    let after_job = stage-passes _ _ all-remain _ c.lengths-job.ensures c.in-Ok.is in
     stages-end _ after_job c.values.result c.values.ensures

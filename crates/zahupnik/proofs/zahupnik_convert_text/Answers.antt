@@ -6,16 +6,16 @@ use Rattle.zahupnik.specs.Positive.{text-positive}
 use Rattle.zahupnik.proofs.Returning.{value-returned, refusal-returned, text-returned}
 use Rattle.zahupnik.proofs.zahupnik_convert_text.Goals as goal
 
-pub returns-in-Value : goal.returns-in-Value
-returns-in-Value c =
+pub returns-in-Ok : goal.returns-in-Ok
+returns-in-Ok c =
     record {
-      text = text-returned _ _ _ _ _ _ c.convert_text.ensures 0 (sym (ap (λ r. number (valued r)) c.in-Value.is));
-      counted = value-returned _ (text-positive _ _ _) _ _ _ (sym (ap valued c.in-Value.is) ∙ c.convert_text.ensures.answer);
+      text = text-returned _ _ _ _ _ _ c.convert_text.ensures 0 (sym (ap (λ r. number (valued r)) c.in-Ok.is));
+      counted = value-returned _ (text-positive _ _ _) _ _ _ (sym (ap valued c.in-Ok.is) ∙ c.convert_text.ensures.answer);
     }
 
-pub returns-in-Refused : goal.returns-in-Refused
-returns-in-Refused c =
+pub returns-in-Err : goal.returns-in-Err
+returns-in-Err c =
     record {
-      text = text-returned _ _ _ _ _ _ c.convert_text.ensures _ (sym (ap (λ r. number (valued r)) c.in-Refused.is));
-      counted = refusal-returned _ (text-positive _ _ _) _ _ _ (sym (ap valued c.in-Refused.is) ∙ c.convert_text.ensures.answer);
+      text = text-returned _ _ _ _ _ _ c.convert_text.ensures _ (sym (ap (λ r. number (valued r)) c.in-Err.is));
+      counted = refusal-returned _ (text-positive _ _ _) _ _ _ (sym (ap valued c.in-Err.is) ∙ c.convert_text.ensures.answer);
     }

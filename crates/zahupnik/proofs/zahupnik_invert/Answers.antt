@@ -9,5 +9,5 @@ returns-in-Found c = found-returned _ _ _ _ _ c.invert.ensures _ _ c.in-Found.is
 pub returns-in-NoInverse : goal.returns-in-NoInverse
 returns-in-NoInverse c = without-returned _ _ _ _ _ c.invert.ensures _ c.in-NoInverse.is
 
-pub returns-in-Refused : goal.returns-in-Refused
-returns-in-Refused c = early-returned _ _ _ _ _ c.invert.ensures _ c.in-Refused.is
+pub returns-in-Err : goal.returns-in-Err
+returns-in-Err c = early-returned _ _ _ _ _ c.invert.ensures _ c.in-Err.is

@@ -6,12 +6,12 @@ use Rattle.zahupnik.proofs.zahupnik_write_job.Goals as goal
 pub returns-in_default : goal.returns-in_default
 returns-in_default c = nothing-returned _ _ _ _ _ c.choose-choice.ensures c.in_default.is
 
-pub returns-in-Value : goal.returns-in-Value
-returns-in-Value c =
+pub returns-in-Ok : goal.returns-in-Ok
+returns-in-Ok c =
     length-returned _ _ _ _ _ _ c.choose-choice.ensures c.in-Named.is
-    _ _ c.write_job.ensures _ c.in-Value.is
+    _ _ c.write_job.ensures _ c.in-Ok.is
 
-pub returns-in-Refused : goal.returns-in-Refused
-returns-in-Refused c =
+pub returns-in-Err : goal.returns-in-Err
+returns-in-Err c =
     job-refusal-returned _ _ _ _ _ _ c.choose-choice.ensures c.in-Named.is
-    _ _ c.write_job.ensures _ c.in-Refused.is
+    _ _ c.write_job.ensures _ c.in-Err.is

@@ -9,24 +9,24 @@ returns-in_default c = change-refused _ _ _ _ c.append_verdict-tested.ensures _ 
 
 pub bounds-x-place : goal.bounds-x-place
 bounds-x-place c =
-    omega (arith, (append-taken _ _ _ c.append_verdict-tested.ensures c.in-Finished.is).room)
+    omega (arith, (append-taken _ _ _ c.append_verdict-tested.ensures c.in-Ok.is).room)
 
 pub bounds-y-place : goal.bounds-y-place
 bounds-y-place c =
-    omega (arith, (append-taken _ _ _ c.append_verdict-tested.ensures c.in-Finished.is).room)
+    omega (arith, (append-taken _ _ _ c.append_verdict-tested.ensures c.in-Ok.is).room)
 
 pub bounds-z-place : goal.bounds-z-place
 bounds-z-place c =
-    omega (arith, (append-taken _ _ _ c.append_verdict-tested.ensures c.in-Finished.is).room)
+    omega (arith, (append-taken _ _ _ c.append_verdict-tested.ensures c.in-Ok.is).room)
 
 pub overflow_add-self : goal.overflow_add-self
 overflow_add-self c =
-    omega (arith, (append-taken _ _ _ c.append_verdict-tested.ensures c.in-Finished.is).room)
+    omega (arith, (append-taken _ _ _ c.append_verdict-tested.ensures c.in-Ok.is).room)
 
 pub prepare-requires : goal.prepare-requires
 prepare-requires c =
-    append-preparable (append-taken _ _ _ c.append_verdict-tested.ensures c.in-Finished.is)
+    append-preparable (append-taken _ _ _ c.append_verdict-tested.ensures c.in-Ok.is)
 
 pub returns : goal.returns
 returns c =
-    append-made _ _ _ c.append_verdict-tested.ensures c.in-Finished.is _ c.prepare.ensures
+    append-made _ _ _ c.append_verdict-tested.ensures c.in-Ok.is _ c.prepare.ensures

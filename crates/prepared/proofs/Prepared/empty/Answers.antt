@@ -5,13 +5,13 @@ use Rattle.prepared.proofs.Prepared.empty.Goals as goal
 pub returns-in_default : goal.returns-in_default
 returns-in_default c =
     empty-refused _ _ c.modulus-tested.ensures _ c.in_default.is _ _
-    c.no_rows-none.ensures c.zeros-norms.ensures
+    c.zeros-none.ensures c.zeros-norms.ensures
 
 pub prepare-requires : goal.prepare-requires
 prepare-requires c =
-    empty-preparable _ _ c.modulus-tested.ensures c.in-Finished.is _ c.no_rows-none.ensures
+    empty-preparable _ _ c.modulus-tested.ensures c.in-Ok.is _ c.zeros-none.ensures
 
 pub returns : goal.returns
 returns c =
-    empty-made _ _ c.modulus-tested.ensures c.in-Finished.is _ c.no_rows-none.ensures
+    empty-made _ _ c.modulus-tested.ensures c.in-Ok.is _ c.zeros-none.ensures
     _ c.prepare.ensures

@@ -10,24 +10,24 @@ returns-in_default c = change-refused _ _ _ _ c.replace_verdict-tested.ensures _
 
 pub overflow_sub-place : goal.overflow_sub-place
 overflow_sub-place c =
-    omega (arith, (replace-taken _ _ _ _ c.replace_verdict-tested.ensures c.in-Finished.is).first)
+    omega (arith, (replace-taken _ _ _ _ c.replace_verdict-tested.ensures c.in-Ok.is).first)
 
 pub bounds-x-place : goal.bounds-x-place
 bounds-x-place c =
-    omega (arith, replace-within _ _ _ _ c.replace_verdict-tested.ensures c.in-Finished.is)
+    omega (arith, replace-within _ _ _ _ c.replace_verdict-tested.ensures c.in-Ok.is)
 
 pub bounds-y-place : goal.bounds-y-place
 bounds-y-place c =
-    omega (arith, replace-within _ _ _ _ c.replace_verdict-tested.ensures c.in-Finished.is)
+    omega (arith, replace-within _ _ _ _ c.replace_verdict-tested.ensures c.in-Ok.is)
 
 pub bounds-z-place : goal.bounds-z-place
 bounds-z-place c =
-    omega (arith, replace-within _ _ _ _ c.replace_verdict-tested.ensures c.in-Finished.is)
+    omega (arith, replace-within _ _ _ _ c.replace_verdict-tested.ensures c.in-Ok.is)
 
 pub prepare-requires : goal.prepare-requires
 prepare-requires c =
-    replace-preparable (replace-taken _ _ _ _ c.replace_verdict-tested.ensures c.in-Finished.is)
+    replace-preparable (replace-taken _ _ _ _ c.replace_verdict-tested.ensures c.in-Ok.is)
 
 pub returns : goal.returns
 returns c =
-    replace-made _ _ _ _ c.replace_verdict-tested.ensures c.in-Finished.is _ c.prepare.ensures
+    replace-made _ _ _ _ c.replace_verdict-tested.ensures c.in-Ok.is _ c.prepare.ensures

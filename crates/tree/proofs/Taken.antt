@@ -1,0 +1,58 @@
+-- A family and a curve of it, lent whole, are what the tree's steps take: n is the number of entries, one more than the rows.
+-- Proved: that; what the steps leave of the first n entries, by the tree model, is what the definitions say of all. Assumes nothing.
+use Rattle.std.proofs.Common.{◌≡◌, ◌∙◌, ap, subst, List, ◌++◌, ℕ, suc, ◌-◌, ◌<◌, ◌≤◌, length, take, drop, take_all, arith}
+use Rattle.definitions.specs.Family.{Family, Curve, family, ones, rows}
+use Rattle.definitions.specs.Refusals.{work_length}
+use Rattle.lists.specs.Held.{Output}
+use Rattle.lists.specs.Lent.{lent}
+use Rattle.lists.specs.Lending.{Lending, lending-least, lending-lent, lending-curve, lending-family}
+use Rattle.lists.specs.Whole.{written-whole}
+use Rattle.theory.specs.Closing.{EqualLengths}
+use Rattle.tree.specs.Core.{TreeOutput}
+use Rattle.tree.specs.Input.{Input}
+
+module _ {m : ℕ} {a b c u : List ℕ} (output work : List ℕ) (lending : Lending (family m a b c)) (curve : Curve (family m a b c) u)
+    (few : length u ≤ 256) (room : length output ≡ length u) (working : work_length ≤ length work) where
+  pub taken : Input m a b c u (length u) output work
+  taken = record {
+    rows = lending-lent lending curve;
+    curve_holds = lending-curve lending curve;
+    least = lending-least lending curve;
+    most = few;
+    output_long = omega arith;
+    work_long = working;
+  }
+
+  positive : 0 < m
+  positive = omega (arith, lending.lent.modulus.least)
+
+  equal : EqualLengths (family m a b c)
+  equal = record { b_length = lending.b_length; c_length = lending.c_length }
+
+  whole_curve : take (length u) u ≡ u
+  whole_curve = take_all (length u) u (omega arith)
+
+  -- way: what the steps compute, which on this input is what is asked for
+  module _ (way convert : Family → List ℕ → List ℕ)
+      (same : (f : Family) → 0 < f.m → EqualLengths f → (u : List ℕ) → length u ≡ suc (rows f) → way f u ≡ convert f u) where
+    same-here : way (family m a b c) u ≡ convert (family m a b c) u
+    same-here = same (family m a b c) positive equal u curve.long
+
+    pub tree-made : {vectors : Family → List ℕ → List ℕ} {output' work' : List ℕ}
+        → TreeOutput way vectors (lent m (length u - 1) a b c ones) (take (length u) u) (length u) output output' work work'
+        → TreeOutput convert vectors (family m a b c) u (length u) output output' work work'
+    tree-made {vectors} {output'} {work'} left =
+        let t = subst (λ s. TreeOutput way vectors (family m a b c) s (length u) output output' work work') whole_curve
+        (subst (λ f. TreeOutput way vectors f (take (length u) u) (length u) output output' work work') (lending-family lending curve) left) in
+        record {
+          written = t.written ∙ ap (λ r. r ++ drop (length u) output) same-here;
+          tree_stands = t.tree_stands;
+          vectors_stand = t.vectors_stand;
+          kept = t.kept;
+        }
+
+    pub alone-made : {output' work' : List ℕ}
+        → Output (way (lent m (length u - 1) a b c ones) (take (length u) u)) (length u) output output' work work'
+        → output' ≡ convert (family m a b c) u
+    alone-made left = left.written ∙ written-whole _ output (length u) room
+        ∙ ap (way (lent m (length u - 1) a b c ones)) whole_curve ∙ ap (λ f. way f u) (lending-family lending curve) ∙ same-here
