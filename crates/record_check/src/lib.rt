@@ -14,11 +14,10 @@ ghost use Rattle.lists.specs.Lent.{lent};
 ghost use Rattle.prepared_model.specs.NormProducts.{Tried};
 ghost use Rattle.prepared_model.specs.Parts.{fields, Residues, Inverted, RowsKept};
 ghost use Rattle.prepared_model.specs.Rightness.{Sized};
-ghost use Rattle.reduction.specs.Reciprocal.{Reciprocal};
 
 use definitions::{FIRST_C, Refusal};
 use lists::row_entry;
-use residue::product_by;
+use reduction::Modulus;
 
 // Whether the first count entries are below m, and the others zero.
 fn residues(m: u32, list: &[u32], count: usize) -> bool
@@ -36,18 +35,17 @@ fn residues(m: u32, list: &[u32], count: usize) -> bool
 
 // Whether each entry from place first up to count, times the one beside it, leaves 1.
 fn inverted(
-    m: u32,
-    reciprocal: u64,
+    m: Modulus,
     list: &[u32],
     inverses: &[u32],
     first: usize,
     count: usize,
 ) -> bool
-    requires { Reciprocal m reciprocal × (count ≤ length list.now) × (count ≤ length inverses.now) }
-    ensures { (result ≡ true) ↔ Inverted m first count list.now inverses.now }
+    requires { (count ≤ length list.now) × (count ≤ length inverses.now) }
+    ensures { (result ≡ true) ↔ Inverted m.value first count list.now inverses.now }
 {
     for i in first..count {
-        if product_by(m, reciprocal, list[i], inverses[i]) != 1 {
+        if m.product(list[i], inverses[i]) != 1 {
             return false;
         }
     }
@@ -86,25 +84,24 @@ fn rows_kept<'a>(
 // Whether norm i times a_{i+1} is 1 for i = 0, and from there on with the one before it times its c adds up to a multiple of m. What is read
 // is what is stored, so that no product waits for the one before it.
 fn norms_tried<'a>(
-    m: u32,
-    reciprocal: u64,
+    m: Modulus,
     count: usize,
     a: &'a [u32],
     c: &'a [u32],
     norms: &'a [u32],
 ) -> bool
-    requires { Reciprocal m reciprocal × (count ≤ 127) × (count ≤ length a.now) × (count ≤ length c.now) × (length norms.now ≡ 128) }
-    ensures { (b : List ℕ) → (result ≡ true) ↔ Tried (lent m count a.now b c.now ones) norms.now }
+    requires { (count ≤ 127) × (count ≤ length a.now) × (count ≤ length c.now) × (length norms.now ≡ 128) }
+    ensures { (b : List ℕ) → (result ≡ true) ↔ Tried (lent m.value count a.now b c.now ones) norms.now }
 {
-    let mut before = product_by(m, reciprocal, norms[0], row_entry(a, count, 0, 1));
+    let mut before = m.product(norms[0], row_entry(a, count, 0, 1));
     if before != 1 {
         return false;
     }
     for i in 0..count {
-        let next = product_by(m, reciprocal, norms[i + 1], row_entry(a, count, i + 1, 1));
+        let next = m.product(norms[i + 1], row_entry(a, count, i + 1, 1));
         let factor = row_entry(c, count, i + 1, 1);
         let sum = next as u64 + (before as u64) * (factor as u64);
-        if reduction::remainder(m, reciprocal, sum) != 0 {
+        if m.remainder(sum) != 0 {
             return false;
         }
         before = next;
@@ -114,20 +111,19 @@ fn norms_tried<'a>(
 
 // Whether the norms are true, given that the rows are accepted.
 fn norms_true<'a>(
-    m: u32,
-    reciprocal: u64,
+    m: Modulus,
     count: usize,
     a: &'a [u32],
     c: &'a [u32],
     norms: &'a [u32],
 ) -> bool
-    requires { Reciprocal m reciprocal × (count ≤ 127) × (count ≤ length a.now) × (count ≤ length c.now) × (length norms.now ≡ 128) }
-    ensures { (b : List ℕ) → Accepted (lent m count a.now b c.now ones)
+    requires { (count ≤ 127) × (count ≤ length a.now) × (count ≤ length c.now) × (length norms.now ≡ 128) }
+    ensures { (b : List ℕ) → Accepted (lent m.value count a.now b c.now ones)
         → (result ≡ true) ↔ (norms.now
-        ≡ padded most_norms (Orthogonality.norms (lent m count a.now b c.now ones))) }
+        ≡ padded most_norms (Orthogonality.norms (lent m.value count a.now b c.now ones))) }
 {
-    if residues(m, norms, count + 1) {
-        return norms_tried(m, reciprocal, count, a, c, norms);
+    if residues(m.value, norms, count + 1) {
+        return norms_tried(m, count, a, c, norms);
     }
     false
 }
@@ -154,11 +150,11 @@ pub fn record<'a>(
         return Err(Refusal::RecordWrong);
     }
     let count = rows as usize;
-    let reciprocal = reduction::reciprocal(modulus);
+    let m = Modulus::new(modulus);
     if rows_kept(modulus, count, a, b, c, a_inverses, c_inverses) {
-        if inverted(modulus, reciprocal, a, a_inverses, 0, count) {
-            if inverted(modulus, reciprocal, c, c_inverses, FIRST_C, count) {
-                if norms_true(modulus, reciprocal, count, a, c, norms) {
+        if inverted(m, a, a_inverses, 0, count) {
+            if inverted(m, c, c_inverses, FIRST_C, count) {
+                if norms_true(m, count, a, c, norms) {
                     return Ok(());
                 }
             }

@@ -11,72 +11,54 @@ use Rattle.record_check.specs.Norms.{weighed_at, tied_at, first-fails, all-tie, 
 use Rattle.record_check.specs.Scans.{pass-begins, pass-goes-on, pass-stops, pass-ends}
 use Rattle.record_check.proofs.norms_tried.Goals as goal
 
-pub row_entry-requires : goal.row_entry-requires
-row_entry-requires c = c.requires.2
-
-pub product_by-before-requires : goal.product_by-before-requires
-product_by-before-requires c = c.requires.0
-
 pub returns-then-before-ne1 : goal.returns-then-before-ne1
 returns-then-before-ne1 c = λ b.
-    says-no (first-fails c.args.m c.args.count c.args.a.now b c.args.c.now c.args.norms.now
-    (λ e. c.if-before-ne1.true ((let first-product : c.product_by-before.result ≡ weighed_at c.args.m c.args.count c.args.a.now c.args.norms.now 0 = c.product_by-before.ensures ∙ ap (λ x. get_or c.args.norms.now 0 0 * x % c.args.m) c.row_entry.ensures in first-product) ∙ e)))
+    says-no (first-fails c.args.m.value c.args.count c.args.a.now b c.args.c.now c.args.norms.now
+    (λ e. c.if-before-ne1.true ((let first-product : c.product-before.result ≡ weighed_at c.args.m.value c.args.count c.args.a.now c.args.norms.now 0 = c.product-before.ensures ∙ ap (λ x. get_or c.args.norms.now 0 0 * x % c.args.m.value) c.row_entry.ensures in first-product) ∙ e)))
 
 pub loop-i-init : goal.loop-i-init
-loop-i-init c = ((let first-product : c.product_by-before.result ≡ weighed_at c.args.m c.args.count c.args.a.now c.args.norms.now 0 = c.product_by-before.ensures ∙ ap (λ x. get_or c.args.norms.now 0 0 * x % c.args.m) c.row_entry.ensures in first-product), pass-begins)
-
-pub row_entry-requires-in-loop-i : goal.row_entry-requires-in-loop-i
-row_entry-requires-in-loop-i c = c.requires.2
-
-pub product_by-next-requires : goal.product_by-next-requires
-product_by-next-requires c = c.requires.0
-
-pub row_entry-factor-requires : goal.row_entry-factor-requires
-row_entry-factor-requires c = c.requires.3
+loop-i-init c = ((let first-product : c.product-before.result ≡ weighed_at c.args.m.value c.args.count c.args.a.now c.args.norms.now 0 = c.product-before.ensures ∙ ap (λ x. get_or c.args.norms.now 0 0 * x % c.args.m.value) c.row_entry.ensures in first-product), pass-begins)
 
 reduced : (x y m : ℕ) → x ≡ y % m → 0 < m → x < m
 reduced x y m e h = rw e (mod-lt y h)
 
 pub overflow_cast-sum-in-loop-i : goal.overflow_cast-sum-in-loop-i
-overflow_cast-sum-in-loop-i c = omega (arith, (reduced _ _ _ c.loop-i.invariant.0 c.requires.0.positive))
+overflow_cast-sum-in-loop-i c = omega (arith, (reduced _ _ _ c.loop-i.invariant.0 c.args.m.is.positive))
 
 pub overflow_mul-sum : goal.overflow_mul-sum
 overflow_mul-sum c = omega (
   arith,
-  (let sum_below : c.product_by-next.result + c.loop-i.before * c.row_entry-factor.result < 18446744073709551616 = let next : c.product_by-next.result < c.args.m = reduced _ _ _ c.product_by-next.ensures c.requires.0.positive in
-      sum_fits _ _ _ (omega (arith, (reduced _ _ _ c.loop-i.invariant.0 c.requires.0.positive))) (omega arith) (omega (arith, next)) in sum_below),
+  (let sum_below : c.product-next.result + c.loop-i.before * c.row_entry-factor.result < 18446744073709551616 = let next : c.product-next.result < c.args.m.value = reduced _ _ _ c.product-next.ensures c.args.m.is.positive in
+      sum_fits _ _ _ (omega (arith, (reduced _ _ _ c.loop-i.invariant.0 c.args.m.is.positive))) (omega arith) (omega (arith, next)) in sum_below),
 )
 
 pub overflow_add-sum : goal.overflow_add-sum
 overflow_add-sum c = omega (
   arith,
-  (let sum_below : c.product_by-next.result + c.loop-i.before * c.row_entry-factor.result < 18446744073709551616 = let next : c.product_by-next.result < c.args.m = reduced _ _ _ c.product_by-next.ensures c.requires.0.positive in
-      sum_fits _ _ _ (omega (arith, (reduced _ _ _ c.loop-i.invariant.0 c.requires.0.positive))) (omega arith) (omega (arith, next)) in sum_below),
+  (let sum_below : c.product-next.result + c.loop-i.before * c.row_entry-factor.result < 18446744073709551616 = let next : c.product-next.result < c.args.m.value = reduced _ _ _ c.product-next.ensures c.args.m.is.positive in
+      sum_fits _ _ _ (omega (arith, (reduced _ _ _ c.loop-i.invariant.0 c.args.m.is.positive))) (omega arith) (omega (arith, next)) in sum_below),
 )
-
-pub remainder-requires : goal.remainder-requires
-remainder-requires c = c.requires.0
 
 pub returns-then-remainder-ne0 : goal.returns-then-remainder-ne0
 returns-then-remainder-ne0 c = λ b.
     Iff.trans
     (pass-stops c.loop-i.invariant.1 c.loop-i-test.true
-    (λ ties. c.if-remainder-ne0.true ((let tried-sum : c.remainder.result ≡ tied_at c.args.m c.args.count c.args.a.now c.args.c.now c.args.norms.now c.loop-i.i = c.remainder.ensures
-    ∙ ap₂ (λ x y. (x + y) % c.args.m) ((let next-product : c.product_by-next.result ≡ weighed_at c.args.m c.args.count c.args.a.now c.args.norms.now (c.loop-i.i + 1) = c.product_by-next.ensures ∙ ap (λ x. get_or c.args.norms.now (c.loop-i.i + 1) 0 * x % c.args.m) c.row_entry-in-loop-i.ensures in next-product))
+    (λ ties. c.if-remainder-ne0.true ((let tried-sum : c.remainder.result ≡ tied_at c.args.m.value c.args.count c.args.a.now c.args.c.now c.args.norms.now c.loop-i.i = c.remainder.ensures
+    ∙ ap₂ (λ x y. (x + y) % c.args.m.value) ((let next-product : c.product-next.result ≡ weighed_at c.args.m.value c.args.count c.args.a.now c.args.norms.now (c.loop-i.i + 1) = c.product-next.ensures ∙ ap (λ x. get_or c.args.norms.now (c.loop-i.i + 1) 0 * x % c.args.m.value) c.row_entry-in-loop-i.ensures in next-product))
     (ap₂ (λ x y. x * y) c.loop-i.invariant.0 c.row_entry-factor.ensures) in tried-sum) ∙ ties)))
-    (all-tie _ _ c.args.a.now b c.args.c.now c.args.norms.now c.requires.2
-    (sym ((let first-product : c.product_by-before.result ≡ weighed_at c.args.m c.args.count c.args.a.now c.args.norms.now 0 = c.product_by-before.ensures ∙ ap (λ x. get_or c.args.norms.now 0 0 * x % c.args.m) c.row_entry.ensures in first-product)) ∙ c.if-before-ne1.false))
+    (all-tie _ _ c.args.a.now b c.args.c.now c.args.norms.now c.requires.1
+    (sym ((let first-product : c.product-before.result ≡ weighed_at c.args.m.value c.args.count c.args.a.now c.args.norms.now 0 = c.product-before.ensures ∙ ap (λ x. get_or c.args.norms.now 0 0 * x % c.args.m.value) c.row_entry.ensures in first-product)) ∙ c.if-before-ne1.false))
 
 pub loop-i-preserved : goal.loop-i-preserved
 loop-i-preserved c = (
-  (let next-product : c.product_by-next.result ≡ weighed_at c.args.m c.args.count c.args.a.now c.args.norms.now (c.loop-i.i + 1) = c.product_by-next.ensures ∙ ap (λ x. get_or c.args.norms.now (c.loop-i.i + 1) 0 * x % c.args.m) c.row_entry-in-loop-i.ensures in next-product),
-  pass-goes-on c.loop-i.invariant.1 (sym ((let tried-sum : c.remainder.result ≡ tied_at c.args.m c.args.count c.args.a.now c.args.c.now c.args.norms.now c.loop-i.i = c.remainder.ensures
-      ∙ ap₂ (λ x y. (x + y) % c.args.m) ((let next-product : c.product_by-next.result ≡ weighed_at c.args.m c.args.count c.args.a.now c.args.norms.now (c.loop-i.i + 1) = c.product_by-next.ensures ∙ ap (λ x. get_or c.args.norms.now (c.loop-i.i + 1) 0 * x % c.args.m) c.row_entry-in-loop-i.ensures in next-product))
+  (let next-product : c.product-next.result ≡ weighed_at c.args.m.value c.args.count c.args.a.now c.args.norms.now (c.loop-i.i + 1) = c.product-next.ensures ∙ ap (λ x. get_or c.args.norms.now (c.loop-i.i + 1) 0 * x % c.args.m.value) c.row_entry-in-loop-i.ensures in next-product),
+  pass-goes-on c.loop-i.invariant.1 (sym ((let tried-sum : c.remainder.result ≡ tied_at c.args.m.value c.args.count c.args.a.now c.args.c.now c.args.norms.now c.loop-i.i = c.remainder.ensures
+      ∙ ap₂ (λ x y. (x + y) % c.args.m.value) ((let next-product : c.product-next.result ≡ weighed_at c.args.m.value c.args.count c.args.a.now c.args.norms.now (c.loop-i.i + 1) = c.product-next.ensures ∙ ap (λ x. get_or c.args.norms.now (c.loop-i.i + 1) 0 * x % c.args.m.value) c.row_entry-in-loop-i.ensures in next-product))
       (ap₂ (λ x y. x * y) c.loop-i.invariant.0 c.row_entry-factor.ensures) in tried-sum)) ∙ c.if-remainder-ne0.false),
 )
 
 pub returns : goal.returns
 returns c = λ b.
     Iff.trans (pass-ends c.loop-i.invariant.1 c.loop-i-test.false)
-    (all-tie _ _ c.args.a.now b c.args.c.now c.args.norms.now c.requires.2
-    (sym ((let first-product : c.product_by-before.result ≡ weighed_at c.args.m c.args.count c.args.a.now c.args.norms.now 0 = c.product_by-before.ensures ∙ ap (λ x. get_or c.args.norms.now 0 0 * x % c.args.m) c.row_entry.ensures in first-product)) ∙ c.if-before-ne1.false))
+    (all-tie _ _ c.args.a.now b c.args.c.now c.args.norms.now c.requires.1
+    (sym ((let first-product : c.product-before.result ≡ weighed_at c.args.m.value c.args.count c.args.a.now c.args.norms.now 0 = c.product-before.ensures ∙ ap (λ x. get_or c.args.norms.now 0 0 * x % c.args.m.value) c.row_entry.ensures in first-product)) ∙ c.if-before-ne1.false))

@@ -7,4 +7,4 @@ use Rattle.record_check.proofs.norms_tried.Given as goal
 
 abbrev pub invariant-loop-i : goal.invariant-loop-i
 invariant-loop-i l =
-    (l.before ≡ weighed_at l.m l.count l.a l.norms l.i) × Passed (Ties l.m l.count l.a l.c l.norms) 0 l.i
+    (l.before ≡ weighed_at l.m.value l.count l.a l.norms l.i) × Passed (Ties l.m.value l.count l.a l.c l.norms) 0 l.i

@@ -5,10 +5,10 @@ use Rattle.record_check.proofs.norms_true.Goals as goal
 
 pub returns-then-residues : goal.returns-then-residues
 returns-then-residues c = λ b accepted.
-    norms-settled c.args.m c.args.count c.args.a.now b c.args.c.now c.args.norms.now c.requires.2 accepted
-    (c.residues.ensures.0 c.if-residues.true) c.requires.4 c.requires.1 (c.norms_tried.ensures b)
+    norms-settled c.args.m.value c.args.count c.args.a.now b c.args.c.now c.args.norms.now c.requires.1 accepted
+    (c.residues.ensures.0 c.if-residues.true) c.requires.3 c.requires.0 (c.norms_tried.ensures b)
 
 pub returns : goal.returns
 returns c = λ b accepted.
     says-no (λ e. denied c.residues.ensures c.if-residues.false
-    (norms-residues c.args.m c.args.count c.args.a.now b c.args.c.now c.args.norms.now c.requires.2 accepted e))
+    (norms-residues c.args.m.value c.args.count c.args.a.now b c.args.c.now c.args.norms.now c.requires.1 accepted e))

@@ -17,28 +17,22 @@ returns-in_default c = record-refused _
 pub returns-then-rows-gt127 : goal.returns-then-rows-gt127
 returns-then-rows-gt127 c = record-refused _ (λ right. omega (arith, c.if-rows-gt127.true, (right-parts right).few))
 
-pub reciprocal-reciprocal-requires : goal.reciprocal-reciprocal-requires
-reciprocal-reciprocal-requires c = omega (arith, ((modulus-found _ _ c.modulus.ensures c.in-Ok.is)).least)
+pub new-m-requires : goal.new-m-requires
+new-m-requires c = omega (arith, ((modulus-found _ _ c.modulus.ensures c.in-Ok.is)).least)
 
 pub rows_kept-requires : goal.rows_kept-requires
 rows_kept-requires c = omega (arith, ((modulus-found _ _ c.modulus.ensures c.in-Ok.is)).least)
-
-pub inverted-requires : goal.inverted-requires
-inverted-requires c = (c.reciprocal-reciprocal.ensures, omega arith, omega arith)
-
-pub inverted-requires-then-inverted : goal.inverted-requires-then-inverted
-inverted-requires-then-inverted c = (c.reciprocal-reciprocal.ensures, omega arith, omega arith)
 
 pub norms_true-requires : goal.norms_true-requires
 norms_true-requires c =
     (c.reciprocal-reciprocal.ensures, omega arith, omega arith, omega arith, omega arith)
 
 pub returns-then-norms_true : goal.returns-then-norms_true
-returns-then-norms_true c = record-finished _ (((let norms-settle : (c.norms_true.result ≡ true) ↔ Right ((fields c.args.modulus c.args.rows c.args.a.now c.args.b.now c.args.c.now c.args.a_inverses.now c.args.c_inverses.now c.args.norms.now)) = let inverted = c.inverted.ensures.0 c.if-inverted.true in
+returns-then-norms_true c = record-finished _ (((let norms-settle : (c.norms_true.result ≡ true) ↔ Right ((fields c.args.modulus c.args.rows c.args.a.now c.args.b.now c.args.c.now c.args.a_inverses.now c.args.c_inverses.now c.args.norms.now)) = let inverted = (rw c.new-m.ensures at c.inverted.ensures).0 c.if-inverted.true in
     let kept = c.rows_kept.ensures.0 c.if-rows_kept.true in
-    let inverted2 = c.inverted-then-inverted.ensures.0 c.if-inverted-2.true in
+    let inverted2 = (rw c.new-m.ensures at c.inverted-then-inverted.ensures).0 c.if-inverted-2.true in
     let accepted = kept-accepted c.requires ((modulus-found _ _ c.modulus.ensures c.in-Ok.is)) c.if-rows-gt127.false kept inverted inverted2 in
-    let norms = c.norms_true.ensures _ accepted in (
+    let norms = (rw c.new-m.ensures at c.norms_true.ensures) _ accepted in (
       λ e. parts-right c.requires (record {
         modulus = (modulus-found _ _ c.modulus.ensures c.in-Ok.is);
         few = c.if-rows-gt127.false;
@@ -51,11 +45,11 @@ returns-then-norms_true c = record-finished _ (((let norms-settle : (c.norms_tru
     ) in norms-settle)).0 c.if-norms_true.true)
 
 pub returns-else-norms_true : goal.returns-else-norms_true
-returns-else-norms_true c = record-refused _ (denied ((let norms-settle : (c.norms_true.result ≡ true) ↔ Right ((fields c.args.modulus c.args.rows c.args.a.now c.args.b.now c.args.c.now c.args.a_inverses.now c.args.c_inverses.now c.args.norms.now)) = let inverted = c.inverted.ensures.0 c.if-inverted.true in
+returns-else-norms_true c = record-refused _ (denied ((let norms-settle : (c.norms_true.result ≡ true) ↔ Right ((fields c.args.modulus c.args.rows c.args.a.now c.args.b.now c.args.c.now c.args.a_inverses.now c.args.c_inverses.now c.args.norms.now)) = let inverted = (rw c.new-m.ensures at c.inverted.ensures).0 c.if-inverted.true in
     let kept = c.rows_kept.ensures.0 c.if-rows_kept.true in
-    let inverted2 = c.inverted-then-inverted.ensures.0 c.if-inverted-2.true in
+    let inverted2 = (rw c.new-m.ensures at c.inverted-then-inverted.ensures).0 c.if-inverted-2.true in
     let accepted = kept-accepted c.requires ((modulus-found _ _ c.modulus.ensures c.in-Ok.is)) c.if-rows-gt127.false kept inverted inverted2 in
-    let norms = c.norms_true.ensures _ accepted in (
+    let norms = (rw c.new-m.ensures at c.norms_true.ensures) _ accepted in (
       λ e. parts-right c.requires (record {
         modulus = (modulus-found _ _ c.modulus.ensures c.in-Ok.is);
         few = c.if-rows-gt127.false;
@@ -68,10 +62,10 @@ returns-else-norms_true c = record-refused _ (denied ((let norms-settle : (c.nor
     ) in norms-settle)) c.if-norms_true.false)
 
 pub returns-else-inverted-2 : goal.returns-else-inverted-2
-returns-else-inverted-2 c = record-refused _ (λ right. denied c.inverted-then-inverted.ensures c.if-inverted-2.false (right-parts right).c_inverted)
+returns-else-inverted-2 c = record-refused _ (λ right. denied (rw c.new-m.ensures at c.inverted-then-inverted.ensures) c.if-inverted-2.false (right-parts right).c_inverted)
 
 pub returns-else-inverted : goal.returns-else-inverted
-returns-else-inverted c = record-refused _ (λ right. denied c.inverted.ensures c.if-inverted.false (right-parts right).a_inverted)
+returns-else-inverted c = record-refused _ (λ right. denied (rw c.new-m.ensures at c.inverted.ensures) c.if-inverted.false (right-parts right).a_inverted)
 
 pub returns-else-rows_kept : goal.returns-else-rows_kept
 returns-else-rows_kept c = record-refused _ (λ right. denied c.rows_kept.ensures c.if-rows_kept.false (right-parts right).kept)
