@@ -1,5 +1,6 @@
 -- Building the tree: the recursion on the number of pairs of rows.
---   BuildInput   the lent rows are below m, and there is room for the tree
+--   first_rows f r   the family of the first r rows of f, closed by 1 1 1
+--   BuildInput       these rows are below m, and there is room for the tree
 -- Proved: every row of the lent family closed by zeros is below m; two halves that are stored side by side and what is joined of them
 -- behind are the tree; each call is handed what it requires. Assumes nothing.
 use Rattle.std.specs.Prelude.{◌≡◌, List, ◌++◌, length, get_or, take}
@@ -20,8 +21,11 @@ use Rattle.subproduct.specs.Layout.{node_list-length, half-node, half-matrix, ma
 use Rattle.subproduct.specs.Leaf.{LeafInput}
 use Rattle.subproduct.specs.Join.{JoinPlaces}
 
-pub record BuildInput (m : ℕ) (a b c : List ℕ) (r : ℕ) (w : List ℕ) (at level pairs t : ℕ) : Type 0 where
-  pub input : LentRows m r a b c
+abbrev pub first_rows : Family → ℕ → Family
+first_rows f r = lent f.m r f.a f.b f.c ones
+
+pub record BuildInput (f : Family) (r : ℕ) (w : List ℕ) (at level pairs t : ℕ) : Type 0 where
+  pub input : LentRows f.m r f.a f.b f.c
   pub depth : Level level pairs
   pub room : at + tree_size level ≤ length w
   pub last : t + span level ≤ 256
@@ -37,10 +41,10 @@ padded-below {m} {r} {a} {b} {c} h i =
     }
 
 -- ---- the leaf of two rows of the family
-module _ {m : ℕ} {a b c : List ℕ} {r : ℕ} {w : List ℕ} {at t : ℕ} (h : BuildInput m a b c r w at 0 1 t) {pa pb pc qa qb qc : ℕ}
-    (epa : pa ≡ get_or (take r a) (t + 1) 0) (epb : pb ≡ get_or (take r b) (t + 1) 0) (epc : pc ≡ get_or (take r c) (t + 1) 0)
-    (eqa : qa ≡ get_or (take r a) (t + 2) 0) (eqb : qb ≡ get_or (take r b) (t + 2) 0) (eqc : qc ≡ get_or (take r c) (t + 2) 0) where
-  pub leaf-input : LeafInput m w at pa pb pc qa qb qc
+module _ {g : Family} {r : ℕ} {w : List ℕ} {at t : ℕ} (h : BuildInput g r w at 0 1 t) {pa pb pc qa qb qc : ℕ}
+    (epa : pa ≡ get_or (take r g.a) (t + 1) 0) (epb : pb ≡ get_or (take r g.b) (t + 1) 0) (epc : pc ≡ get_or (take r g.c) (t + 1) 0)
+    (eqa : qa ≡ get_or (take r g.a) (t + 2) 0) (eqb : qb ≡ get_or (take r g.b) (t + 2) 0) (eqc : qc ≡ get_or (take r g.c) (t + 2) 0) where
+  pub leaf-input : LeafInput g.m w at pa pb pc qa qb qc
   unfolding row_at tree_size
   leaf-input = record {
     most = h.input.modulus.greatest;
@@ -53,8 +57,8 @@ module _ {m : ℕ} {a b c : List ℕ} {r : ℕ} {w : List ℕ} {at t : ℕ} (h :
     qc_below = rw eqc (padded-below h.input (t + 2)).c_below;
   }
 
-  pub leaf-stored : {w' : List ℕ} → w' ≡ written w at (matrix_list (leaf m (row_of pa pb pc) (row_of qa qb qc)))
-      → w' ≡ written w at (tree_list (padded (lent m r a b c ones)) 0 t)
+  pub leaf-stored : {w' : List ℕ} → w' ≡ written w at (matrix_list (leaf g.m (row_of pa pb pc) (row_of qa qb qc)))
+      → w' ≡ written w at (tree_list (padded (first_rows g r)) 0 t)
   unfolding row_at tree_list node
   leaf-stored e =
       let one : t + 1 ≡ suc t = omega arith in
@@ -62,11 +66,11 @@ module _ {m : ℕ} {a b c : List ℕ} {r : ℕ} {w : List ℕ} {at t : ℕ} (h :
       e ∙ rw (epa, epb, epc, eqa, eqb, eqc, one, two)
 
 -- ---- the recursion
-module _ {m : ℕ} {a b c : List ℕ} {r : ℕ} {w : List ℕ} {at level pairs t : ℕ} (h : BuildInput m a b c r w at level pairs t) where
+module _ {g : Family} {r : ℕ} {w : List ℕ} {at level pairs t : ℕ} (h : BuildInput g r w at level pairs t) where
   abbrev f : Family
-  f = padded (lent m r a b c ones)
+  f = padded (first_rows g r)
 
-  pub build-one : pairs ≡ 1 → BuildInput m a b c r w at 0 1 t
+  pub build-one : pairs ≡ 1 → BuildInput g r w at 0 1 t
   build-one e =
       let z : level ≡ 0 = level-one level h.depth e in
       record {
@@ -89,7 +93,7 @@ module _ {m : ℕ} {a b c : List ℕ} {r : ℕ} {w : List ℕ} {at level pairs t
     long : (s : ℕ) → length (tree_list f (level - 1) s) ≡ size
     long s = tree_list-length f (level - 1) s ∙ sym halved.sized
 
-    pub build-left : BuildInput m a b c r w at (level - 1) (pairs / 2) t
+    pub build-left : BuildInput g r w at (level - 1) (pairs / 2) t
     build-left = record {
       input = h.input;
       depth = halved.half;
@@ -101,7 +105,7 @@ module _ {m : ℕ} {a b c : List ℕ} {r : ℕ} {w : List ℕ} {at level pairs t
       left-length : length w₁ ≡ length w
       left-length = ap length e₁ ∙ written-length w at left (omega (arith, long t, h.room, halved))
 
-      pub build-right : BuildInput m a b c r w₁ (at + size) (level - 1) (pairs / 2) (t + pairs)
+      pub build-right : BuildInput g r w₁ (at + size) (level - 1) (pairs / 2) (t + pairs)
       build-right = record {
         input = h.input;
         depth = halved.half;
@@ -137,20 +141,20 @@ module _ {m : ℕ} {a b c : List ℕ} {r : ℕ} {w : List ℕ} {at level pairs t
         n = pairs + (pairs + 1)
 
         node-aside : (tree s : ℕ) → part w₂ tree size ≡ tree_list f (level - 1) s → tree + size ≤ target
-            → Aside m w₂ target (target + 4 * n) (node_before (tree + size) pairs) (4 * (pairs + 1))
+            → Aside g.m w₂ target (target + 4 * n) (node_before (tree + size) pairs) (4 * (pairs + 1))
         node-aside tree s holds before =
             let same : length w₂ ≡ length w = ap length both-written ∙ written-length w at (left ++ right) both-room in
             record {
               source = record {
                 inside = omega (arith, h.room, halved);
-                below = part-residues m w₂ (node_before (tree + size) pairs) (4 * (pairs + 1)) (matrix_list (node f (level - 1) s))
+                below = part-residues g.m w₂ (node_before (tree + size) pairs) (4 * (pairs + 1)) (matrix_list (node f (level - 1) s))
                     (half-node halved f w₂ tree s holds)
-                    (matrix_list-below m (node f (level - 1) s) (node-below f (padded-below h.input) (level - 1) s));
+                    (matrix_list-below g.m (node f (level - 1) s) (node-below f (padded-below h.input) (level - 1) s));
               };
               apart = inl (omega (arith, halved));
             }
 
-        pub build-join : JoinPlaces m w₂ target n (node_before target pairs) (node_before (at + size) pairs) (pairs + 1)
+        pub build-join : JoinPlaces g.m w₂ target n (node_before target pairs) (node_before (at + size) pairs) (pairs + 1)
         build-join =
             let same : length w₂ ≡ length w = ap length both-written ∙ written-length w at (left ++ right) both-room in
             record {
@@ -162,14 +166,14 @@ module _ {m : ℕ} {a b c : List ℕ} {r : ℕ} {w : List ℕ} {at level pairs t
               left_aside = node-aside at t left-holds (omega arith);
             }
 
-        joined : join m n (matrix_at w₂ (node_before target pairs) (pairs + 1)) (matrix_at w₂ (node_before (at + size) pairs) (pairs + 1))
+        joined : join g.m n (matrix_at w₂ (node_before target pairs) (pairs + 1)) (matrix_at w₂ (node_before (at + size) pairs) (pairs + 1))
             ≡ node f level t
         unfolding node
         joined =
             let wide : n ≡ suc (span (suc (level - 1))) = omega (arith, halved.rows, span-suc (level - 1)) in
-            let e : join m n (node f (level - 1) (t + pairs)) (node f (level - 1) t) ≡ node f (suc (level - 1)) t
+            let e : join g.m n (node f (level - 1) (t + pairs)) (node f (level - 1) t) ≡ node f (suc (level - 1)) t
             = rw (wide, ← halved.rows) in
-            ap₂ (join m n) (half-matrix halved f w₂ (at + size) (t + pairs) right-holds) (half-matrix halved f w₂ at t left-holds)
+            ap₂ (join g.m n) (half-matrix halved f w₂ (at + size) (t + pairs) right-holds) (half-matrix halved f w₂ at t left-holds)
             ∙ e ∙ ap (λ l. node f l t) (sym halved.is)
 
         whole : left ++ right ++ matrix_list (node f level t) ≡ tree_list f level t
@@ -179,7 +183,7 @@ module _ {m : ℕ} {a b c : List ℕ} {r : ℕ} {w : List ℕ} {at level pairs t
             ap (λ l. left ++ right ++ matrix_list (node f l t)) halved.is ∙ e ∙ ap (λ l. tree_list f l t) (sym halved.is)
 
         pub build-stored : {w₃ : List ℕ} → w₃ ≡ written w₂ target (matrix_list
-            (join m n (matrix_at w₂ (node_before target pairs) (pairs + 1)) (matrix_at w₂ (node_before (at + size) pairs) (pairs + 1))))
+            (join g.m n (matrix_at w₂ (node_before target pairs) (pairs + 1)) (matrix_at w₂ (node_before (at + size) pairs) (pairs + 1))))
             → w₃ ≡ written w at (tree_list f level t)
         build-stored {w₃} e₃ =
             let room : at + (length (left ++ right) + length (matrix_list (node f level t))) ≤ length w

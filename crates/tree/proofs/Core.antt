@@ -8,7 +8,7 @@ use Rattle.std.proofs.Common.{◌∙◌, inl, arith, length-take, length-drop, l
 use Rattle.std.proofs.Math.ListN.{take, drop}
 use Rattle.std.proofs.Math.Seq.{get_or-take, get_or-drop}
 use Rattle.definitions.specs.Answers.{cleared}
-use Rattle.definitions.specs.Family.{Family, ones, rows, size, row_at}
+use Rattle.definitions.specs.Family.{Family, family, ones, rows, size, row_at}
 use Rattle.definitions.specs.Refusals.{work_length}
 use Rattle.lists.specs.Held.{Output, held_below}
 use Rattle.lists.specs.Lent.{lent}
@@ -109,7 +109,7 @@ module _ {m : ℕ} {a b c curve : List ℕ} {n : ℕ} {output work : List ℕ} (
     some-rows : 0 < rows f
     some-rows = omega (arith, size_is)
 
-    pub core-build : BuildInput m a b c (n - 1) work 0 level pairs 0
+    pub core-build : BuildInput (family m a b c) (n - 1) work 0 level pairs 0
     core-build = record {
       input = h.rows;
       depth = depth;

@@ -1,14 +1,7 @@
 -- `convolution::sum_at` meets its contract: the pairs of both halves and what is beside them make up the sum (`sum-ends`). Assumes nothing.
 use Rattle.std.proofs.Common.{arith}
-use Rattle.convolution.specs.Terms.{odd-input, halves-input, sum-ends}
+use Rattle.convolution.specs.Terms.{sum-ends}
 use Rattle.convolution.proofs.sum_at.Goals as goal
-
-pub with_singles-odd-requires : goal.with_singles-odd-requires
-with_singles-odd-requires c = odd-input _ _ _ _ c.requires _ (omega arith)
-
-pub with_pairs-total-requires : goal.with_pairs-total-requires
-with_pairs-total-requires c =
-    halves-input _ _ _ _ c.requires _ (omega arith) (omega (arith, c.well_formed)) c.with_singles-odd.ensures
 
 pub returns : goal.returns
 returns c =

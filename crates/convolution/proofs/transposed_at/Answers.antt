@@ -1,12 +1,8 @@
 -- `convolution::transposed_at` meets its contract: the pairs as far as the lists reach make up the sum (`transposed-ends`). Assumes
 -- nothing.
 use Rattle.std.proofs.Common.{arith}
-use Rattle.convolution.specs.Terms.{term-input, transposed-ends}
+use Rattle.convolution.specs.Terms.{transposed-ends}
 use Rattle.convolution.proofs.transposed_at.Goals as goal
-
-pub with_pairs-total-requires : goal.with_pairs-total-requires
-with_pairs-total-requires c =
-    term-input _ _ _ _ _ c.requires _ _ (record { first = omega arith; second = omega arith; one = λ l. omega arith })
 
 pub returns : goal.returns
 returns c =

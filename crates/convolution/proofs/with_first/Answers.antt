@@ -1,18 +1,11 @@
 -- `convolution::with_first` meets its contract: with an even count nothing is added (`first-left`), with an odd one the first pair
 -- (`first-added`). Assumes nothing.
 use Rattle.std.proofs.Common.{arith}
-use Rattle.convolution.specs.Steps.{pair_small, first-left, first-plus, first-added}
+use Rattle.convolution.specs.Steps.{first-left, first-added}
 use Rattle.convolution.proofs.with_first.Goals as goal
 
 pub returns-then-odd-eq0 : goal.returns-then-odd-eq0
 returns-then-odd-eq0 c = first-left c.requires.0 c.if-odd-eq0.true
-
-pub pair-x-requires : goal.pair-x-requires
-pair-x-requires c =
-    pair_small c.requires.0.first c.requires.0.second _ _
-
-pub plus-requires : goal.plus-requires
-plus-requires c = first-plus c.requires.0 c.pair-x.ensures
 
 pub returns : goal.returns
 returns c = first-added c.requires.0 c.pair-x.ensures (omega arith) c.plus.ensures

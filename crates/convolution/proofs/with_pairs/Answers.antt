@@ -1,22 +1,10 @@
 -- `convolution::with_pairs` meets its contract: the laws of `Pairs` at the loop. Assumes nothing.
 use Rattle.std.proofs.Common.{◌≡◌, ◌+◌, ◌*◌, ◌%◌, add-zero, arith}
-use Rattle.convolution.proofs.Steps.{pairs_first, pairs_start, pairs-reach, pairs-plus, pairs_next, pairs_end}
+use Rattle.convolution.proofs.Steps.{pairs_start, pairs_next, pairs_end}
 use Rattle.convolution.proofs.with_pairs.Goals as goal
-
-pub with_first-sum-requires : goal.with_first-sum-requires
-with_first-sum-requires c = pairs_first c.requires
 
 pub loop-t-init : goal.loop-t-init
 loop-t-init c = rw (add-zero (c.args.end % 2)) (pairs_start c.requires c.with_first-sum.ensures)
-
-pub two_pairs-x-requires : goal.two_pairs-x-requires
-two_pairs-x-requires c =
-    pairs-reach c.requires c.with_first-sum.ensures c.loop-t.invariant (omega arith)
-
-pub plus-sum-requires : goal.plus-sum-requires
-plus-sum-requires c =
-    pairs-plus c.requires c.with_first-sum.ensures c.loop-t.invariant (omega (arith, c.well_formed))
-    c.two_pairs-x.ensures
 
 pub loop-t-preserved : goal.loop-t-preserved
 loop-t-preserved c =

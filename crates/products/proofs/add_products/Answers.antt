@@ -4,13 +4,6 @@ use Rattle.numbers.specs.Regions.{writing-starts}
 use Rattle.products.specs.Places.{product-sources, product-next, product-ends}
 use Rattle.products.proofs.add_products.Goals as goal
 
-pub used_length-used-requires : goal.used_length-used-requires
-used_length-used-requires c = (c.requires.p_aside.source.inside, c.requires.r_aside.source.inside)
-
-pub used_length-held-requires : goal.used_length-held-requires
-used_length-held-requires c =
-    (c.requires.q_aside.source.inside, c.requires.s_aside.source.inside)
-
 pub loop-k-init : goal.loop-k-init
 loop-k-init c = writing-starts _ _ _ _ c.requires.room
 

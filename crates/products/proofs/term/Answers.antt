@@ -1,10 +1,6 @@
 -- `products::term` meets its contract: what each slice lends is the part. Assumes nothing.
-use Rattle.products.specs.Places.{term-input, term_is}
+use Rattle.products.specs.Places.{term_is}
 use Rattle.products.proofs.term.Goals as goal
-
-pub transposed_at-requires : goal.transposed_at-requires
-transposed_at-requires c =
-    term-input _ _ _ _ _ _ _ _ c.args.i c.requires
 
 pub returns : goal.returns
 returns c = term_is _ _ _ _ _ _ _ _ _ c.requires _ c.transposed_at.ensures

@@ -4,13 +4,6 @@ use Rattle.numbers.specs.Regions.{writing-starts}
 use Rattle.products.specs.Places.{transposed-term, transposed-next, transposed-ends}
 use Rattle.products.proofs.transposed.Goals as goal
 
-pub used_length-used-requires : goal.used_length-used-requires
-used_length-used-requires c = (c.requires.p_aside.source.inside, c.requires.q_aside.source.inside)
-
-pub used_length-held-requires : goal.used_length-held-requires
-used_length-held-requires c =
-    (c.requires.v_aside.source.inside, c.requires.u_aside.source.inside)
-
 pub loop-i-init : goal.loop-i-init
 loop-i-init c = writing-starts _ _ _ _ c.requires.room
 

@@ -1,15 +1,12 @@
 -- `invert` meets its contract: the laws of `Turning` at the loop. Assumes nothing.
-use Prim.Native.Nat.{ℕ, ◌+◌, ◌*◌, ◌%◌, ◌<◌, ◌≤◌}
-use native.Mathlib.Nat.{mod-lt, mod-one}
+use Prim.Native.Nat.{ℕ, ◌+◌, ◌*◌, ◌<◌, ◌≤◌}
+use native.Mathlib.Nat.{mod-one}
 use native.Mathlib.Omega.{arith}
-use Rattle.numbers.specs.Euclid.{greatest-factor-zero, greatest-factor-one}
+use Rattle.numbers.specs.Euclid.{greatest-factor-one}
 use Rattle.residue.specs.Inversion.{SharesFactor}
-use Rattle.residue.specs.UnsignedEuclid.{turning-starts, turned, turned-again, first_fits, second_fits}
-use Rattle.residue.specs.UnsignedEuclid.{found-middle, absent-middle, at_most, found-end, absent-end}
+use Rattle.residue.specs.UnsignedEuclid.{turned, turned-again, first_fits, second_fits}
+use Rattle.residue.specs.UnsignedEuclid.{found-middle, absent-middle, found-end, absent-end}
 use Rattle.residue.proofs.invert.Goals as goal
-
-shares-zero : (x : ℕ) → SharesFactor 0 x x
-shares-zero x = record { none = λ y h e. omega arith; factor = greatest-factor-zero x }
 
 shares-one : (x : ℕ) → SharesFactor 1 x 1
 shares-one x = record { none = λ y h e. omega (arith, mod-one (x * y)); factor = greatest-factor-one x }
@@ -21,28 +18,8 @@ within p q = omega arith
 behind : (x y m : ℕ) → x + y ≤ m → m < 4294967296 → y < 4294967296
 behind x y m p q = omega arith
 
-under : {x m : ℕ} → x < m → x ≤ m
-under p = omega arith
-
-lessens : (r s : ℕ) → 0 < s → 0 < r % s → s % (r % s) < s
-lessens r s p q =
-    let a : s % (r % s) < r % s = mod-lt s q in
-    let b : r % s < s = mod-lt r p in
-    omega arith
-
-pub returns-then-m-eq0 : goal.returns-then-m-eq0
-returns-then-m-eq0 c = rw c.if-m-eq0.true (shares-zero _)
-
 pub returns-then-m-eq1 : goal.returns-then-m-eq1
 returns-then-m-eq1 c = rw c.if-m-eq1.true (shares-one _)
-
-pub loop-s-init : goal.loop-s-init
-loop-s-init c = turning-starts _ _ (omega arith)
-
-pub overflow_mul-t : goal.overflow_mul-t
-overflow_mul-t c =
-    let amounts = first_fits _ _ (omega arith) _ _ _ _ c.loop-s.invariant c.loop-s-test.true in
-    record { fits = behind _ _ _ amounts c.ranges.m.fits }
 
 pub overflow_add-t : goal.overflow_add-t
 overflow_add-t c =
@@ -73,16 +50,10 @@ overflow_add-u c =
     let amounts = second_fits _ _ (omega arith) _ _ _ _ turn (omega arith) in
     record { fits = within amounts c.ranges.m.fits }
 
-pub loop-s-smaller : goal.loop-s-smaller
-loop-s-smaller c = lessens _ _ c.loop-s-test.true (omega arith)
-
 pub loop-s-preserved : goal.loop-s-preserved
 loop-s-preserved c =
     turned-again _ _ (omega arith) _ _ _ _ (turned _ _ (omega arith) _ _ _ _ c.loop-s.invariant c.loop-s-test.true)
     (omega arith)
-
-pub overflow_sub-result : goal.overflow_sub-result
-overflow_sub-result c = under (at_most _ _ (omega arith) _ _ _ _ c.loop-s.invariant (omega arith) c.if-r-eq1.true)
 
 pub returns-then-r-eq1 : goal.returns-then-r-eq1
 returns-then-r-eq1 c = found-end _ _ (omega arith) _ _ _ _ c.loop-s.invariant (omega arith) c.if-r-eq1.true

@@ -1,10 +1,6 @@
 -- `decompose_row` meets its contract: the laws of `DecomposeRow` at the loop. Assumes nothing.
-use native.Mathlib.Omega.{arith}
-use Rattle.row_steps.specs.DecomposeRow.{multiplying-starts, multiplying-summands, multiplying-next, multiplying-ends}
+use Rattle.row_steps.specs.DecomposeRow.{multiplying-starts, multiplying-summands, multiplying-next}
 use Rattle.row_steps.proofs.decompose_row.Goals as goal
-
-pub new-modulus-requires : goal.new-modulus-requires
-new-modulus-requires c = omega (arith, c.requires.p_below)
 
 pub loop-i-init : goal.loop-i-init
 loop-i-init c = multiplying-starts _ _ _ _ _ _ _ c.requires
@@ -20,9 +16,3 @@ loop-i-preserved c =
     multiplying-next _ _ _ _ _ _ _ c.requires _ _ _ _ _
     c.loop-i-test.true c.loop-i.invariant _ _
     c.entry-above.ensures c.entry-next.ensures _ (rw c.new-modulus.ensures at c.combine-v.ensures)
-
-pub shape_of-current : goal.shape_of-current
-shape_of-current c = c.loop-i.invariant.filling.same_length
-
-pub returns : goal.returns
-returns c = multiplying-ends _ _ _ _ _ _ _ _ _ _ _ _ c.loop-i-test.false c.loop-i.invariant

@@ -1,13 +1,8 @@
 -- `coefficient` meets its contract: the laws of one coefficient in `Division`.
 -- Assumes nothing.
 use native.Mathlib.Omega.{arith}
-use Rattle.series.proofs.Division.{coefficient-input, coefficient-fits, coefficient-is}
+use Rattle.series.proofs.Division.{coefficient-fits, coefficient-is}
 use Rattle.series.proofs.coefficient.Goals as goal
-
-pub sum_at-sum-requires : goal.sum_at-sum-requires
-sum_at-sum-requires c =
-    coefficient-input _ _ _ _ _ _ _ c.requires _ _ c.saturating_sub-first.ensures
-    c.saturating_sub-at.ensures
 
 pub overflow_add-top : goal.overflow_add-top
 overflow_add-top c =

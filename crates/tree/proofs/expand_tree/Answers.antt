@@ -8,17 +8,17 @@ use Rattle.tree.proofs.Core.{core-build, core-climb, core-root, core-expand}
 use Rattle.tree.proofs.expand_tree.Goals as goal
 
 pub build-requires : goal.build-requires
-build-requires c =
-    core-build (taken _ _ c.family.invariant (rw (← c.family.view_is) at c.requires.curve) c.requires.few c.requires.room c.requires.work) c.requires.many c.level_for-level.ensures c.pairs_for-pairs.ensures
+build-requires c = rw (← c.family.view_is)
+    (core-build (taken _ _ c.family.invariant (rw (← c.family.view_is) at c.requires.curve) c.requires.few c.requires.room c.requires.work) c.requires.many c.level_for-level.ensures c.pairs_for-pairs.ensures)
 
 pub climb-requires : goal.climb-requires
 climb-requires c =
-    core-climb (taken _ _ c.family.invariant (rw (← c.family.view_is) at c.requires.curve) c.requires.few c.requires.room c.requires.work) c.requires.many c.level_for-level.ensures c.pairs_for-pairs.ensures c.build.ensures
+    core-climb (taken _ _ c.family.invariant (rw (← c.family.view_is) at c.requires.curve) c.requires.few c.requires.room c.requires.work) c.requires.many c.level_for-level.ensures c.pairs_for-pairs.ensures (rw (← c.family.view_is) at c.build.ensures)
 
 pub expand_root-requires : goal.expand_root-requires
 expand_root-requires c =
     core-root (taken _ _ c.family.invariant (rw (← c.family.view_is) at c.requires.curve) c.requires.few c.requires.room c.requires.work) c.requires.many c.level_for-level.ensures c.pairs_for-pairs.ensures
-    c.build.ensures c.climb.ensures
+    (rw (← c.family.view_is) at c.build.ensures) c.climb.ensures
 
 pub returns : goal.returns
 returns c =
@@ -26,4 +26,4 @@ returns c =
     let input = taken _ _ c.family.invariant curve c.requires.few c.requires.room c.requires.work in
     rw (← c.family.view_is) (tree-made _ _ c.family.invariant curve c.requires.few c.requires.room c.requires.work tree_expand expand tree-expand
     (core-expand input c.requires.many c.level_for-level.ensures c.pairs_for-pairs.ensures
-    c.build.ensures c.climb.ensures c.expand_root.ensures))
+    (rw (← c.family.view_is) at c.build.ensures) c.climb.ensures c.expand_root.ensures))

@@ -1,19 +1,8 @@
 -- `Modulus::remainder` meets its contract: the quotient is short by one at most (`quotient-bounds`), and the lesser of what is left and
 -- of that less m is the remainder (`lesser-is`). Assumes nothing.
-use Rattle.std.proofs.Common.{ℕ, ◌<◌, ◌≤◌, arith}
+use Rattle.std.proofs.Common.{arith}
 use Rattle.reduction.specs.Reciprocal.{quotient-bounds, lesser-is, remainder-fits}
 use Rattle.reduction.proofs.Modulus.remainder.Goals as goal
-
-within : {x y n : ℕ} → x ≤ y → y < n → x < n
-within p q = omega arith
-
-pub overflow_mul-rest : goal.overflow_mul-rest
-overflow_mul-rest c =
-    record {
-      fits = within
-          (quotient-bounds _ _ _ _ c.args.self.is c.ranges.x.fits c.high_product-quotient.ensures).most
-          c.ranges.x.fits;
-    }
 
 pub overflow_sub-rest : goal.overflow_sub-rest
 overflow_sub-rest c = (quotient-bounds _ _ _ _ c.args.self.is c.ranges.x.fits c.high_product-quotient.ensures).most

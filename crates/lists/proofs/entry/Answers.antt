@@ -1,7 +1,0 @@
--- `entry` meets its contract: past its end a list reads as the default. Assumes nothing.
-use mathlib.Core.Path.{sym}
-use lib.ListN.{get_or-eq_default}
-use Rattle.lists.proofs.entry.Goals as goal
-
-pub returns-else-i-list : goal.returns-else-i-list
-returns-else-i-list c = sym (get_or-eq_default c.args.list.now 0 c.if-i-list.false)
