@@ -12,11 +12,12 @@ use std::io;
 use std::io::Read;
 use std::process::ExitCode;
 
-// The input to its end, or until the list is full. The loop stays a while: a read says by how much its place goes on.
+// The input to its end, or until the list is full.
 fn read_input<R: Read>(reader: &mut R, text: &mut [u8]) -> io::Result<usize>
     ensures { Within result (length text.new) }
 {
     let mut count: usize = 0;
+    // a while: a read says by how much its place goes on
     while count < text.len() {
         let more = input::read_some(reader, &mut text[count..])?;
         if more == 0 {

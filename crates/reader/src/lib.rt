@@ -72,7 +72,7 @@ fn store(out: &mut [u32], k: usize, x: u32)
     }
 }
 
-// How many numbers stand from a place to the end of the line. The loop stays a while: a number says by how much its place goes on.
+// How many numbers stand from a place to the end of the line.
 fn load_numbers(text: &[u8], at: usize, out: &mut [u32]) -> Option<Read<usize>>
     ensures { Listed
         text.now (ended (read_numbers (drop at text.now)))
@@ -86,6 +86,7 @@ fn load_numbers(text: &[u8], at: usize, out: &mut [u32]) -> Option<Read<usize>>
     }
     let mut i = at;
     let mut count: usize = 0;
+    // a while: a number says by how much its place goes on
     while i < text.len() {
         let number = read_number(text, i)?;
         let b = *text.get(number.next)?;

@@ -91,7 +91,8 @@ pub fn put_printed(text: &[u8], out: &mut [u8], at: usize) -> usize
     put_arranged(direction, &list[..count], &mut ordered[..count], out, at)
 }
 
-// How many bytes of an output hold what was printed, and how many are kept of the line that is open.
+// How many bytes of an output hold what was printed, and how many are kept of the line that is open. The lists stay with the caller, as fixed
+// memory that is lent again for the next piece: a list and its count in one value would be taken apart at each call.
 #[derive(Drop)]
 pub struct Progress {
     pub printed: usize,
@@ -114,6 +115,7 @@ fn answer_lines(
     let mut kept = count;
     let mut n = from;
     let mut at: usize = 0;
+    // a while: a line says by how much its place goes on
     while at < piece.len() {
         match lines::take_line(piece, at, line, kept) {
             Taken::Ended { count: taken, next } => {

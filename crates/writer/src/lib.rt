@@ -102,6 +102,7 @@ pub fn put_operation_line(out: &mut [u8], at: usize, operation: Operation) -> us
         (line operation_key (name operation) []) (line_room operation_key 9)
         out.new result }
 {
+    // by hand and not by Display: the clause says each line's bytes
     match operation {
         Operation::Expand => put_bytes(out, at, b"op=expand\n"),
         Operation::Adjoint => put_bytes(out, at, b"op=adjoint\n"),

@@ -1,7 +1,6 @@
 -- `put_printed` puts what is printed for a line: by each test that refuses, and by none. Assumes nothing.
-use mathlib.Core.Path.{sym, ◌∙◌, subst}
+use mathlib.Core.Path.{subst}
 use native.Mathlib.Omega.{arith}
-use lib.Seq.{length-take-le}
 use Rattle.store_lines.specs.Printed.{printed-1, printed-2, printed-5, printed-list, put-refusal, put-printed}
 use Rattle.store_lines.specs.Requests.{Requested}
 use Rattle.store_lines.proofs.put_printed.Goals as goal
@@ -20,18 +19,6 @@ returns-then-count-gt128 c =
     let request = subst (Requested _ _) c.in-Some.is c.read_request.ensures in
     put-refusal _ _ 5 _ _ _ c.put_number_line-then-count-gt128.ensures
     (printed-5 _ c.if-is_too_long.false _ _ request.read (omega (arith, request.fronted.count, c.if-count-gt128.true)))
-
-pub slice_bounds-put_arranged-end : goal.slice_bounds-put_arranged-end
-slice_bounds-put_arranged-end c = sym (length-take-le _ _ (omega arith))
-
-pub slice_bounds-put_arranged-end-2 : goal.slice_bounds-put_arranged-end-2
-slice_bounds-put_arranged-end-2 c = sym (length-take-le _ _ (omega arith))
-
-pub put_arranged-requires : goal.put_arranged-requires
-put_arranged-requires c =
-    let list = length-take-le c.in-Some.field-0.count c.read_request.new.list (omega arith) in
-    let ordered = length-take-le c.in-Some.field-0.count c.zeros-ordered.result (omega arith) in
-    (omega (arith, list, c.if-count-gt128.false), ordered ∙ sym list, omega arith)
 
 pub returns : goal.returns
 returns c =
