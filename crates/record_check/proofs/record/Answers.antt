@@ -23,10 +23,6 @@ new-m-requires c = omega (arith, ((modulus-found _ _ c.modulus.ensures c.in-Ok.i
 pub rows_kept-requires : goal.rows_kept-requires
 rows_kept-requires c = omega (arith, ((modulus-found _ _ c.modulus.ensures c.in-Ok.is)).least)
 
-pub norms_true-requires : goal.norms_true-requires
-norms_true-requires c =
-    (c.reciprocal-reciprocal.ensures, omega arith, omega arith, omega arith, omega arith)
-
 pub returns-then-norms_true : goal.returns-then-norms_true
 returns-then-norms_true c = record-finished _ (((let norms-settle : (c.norms_true.result ≡ true) ↔ Right ((fields c.args.modulus c.args.rows c.args.a.now c.args.b.now c.args.c.now c.args.a_inverses.now c.args.c_inverses.now c.args.norms.now)) = let inverted = (rw c.new-m.ensures at c.inverted.ensures).0 c.if-inverted.true in
     let kept = c.rows_kept.ensures.0 c.if-rows_kept.true in
