@@ -154,7 +154,15 @@ pub fn build(
     let lists = 4 * k;
     build(family, r, w, at, level - 1, half, t);
     build(family, r, w, right, level - 1, half, t + pairs);
-    join(family.modulus, w, end, pairs + k, end - lists, right - lists, k);
+    join(
+        family.modulus,
+        w,
+        end,
+        pairs + k,
+        end - lists,
+        right - lists,
+        k,
+    );
 }
 
 // Writes the pair over the 2 pairs entries of the curve from t on, from place at on, by the tree that is stored from place tree on.

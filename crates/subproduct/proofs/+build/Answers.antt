@@ -22,12 +22,14 @@ build-requires-2 t c =
 
 pub join-requires : goal.join-requires
 join-requires t c =
-    build-join c.requires c.half_size-size.ensures c.build.ensures c.build-2.ensures
+    build-join (rw (← c.family.view_is) at c.requires) c.half_size-size.ensures (rw (← c.family.view_is) at c.build.ensures)
+    (rw (← c.family.view_is) at c.build-2.ensures)
 
 pub shape_of-w : goal.shape_of-w
 shape_of-w t c =
     c.join.auto.w ∙ c.build-2.auto.w ∙ c.build.auto.w
 
 pub returns : goal.returns
-returns t c =
-    build-stored c.requires c.half_size-size.ensures c.build.ensures c.build-2.ensures c.join.ensures
+returns t c = rw (← c.family.view_is)
+    (build-stored (rw (← c.family.view_is) at c.requires) c.half_size-size.ensures (rw (← c.family.view_is) at c.build.ensures)
+    (rw (← c.family.view_is) at c.build-2.ensures) c.join.ensures)
