@@ -20,8 +20,14 @@ fn sizes(m: u32, a: usize, b: usize, c: usize, curve: usize, output: usize) -> R
     requires { Modulus m }
     ensures { answered result ≡ verdict (size_tests a b c curve output) [] }
 {
-    checks::family_shape(m, a, b, c)?;
-    checks::curve_length(a + 1, curve)?;
+    let shape = checks::family_shape(m, a, b, c);
+    let Ok(()) = shape else {
+        return shape;
+    };
+    let entries = checks::curve_length(a + 1, curve);
+    let Ok(()) = entries else {
+        return entries;
+    };
     checks::output_length(a + 1, output)
 }
 
@@ -43,9 +49,18 @@ fn rows(m1: u32, m2: u32, a: &[i32], c: &[i32]) -> Result<(), Refusal>
     ensures { (b : List ℤ) → answered result ≡ verdict (both_rows (reduced m1 (signed a.now b c.now))
         (reduced m2 (signed a.now b c.now))) [] }
 {
-    column(m1, a, 0, Refusal::ZeroA, Refusal::NoInverseA)?;
-    column(m2, a, 0, Refusal::ZeroA, Refusal::NoInverseA)?;
-    column(m1, c, FIRST_C, Refusal::ZeroC, Refusal::NoInverseC)?;
+    let first_a = column(m1, a, 0, Refusal::ZeroA, Refusal::NoInverseA);
+    let Ok(()) = first_a else {
+        return first_a;
+    };
+    let second_a = column(m2, a, 0, Refusal::ZeroA, Refusal::NoInverseA);
+    let Ok(()) = second_a else {
+        return second_a;
+    };
+    let first_c = column(m1, c, FIRST_C, Refusal::ZeroC, Refusal::NoInverseC);
+    let Ok(()) = first_c else {
+        return first_c;
+    };
     column(m2, c, FIRST_C, Refusal::ZeroC, Refusal::NoInverseC)
 }
 
@@ -57,7 +72,10 @@ fn tests(m1: u32, m2: u32, a: &[i32], b: &[i32], c: &[i32], curve: usize, output
         ++ both_rows (reduced m1 (signed a.now b.now c.now))
         (reduced m2 (signed a.now b.now c.now))) [] }
 {
-    sizes(m1, a.len(), b.len(), c.len(), curve, output)?;
+    let sized = sizes(m1, a.len(), b.len(), c.len(), curve, output);
+    let Ok(()) = sized else {
+        return sized;
+    };
     rows(m1, m2, a, c)
 }
 

@@ -3,7 +3,7 @@
 // the longer its proof is sought.
 #![tactic(auto)]
 
-use definitions::{Answer, InverseAnswer};
+use definitions::{NotInverted, Refusal};
 use std::io;
 
 fn text(rt: &impl Print, bytes: &[u8]) -> io::Result<()> {
@@ -22,37 +22,22 @@ fn list(rt: &impl Print, xs: &[u32]) -> io::Result<()> {
     Ok(())
 }
 
-fn show(rt: &impl Print, label: &[u8], answer: Answer, output: &[u32]) -> io::Result<()> {
+fn show(rt: &impl Print, label: &[u8], answer: Result<(), Refusal>, output: &[u32]) -> io::Result<()> {
     text(rt, label)?;
     match answer {
-        Answer::Finished => text(rt, b" finished:")?,
-        Answer::Refused(k) => {
-            text(rt, b" refused")?;
-            number(rt, k)?;
-            text(rt, b":")?;
-        }
+        Ok(()) => text(rt, b" finished:")?,
+        Err(refusal) => print!(rt; " {refusal}:")?,
     }
     list(rt, output)?;
     text(rt, b"\n")
 }
 
-fn show_inverse(rt: &impl Print, label: &[u8], answer: InverseAnswer) -> io::Result<()> {
+fn show_inverse(rt: &impl Print, label: &[u8], answer: Result<u32, NotInverted>) -> io::Result<()> {
     text(rt, label)?;
     match answer {
-        InverseAnswer::Found(y, g) => {
-            text(rt, b" value:")?;
-            number(rt, y)?;
-            text(rt, b", factor")?;
-            number(rt, g)?;
-        }
-        InverseAnswer::NoInverse(g) => {
-            text(rt, b" refused 13, factor")?;
-            number(rt, g)?;
-        }
-        InverseAnswer::Refused(k) => {
-            text(rt, b" refused")?;
-            number(rt, k)?;
-        }
+        Ok(y) => print!(rt; " value: {y}, factor 1")?,
+        Err(NotInverted::Shares { factor }) => print!(rt; " {}, factor {factor}", Refusal::NoInverse)?,
+        Err(NotInverted::Refused(refusal)) => print!(rt; " {refusal}")?,
     }
     text(rt, b"\n")
 }

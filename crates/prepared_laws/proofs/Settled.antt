@@ -4,7 +4,7 @@
 -- Assumes nothing.
 use Rattle.std.specs.Prelude.{◌≡◌, List, [], ℕ, Ok, Err}
 use Rattle.std.proofs.Common.{sym, ◌∙◌, ap, subst}
-use Rattle.definitions.specs.Answers.{Answer, answered, NormsCall, MomentsCall}
+use Rattle.definitions.specs.Answers.{Answer, number_of, answered, NormsCall, MomentsCall}
 use Rattle.definitions.specs.Family.{Family, Accepted, family}
 use Rattle.definitions.specs.Prepared.{Prepared, prepared}
 use Rattle.definitions.specs.PreparedCalls.{PreparedPlainCall, PreparedTreeCall, PreparedNormsCall, PreparedMomentsCall}
@@ -24,7 +24,7 @@ module _ (m : ℕ) (a b c : List ℕ) (made : Answer) (q : Prepared) (appends : 
 
   pub rows-refused : (call kept : Type 0) (k : Refusal) → made ≡ Err k → kept → ByRecord f call (answered made) kept
   rows-refused call kept k e stay =
-      let not : answered made ≡ finished [] → ⊥ = λ done. refused-not-finished k [] (sym (ap answered e) ∙ done) in
+      let not : answered made ≡ finished [] → ⊥ = λ done. refused-not-finished (number_of k) [] (sym (ap answered e) ∙ done) in
       record { law = λ accepted. absurd (not (appends.finishes.1 accepted)); refusal = λ none. (not, stay) }
 
   module _ (e : made ≡ Ok tt) where

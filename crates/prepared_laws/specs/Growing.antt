@@ -82,7 +82,7 @@ module _ (m : ℕ) (a b c : List ℕ) (i : ℕ) (q : Prepared) (grown : Grown m 
           is = append-out q (listed a b c i) v out call done ∙ ap prepared next;
         }
 
-    pub grown-refused : (k : ℕ) → v ≡ refused (number_of k) → ByAppends m a b c v out
+    pub grown-refused : (k : ℕ) → v ≡ refused k → ByAppends m a b c v out
     grown-refused k q' = record {
       finishes = (
         λ done. absurd (refused-not-finished k [] (sym q' ∙ done)),
@@ -107,7 +107,7 @@ module _ (m : ℕ) (a b c : List ℕ) (i : ℕ) (q : Prepared) (grown : Grown m 
 pub shape-refused : (m : ℕ) (a b c : List ℕ) (r : Answer) (out : Prepared) → answered r ≡ verdict (family_shape (family m a b c)) []
     → (k : Refusal) → r ≡ Err k → ByAppends m a b c (answered r) out
 shape-refused m a b c r out is k q =
-    let not : answered r ≡ finished [] → ⊥ = λ done. refused-not-finished k [] (sym (ap answered q) ∙ done) in
+    let not : answered r ≡ finished [] → ⊥ = λ done. refused-not-finished (number_of k) [] (sym (ap answered q) ∙ done) in
     record {
       finishes = (
         λ done. absurd (not done),

@@ -5,7 +5,8 @@
 
 ghost use Rattle.std.specs.Prelude.{◌≤◌, ◌<◌, length};
 
-use laws::{Totals, Way};
+use definitions::Refusal;
+use laws::Way;
 use std::io;
 
 fn text(rt: &impl Print, bytes: &[u8]) -> io::Result<()> {
@@ -17,9 +18,9 @@ fn number(rt: &impl Print, x: u64) -> io::Result<()> {
     text(rt, b" ")
 }
 
-fn show(rt: &impl Print, answer: Totals) -> io::Result<()> {
+fn show(rt: &impl Print, answer: Result<(u32, u32), Refusal>) -> io::Result<()> {
     match answer {
-        Totals::Weighed(x, y) => {
+        Ok((x, y)) => {
             number(rt, x as u64)?;
             number(rt, y as u64)?;
             if x == y {
@@ -28,22 +29,14 @@ fn show(rt: &impl Print, answer: Totals) -> io::Result<()> {
                 text(rt, b"different\n")
             }
         }
-        Totals::Refused(k) => {
-            text(rt, b"refused ")?;
-            number(rt, k as u64)?;
-            text(rt, b"\n")
-        }
+        Err(refusal) => println!(rt; "{refusal} "),
     }
 }
 
-// 0 for the plain way, 1 for the tree way.
-fn way(rt: &impl Print, by_tree: u32) -> io::Result<Way> {
-    if by_tree == 0 {
-        text(rt, b"plain ")?;
-        Ok(Way::Plain)
-    } else {
-        text(rt, b"tree ")?;
-        Ok(Way::Tree)
+fn show_way(rt: &impl Print, way: Way) -> io::Result<()> {
+    match way {
+        Way::Plain => text(rt, b"plain "),
+        Way::Tree => text(rt, b"tree "),
     }
 }
 
@@ -66,7 +59,7 @@ fn weigh(
     c: &[u32],
     u: &[u32],
     v: &[u32],
-) -> Totals
+) -> Result<(u32, u32), Refusal>
     requires { (0 < length u.now) × (length u.now ≤ 128) }
 {
     let n = u.len();
@@ -95,8 +88,8 @@ fn weigh(
 
 fn line(
     rt: &impl Print,
-    first: u32,
-    second: u32,
+    first: Way,
+    second: Way,
     m: u32,
     a: &[u32],
     b: &[u32],
@@ -108,9 +101,9 @@ fn line(
 {
     number(rt, m as u64)?;
     number(rt, a.len() as u64)?;
-    let one = way(rt, first)?;
-    let two = way(rt, second)?;
-    show(rt, weigh(one, two, m, a, b, c, u, v))
+    show_way(rt, first)?;
+    show_way(rt, second)?;
+    show(rt, weigh(first, second, m, a, b, c, u, v))
 }
 
 fn by_all_ways(
@@ -124,10 +117,10 @@ fn by_all_ways(
 ) -> io::Result<()>
     requires { (0 < length u.now) × (length u.now ≤ 128) }
 {
-    line(rt, 0, 0, m, a, b, c, u, v)?;
-    line(rt, 0, 1, m, a, b, c, u, v)?;
-    line(rt, 1, 0, m, a, b, c, u, v)?;
-    line(rt, 1, 1, m, a, b, c, u, v)
+    line(rt, Way::Plain, Way::Plain, m, a, b, c, u, v)?;
+    line(rt, Way::Plain, Way::Tree, m, a, b, c, u, v)?;
+    line(rt, Way::Tree, Way::Plain, m, a, b, c, u, v)?;
+    line(rt, Way::Tree, Way::Tree, m, a, b, c, u, v)
 }
 
 // R with the curves 3 0 1 and 1 1 0.

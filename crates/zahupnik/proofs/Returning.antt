@@ -5,10 +5,10 @@
 --   Inverse, whether it finishes, finds no inverse or refuses before that
 --   the text call, and the call that writes a job, whether its number names an operation or not
 -- These rest on `returned`, which an edit of specs/ changes. Assumes nothing.
-use Rattle.std.specs.Prelude.{◌≡◌, Bool, true, false, List, [], ◌∷◌, ◌++◌, ℕ, zero, suc, ◌<◌, ◌≤◌, eqb, ℤ, length, drop, Ok, Err}
+use Rattle.std.specs.Prelude.{◌≡◌, Bool, true, false, List, [], ◌∷◌, ◌++◌, ℕ, zero, suc, ◌<◌, ◌≤◌, eqb, ℤ, length, drop, Ok, Err, Option, Some}
 use Rattle.std.proofs.Math.Path.{refl}
 use Rattle.std.proofs.Common.{sym, ◌∙◌, ap, subst, arith}
-use Rattle.definitions.specs.Answers.{Valued, InverseAnswer, valued, inverse_answered, inverse_handed, factor_handed, after, cleared, Converted, ConvertedIn}
+use Rattle.definitions.specs.Answers.{Valued, InverseAnswer, number_of, valued, inverse_answered, inverse_handed, factor_handed, after, cleared, Converted, ConvertedIn}
 use Rattle.definitions.specs.Answers.{InverseCall}
 use Rattle.definitions.specs.Number.{greatest_factor}
 use Rattle.definitions.specs.Prepared.{Prepared, Changed, handed_back}
@@ -16,13 +16,14 @@ use Rattle.definitions.specs.Refusals.{Test, Verdict, finished, refused, verdict
 use Rattle.definitions.specs.Text.{WrittenJob, meant, job_text}
 use Rattle.definitions.specs.TextCall.{text_tests, reply, TextConverted}
 use Rattle.definitions.specs.JobWriting.{writing_tests, JobWritten}
+use Rattle.definitions.specs.declared.NotInverted.{NotInverted}
 use Rattle.definitions.specs.declared.Operation.{Operation}
+use Rattle.definitions.specs.declared.Refusal.{Refusal}
 use Rattle.joining.specs.Calls.{WholesHanded}
 use Rattle.acceptance.specs.Given.{revalued, refused-given}
 use Rattle.acceptance.specs.Verdicts.{refused-not-finished, verdict-next, with_values, verdict-values}
 use Rattle.zahupnik.specs.Returned.{returned, number, operations, choice_of, choice, chosen_tests, chosen_text, JobReturned}
 use Rattle.zahupnik.specs.Positive.{Positive, inverse-positive, text-positive, chosen-positive}
-use Rattle.zahupnik.specs.declared.Choice.{Choice}
 
 -- a number above 0 is that of a refusal
 refusal_is : (k : ℕ) → 0 < k → returned k ≡ refused k
@@ -113,21 +114,21 @@ module _ (m x inverse factor : ℕ) (r : InverseAnswer) (call : InverseCall m x 
   abbrev Kept : InverseAnswer → Type 0
   Kept a = InverseCall m x (inverse_answered a) [] (inverse_handed a) [] (factor_handed a)
 
-  pub found-returned : (y g : ℕ) → r ≡ InverseAnswer.Found y g
-      → InverseCall m x (returned 0) (inverse ∷ []) (y ∷ []) (factor ∷ []) (g ∷ [])
-  found-returned y g e =
+  pub found-returned : (y : ℕ) → r ≡ Ok y
+      → InverseCall m x (returned 0) (inverse ∷ []) (y ∷ []) (factor ∷ []) (1 ∷ [])
+  found-returned y e =
       let made = subst Kept e call in record { answer = made.answer; written = made.written; factor = made.factor }
 
-  pub without-returned : (g : ℕ) → r ≡ InverseAnswer.NoInverse g
+  pub without-returned : (g : ℕ) → r ≡ Err (NotInverted.Shares g)
       → InverseCall m x (returned 13) (inverse ∷ []) (inverse ∷ []) (factor ∷ []) (g ∷ [])
   without-returned g e = let made = subst Kept e call in record { answer = made.answer; written = refl; factor = made.factor }
 
-  pub early-returned : (k : ℕ) → r ≡ InverseAnswer.Refused k
-      → InverseCall m x (returned k) (inverse ∷ []) (inverse ∷ []) (factor ∷ []) (factor ∷ [])
+  pub early-returned : (k : Refusal) → r ≡ Err (NotInverted.Refused k)
+      → InverseCall m x (returned (number_of k)) (inverse ∷ []) (inverse ∷ []) (factor ∷ []) (factor ∷ [])
   early-returned k e =
       let made = subst Kept e call in
-      let above = refused-given (λ j. 0 < j) [] k (inverse_tests m x) (inverse-positive m x) (sym made.answer) in
-      rw (refusal_is k above) (record { answer = made.answer; written = refl; factor = untold (eqb k 13) made.factor })
+      let above = refused-given (λ j. 0 < j) [] (number_of k) (inverse_tests m x) (inverse-positive m x) (sym made.answer) in
+      rw (refusal_is (number_of k) above) (record { answer = made.answer; written = refl; factor = untold (eqb (number_of k) 13) made.factor })
     where
       -- it tells no factor, so it is not 13
       untold : (told : Bool) → ◌≡◌ {A = List ℕ} [] (elim told as (λ b. List ℕ) [ true ↦ greatest_factor m x ∷ [] | false ↦ [] ])
@@ -144,27 +145,27 @@ text-returned t output output' work work' r made k e =
     made.written made.wiped
 
 -- the function that writes a job, once its number has named an operation or none
-choice-past-all : (others : List Operation) (k : ℕ) → length others ≤ k → choice_of others k ≡ Choice.Nothing
+choice-past-all : (others : List Operation) (k : ℕ) → length others ≤ k → choice_of others k ≡ Option.None
 unfolding choice_of
 choice-past-all [] k h = refl
 choice-past-all (operation ∷ others) zero h = absurd (omega arith)
 choice-past-all (operation ∷ others) (suc k) h = choice-past-all others k (omega arith)
 
-pub choice-past : (k : ℕ) → 5 ≤ k → Choice.Nothing ≡ choice k
+pub choice-past : (k : ℕ) → 5 ≤ k → Option.None ≡ choice k
 unfolding choice
 choice-past k h = sym (choice-past-all operations k h)
 
 module _ (job : Operation → WrittenJob) (k : ℕ) (output : List ℕ) (count : ℕ) where
-  pub nothing-returned : (chosen : Choice) → chosen ≡ choice k → chosen ≡ Choice.Nothing → JobReturned job k 2 output output count count
+  pub nothing-returned : (chosen : Option Operation) → chosen ≡ choice k → chosen ≡ Option.None → JobReturned job k 2 output output count count
   unfolding chosen_tests verdict
   nothing-returned chosen is e = record {
     text = rw (sym is ∙ e) (record { answer = refl; written = refl });
     counted = rw (sym is ∙ e) (record { answer = refl; written = refl });
   }
 
-  module _ (chosen : Choice) (operation : Operation) (is : chosen ≡ choice k) (e : chosen ≡ Choice.Named operation)
+  module _ (chosen : Option Operation) (operation : Operation) (is : chosen ≡ choice k) (e : chosen ≡ Some operation)
       (r : Valued) (output' : List ℕ) (written : JobWritten (job operation) r output output') where
-    named : choice k ≡ Choice.Named operation
+    named : choice k ≡ Some operation
     named = sym is ∙ e
 
     abbrev tests : List Test
@@ -172,7 +173,7 @@ module _ (job : Operation → WrittenJob) (k : ℕ) (output : List ℕ) (count :
 
     positive : Positive tests
     unfolding chosen_tests
-    positive = chosen-positive (Choice.Named operation) job (length output)
+    positive = chosen-positive (Some operation) job (length output)
 
     passed : valued r ≡ verdict tests (length (job_text (job operation)) ∷ [])
     passed = written.answer ∙ sym (verdict-next (test 2 false) _ _ refl)
@@ -184,9 +185,9 @@ module _ (job : Operation → WrittenJob) (k : ℕ) (output : List ℕ) (count :
       counted = rw named (value-returned tests positive _ count n (sym (ap valued q) ∙ passed));
     }
 
-    pub job-refusal-returned : (j : ℕ) → r ≡ Err j → JobReturned job k j output output' count count
+    pub job-refusal-returned : (j : Refusal) → r ≡ Err j → JobReturned job k (number_of j) output output' count count
     unfolding chosen_tests chosen_text
     job-refusal-returned j q = record {
-      text = rw named (valued-returned tests positive _ r passed j (sym (ap (λ v. number (valued v)) q)) _ output output' written.written);
-      counted = rw named (refusal-returned tests positive _ count j (sym (ap valued q) ∙ passed));
+      text = rw named (valued-returned tests positive _ r passed (number_of j) (sym (ap (λ v. number (valued v)) q)) _ output output' written.written);
+      counted = rw named (refusal-returned tests positive _ count (number_of j) (sym (ap valued q) ∙ passed));
     }

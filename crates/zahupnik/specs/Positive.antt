@@ -1,7 +1,7 @@
 -- No test has the number 0, which tells of the finished kind.
 --   Positive ts   the number of each test of ts that holds is above 0
 -- Proved: so it is for the tests of each exported function. Assumes nothing.
-use Rattle.std.specs.Prelude.{List, ◌++◌, ℕ, ◌<◌, ℤ}
+use Rattle.std.specs.Prelude.{List, ◌++◌, ℕ, ◌<◌, ℤ, Option, Some}
 use native.Mathlib.Omega.{arith}
 use borrow.Author.Rules.{rules}
 use Rattle.definitions.specs.Family.{Family, Row}
@@ -25,7 +25,6 @@ use Rattle.joining.specs.Expanding.{Signed, reduced}
 use Rattle.storing.specs.Calls.{entry_count_test, order_tests}
 use Rattle.acceptance.specs.Given.{Given, given-append, shape-given, rows-given, values-given, lengths-given}
 use Rattle.zahupnik.specs.Returned.{chosen_tests}
-use Rattle.zahupnik.specs.declared.Choice.{Choice}
 
 abbrev pub Positive : List Test → Type 0
 Positive ts = Given (λ k. 0 < k) ts
@@ -80,10 +79,10 @@ pub text-positive : (t : List ℕ) (output work : ℕ) → Positive (text_tests 
 unfolding text_tests text_length_test
 text-positive t output work = (λ e. omega arith, form-positive (read_job t) output work)
 
-pub chosen-positive : (choice : Choice) (job : Operation → WrittenJob) (output : ℕ) → Positive (chosen_tests choice job output)
+pub chosen-positive : (choice : Option Operation) (job : Operation → WrittenJob) (output : ℕ) → Positive (chosen_tests choice job output)
 unfolding chosen_tests writing_tests
-chosen-positive Choice.Nothing job output = search rules
-chosen-positive (Choice.Named operation) job output =
+chosen-positive Option.None job output = search rules
+chosen-positive (Some operation) job output =
     let w = job operation in (
       λ e. omega arith,
       given-append _ (length_tests _ _ _ _ _ _ _ output) _

@@ -7,14 +7,13 @@
 --   JobReturned    of the function that writes a job: a number that names no operation is refused with 2 before all else, since no text
 --                  of the form has it
 -- A lent number is a list of one. The scope paper, 'Who causes which refusal'. Assumes nothing.
-use Rattle.std.specs.Prelude.{true, false, List, [], ◌∷◌, ◌++◌, ℕ, zero, suc, length, drop}
+use Rattle.std.specs.Prelude.{true, false, List, [], ◌∷◌, ◌++◌, ℕ, zero, suc, length, drop, Option, Some}
 use Rattle.definitions.specs.Answers.{Converted, ConvertedIn}
 use Rattle.definitions.specs.Refusals.{Test, Verdict, finished, refused, test}
 use Rattle.definitions.specs.Text.{WrittenJob, meant, job_text}
 use Rattle.definitions.specs.TextCall.{text_tests, reply}
 use Rattle.definitions.specs.JobWriting.{written_job, writing_tests}
 use Rattle.definitions.specs.declared.Operation.{Operation}
-use Rattle.zahupnik.specs.declared.Choice.{Choice}
 
 abbrev pub returned : ℕ → Verdict
 returned zero = finished []
@@ -34,25 +33,25 @@ pub record TextReturned (t : List ℕ) (r : ℕ) (output output' work work' : Li
 abbrev pub operations : List Operation
 operations = Operation.Expand ∷ Operation.Adjoint ∷ Operation.Decompose ∷ Operation.Moments ∷ Operation.Norms ∷ []
 
-unfoldable pub choice_of : List Operation → ℕ → Choice
-choice_of [] k = Choice.Nothing
-choice_of (operation ∷ others) zero = Choice.Named operation
+unfoldable pub choice_of : List Operation → ℕ → Option Operation
+choice_of [] k = Option.None
+choice_of (operation ∷ others) zero = Some operation
 choice_of (operation ∷ others) (suc k) = choice_of others k
 
-unfoldable pub choice : ℕ → Choice
+unfoldable pub choice : ℕ → Option Operation
 choice k = choice_of operations k
 
 -- what is to be written, by the operation
 abbrev pub job_for : ℕ → List ℕ → List ℕ → List ℕ → List ℕ → Operation → WrittenJob
 job_for m a b c u operation = written_job m a b c operation u
 
-unfoldable pub chosen_tests : Choice → (Operation → WrittenJob) → ℕ → List Test
-chosen_tests Choice.Nothing job output = test 2 true ∷ []
-chosen_tests (Choice.Named operation) job output = test 2 false ∷ writing_tests (meant (job operation)) output
+unfoldable pub chosen_tests : Option Operation → (Operation → WrittenJob) → ℕ → List Test
+chosen_tests Option.None job output = test 2 true ∷ []
+chosen_tests (Some operation) job output = test 2 false ∷ writing_tests (meant (job operation)) output
 
-unfoldable pub chosen_text : Choice → (Operation → WrittenJob) → List ℕ
-chosen_text Choice.Nothing job = []
-chosen_text (Choice.Named operation) job = job_text (job operation)
+unfoldable pub chosen_text : Option Operation → (Operation → WrittenJob) → List ℕ
+chosen_text Option.None job = []
+chosen_text (Some operation) job = job_text (job operation)
 
 -- k: the number of the operation; count and count': the lent number before and after, the length of the job text
 pub record JobReturned (job : Operation → WrittenJob) (k r : ℕ) (output output' : List ℕ) (count count' : ℕ) : Type 0 where

@@ -16,15 +16,8 @@ ghost use Rattle.storing.specs.Calls.{OrderCall};
 ghost use Rattle.storing.specs.declared.Direction.{Direction};
 ghost use Rattle.zahupnik.specs.Returned.{returned, number, TextReturned, choice, job_for, JobReturned};
 
-use definitions::{Operation, Refusal};
+use definitions::{NotInverted, Operation, Refusal};
 use prepared::{Change, Prepared};
-
-// What a number names: an operation of a job, or nothing.
-#[derive(Drop)]
-pub enum Choice {
-    Named(Operation),
-    Nothing,
-}
 
 // The answer of a change as a number, and the record after it.
 #[repr(C)]
@@ -40,7 +33,7 @@ fn number(answer: Result<(), Refusal>) -> u32
 {
     match answer {
         Ok(()) => 0,
-        Err(k) => k,
+        Err(refusal) => u32::from(refusal),
     }
 }
 
@@ -59,16 +52,16 @@ pub extern "C" fn zahupnik_invert(m: u32, x: u32, inverse: &mut u32, factor: &mu
         (factor.old ∷ []) (factor.new ∷ []) }
 {
     match plain_calls::invert(m, x) {
-        InverseAnswer::Found(y, g) => {
+        Ok(y) => {
             *inverse = y;
-            *factor = g;
+            *factor = 1;
             0
         }
-        InverseAnswer::NoInverse(g) => {
-            *factor = g;
+        Err(NotInverted::Shares { factor: shared }) => {
+            *factor = shared;
             13
         }
-        Err(k) => k,
+        Err(NotInverted::Refused(refusal)) => u32::from(refusal),
     }
 }
 
@@ -212,21 +205,21 @@ pub extern "C" fn zahupnik_convert_text(
             *count = bytes;
             0
         }
-        Err(k) => k,
+        Err(refusal) => u32::from(refusal),
     }
 }
 
-// The operation that a number names: 0 to 4, in the scope paper's order.
-fn choose(k: u32) -> Choice
+// The operation that a number names, if it names one: 0 to 4, in the scope paper's order.
+fn choose(k: u32) -> Option<Operation>
     ensures { result ≡ choice k }
 {
     match k {
-        0 => Choice::Named(Operation::Expand),
-        1 => Choice::Named(Operation::Adjoint),
-        2 => Choice::Named(Operation::Decompose),
-        3 => Choice::Named(Operation::Moments),
-        4 => Choice::Named(Operation::Norms),
-        _ => Choice::Nothing,
+        0 => Some(Operation::Expand),
+        1 => Some(Operation::Adjoint),
+        2 => Some(Operation::Decompose),
+        3 => Some(Operation::Moments),
+        4 => Some(Operation::Norms),
+        _ => None,
     }
 }
 
@@ -246,16 +239,15 @@ pub extern "C" fn zahupnik_write_job(
     ensures { JobReturned (job_for m a.now b.now c.now curve.now) operation result
         output.old output.new count.old count.new }
 {
-    let choice = choose(operation);
-    let Choice::Named(named) = choice else {
-        return 2;
+    let Some(named) = choose(operation) else {
+        return u32::from(Refusal::Malformed);
     };
     match job::write_job(m, a, b, c, named, curve, output) {
         Ok(bytes) => {
             *count = bytes;
             0
         }
-        Err(k) => k,
+        Err(refusal) => u32::from(refusal),
     }
 }
 

@@ -15,7 +15,7 @@ returns-in-Ok c =
 
 pub returns-in-Err : goal.returns-in-Err
 returns-in-Err c =
-    record {
+    rw c.from.ensures (record {
       text = text-returned _ _ _ _ _ _ c.convert_text.ensures _ (sym (ap (λ r. number (valued r)) c.in-Err.is));
       counted = refusal-returned _ (text-positive _ _ _) _ _ _ (sym (ap valued c.in-Err.is) ∙ c.convert_text.ensures.answer);
-    }
+    })
