@@ -40,14 +40,7 @@ fn pairs_for(level: usize) -> usize
 }
 
 // The coefficient of x^k in v_0 F_0 + v_1 F_1, where v_0 and v_1 are the lists of span numbers from place at on, and first is F_1.
-fn root_coefficient(
-    m: Modulus,
-    w: &[u32],
-    at: usize,
-    span: usize,
-    first: &[u32],
-    k: usize,
-) -> u32
+fn root_coefficient(m: Modulus, w: &[u32], at: usize, span: usize, first: &[u32], k: usize) -> u32
     requires { CoefficientInput m.value w.now at span first.now k }
     ensures { result ≡ root_entry m.value w.now at span first.now k }
 {
