@@ -20,16 +20,7 @@ use tree::{Adjoining, Conversion, Expanding};
 fn tree_verdict(family: &Prepared, curve: &[u32], output: usize, work: usize) -> Result<(), Refusal>
     ensures { answered result ≡ verdict (prepared_tree_tests (held family.now) curve.now output work) [] }
 {
-    let right = record_check::record(
-        family.modulus,
-        family.rows,
-        &family.a,
-        &family.b,
-        &family.c,
-        &family.a_inverses,
-        &family.c_inverses,
-        &family.norms,
-    );
+    let right = family.right();
     let Ok(()) = right else {
         return right;
     };
@@ -53,16 +44,7 @@ fn tree_verdict(family: &Prepared, curve: &[u32], output: usize, work: usize) ->
 fn moments_verdict(family: &Prepared, output: usize, work: usize) -> Result<(), Refusal>
     ensures { answered result ≡ verdict (prepared_moments_tests (held family.now) output work) [] }
 {
-    let right = record_check::record(
-        family.modulus,
-        family.rows,
-        &family.a,
-        &family.b,
-        &family.c,
-        &family.a_inverses,
-        &family.c_inverses,
-        &family.norms,
-    );
+    let right = family.right();
     let Ok(()) = right else {
         return right;
     };
@@ -97,7 +79,12 @@ fn call<C: Conversion>(
 
 // Expand by the subproduct tree. After an accepted call the first 16,384 numbers of the working list are zero. Refused with 14: the record
 // is not right; with 6 to 8: curve or output is not n long, or the working list too short; with 12: a curve entry is not below m.
-pub fn tree_expand(family: Prepared, curve: &[u32], output: &mut [u32], work: &mut [u32]) -> Result<(), Refusal>
+pub fn tree_expand(
+    family: Prepared,
+    curve: &[u32],
+    output: &mut [u32],
+    work: &mut [u32],
+) -> Result<(), Refusal>
     ensures { PreparedTreeCall expand (held family) curve.now (answered result)
         output.old output.new work.old work.new }
 {
@@ -105,7 +92,12 @@ pub fn tree_expand(family: Prepared, curve: &[u32], output: &mut [u32], work: &m
 }
 
 // Adjoint by the subproduct tree. The working list and the refusals are as for tree_expand.
-pub fn tree_adjoint(family: Prepared, curve: &[u32], output: &mut [u32], work: &mut [u32]) -> Result<(), Refusal>
+pub fn tree_adjoint(
+    family: Prepared,
+    curve: &[u32],
+    output: &mut [u32],
+    work: &mut [u32],
+) -> Result<(), Refusal>
     ensures { PreparedTreeCall adjoint (held family) curve.now (answered result)
         output.old output.new work.old work.new }
 {
