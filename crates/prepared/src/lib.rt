@@ -37,22 +37,6 @@ pub struct Change {
     pub family: Prepared,
 }
 
-// 14: the record is right.
-fn test(p: Prepared) -> Result<(), Refusal>
-    ensures { answered result ≡ verdict (record_test (held p) ∷ []) [] }
-{
-    record_check::record(
-        p.modulus,
-        p.rows,
-        &p.a,
-        &p.b,
-        &p.c,
-        &p.a_inverses,
-        &p.c_inverses,
-        &p.norms,
-    )
-}
-
 // The record of the family of the first rows of three lists with zeros behind.
 fn prepare(m: u32, rows: u32, a: [u32; 127], b: [u32; 127], c: [u32; 127]) -> Prepared
     requires { Preparable m rows a b c }
@@ -79,7 +63,7 @@ fn prepare(m: u32, rows: u32, a: [u32; 127], b: [u32; 127], c: [u32; 127]) -> Pr
 fn append_verdict(p: Prepared, a: u32, b: u32, c: u32) -> Result<(), Refusal>
     ensures { answered result ≡ verdict (append_tests (held p) (row_of a b c)) [] }
 {
-    let right = test(p);
+    let right = p.right();
     let Ok(()) = right else {
         return right;
     };
@@ -93,7 +77,7 @@ fn append_verdict(p: Prepared, a: u32, b: u32, c: u32) -> Result<(), Refusal>
 fn drop_verdict(p: Prepared) -> Result<(), Refusal>
     ensures { answered result ≡ verdict (drop_tests (held p)) [] }
 {
-    let right = test(p);
+    let right = p.right();
     let Ok(()) = right else {
         return right;
     };
@@ -108,7 +92,7 @@ fn drop_verdict(p: Prepared) -> Result<(), Refusal>
 fn replace_verdict(p: Prepared, row: u32, a: u32, b: u32, c: u32) -> Result<(), Refusal>
     ensures { answered result ≡ verdict (replace_tests (held p) row (row_of a b c)) [] }
 {
-    let right = test(p);
+    let right = p.right();
     let Ok(()) = right else {
         return right;
     };
@@ -124,6 +108,22 @@ fn replace_verdict(p: Prepared, row: u32, a: u32, b: u32, c: u32) -> Result<(), 
 impl Prepared {
     // The largest row count: an append is refused with 5 from there on.
     pub const MOST_ROWS: u32 = 127;
+
+    // 14: whether the record is right.
+    pub fn right(&self) -> Result<(), Refusal>
+        ensures { answered result ≡ verdict (record_test (held self.now) ∷ []) [] }
+    {
+        record_check::record(
+            self.modulus,
+            self.rows,
+            &self.a,
+            &self.b,
+            &self.c,
+            &self.a_inverses,
+            &self.c_inverses,
+            &self.norms,
+        )
+    }
 
     // The record of the family without rows. Refused with 3: m is out of its range; its record is then all zeros.
     pub fn empty(m: u32) -> Change

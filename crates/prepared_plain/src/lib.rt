@@ -19,16 +19,7 @@ use prepared::Prepared;
 fn plain_verdict(family: &Prepared, curve: &[u32], output: usize) -> Result<(), Refusal>
     ensures { answered result ≡ verdict (prepared_plain_tests (held family.now) curve.now output) [] }
 {
-    let right = record_check::record(
-        family.modulus,
-        family.rows,
-        &family.a,
-        &family.b,
-        &family.c,
-        &family.a_inverses,
-        &family.c_inverses,
-        &family.norms,
-    );
+    let right = family.right();
     let Ok(()) = right else {
         return right;
     };
@@ -48,16 +39,7 @@ fn plain_verdict(family: &Prepared, curve: &[u32], output: usize) -> Result<(), 
 fn norms_verdict(family: &Prepared, output: usize) -> Result<(), Refusal>
     ensures { answered result ≡ verdict (prepared_norms_tests (held family.now) output) [] }
 {
-    let right = record_check::record(
-        family.modulus,
-        family.rows,
-        &family.a,
-        &family.b,
-        &family.c,
-        &family.a_inverses,
-        &family.c_inverses,
-        &family.norms,
-    );
+    let right = family.right();
     let Ok(()) = right else {
         return right;
     };

@@ -20,16 +20,7 @@ use tree::{Adjoining, Conversion, Expanding};
 fn tree_verdict(family: &Prepared, curve: &[u32], output: usize, work: usize) -> Result<(), Refusal>
     ensures { answered result ≡ verdict (prepared_tree_tests (held family.now) curve.now output work) [] }
 {
-    let right = record_check::record(
-        family.modulus,
-        family.rows,
-        &family.a,
-        &family.b,
-        &family.c,
-        &family.a_inverses,
-        &family.c_inverses,
-        &family.norms,
-    );
+    let right = family.right();
     let Ok(()) = right else {
         return right;
     };
@@ -53,16 +44,7 @@ fn tree_verdict(family: &Prepared, curve: &[u32], output: usize, work: usize) ->
 fn moments_verdict(family: &Prepared, output: usize, work: usize) -> Result<(), Refusal>
     ensures { answered result ≡ verdict (prepared_moments_tests (held family.now) output work) [] }
 {
-    let right = record_check::record(
-        family.modulus,
-        family.rows,
-        &family.a,
-        &family.b,
-        &family.c,
-        &family.a_inverses,
-        &family.c_inverses,
-        &family.norms,
-    );
+    let right = family.right();
     let Ok(()) = right else {
         return right;
     };

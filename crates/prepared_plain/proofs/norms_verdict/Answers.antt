@@ -7,11 +7,11 @@ use Rattle.prepared_plain.proofs.norms_verdict.Goals as goal
 
 pub returns-in_default : goal.returns-in_default
 unfolding prepared_norms_tests
-returns-in_default c = stage-refuses _ _ all-remain _ c.record-right.ensures _ c.in_default.is
+returns-in_default c = stage-refuses _ _ all-remain _ c.right-right.ensures _ c.in_default.is
 
 pub returns : goal.returns
 unfolding prepared_norms_tests
 returns c =
-    let size = right-size (record-tested _ _ c.record-right.ensures c.in-Ok.is) in
-    let after_right = stage-passes _ _ all-remain _ c.record-right.ensures c.in-Ok.is in
+    let size = right-size (record-tested _ _ c.right-right.ensures c.in-Ok.is) in
+    let after_right = stage-passes _ _ all-remain _ c.right-right.ensures c.in-Ok.is in
     stages-end _ after_right c.output_length.result (rw size at c.output_length.ensures)

@@ -7,20 +7,20 @@ use Rattle.prepared_plain.proofs.plain_verdict.Goals as goal
 
 pub returns-in_default : goal.returns-in_default
 unfolding prepared_plain_tests
-returns-in_default c = stage-refuses _ _ all-remain _ c.record-right.ensures _ c.in_default.is
+returns-in_default c = stage-refuses _ _ all-remain _ c.right-right.ensures _ c.in_default.is
 
 pub returns-in_default-entries : goal.returns-in_default-entries
 unfolding prepared_plain_tests
 returns-in_default-entries c =
-    let size = right-size (record-tested _ _ c.record-right.ensures c.in-Ok.is) in
-    let after_right = stage-passes _ _ all-remain _ c.record-right.ensures c.in-Ok.is in
+    let size = right-size (record-tested _ _ c.right-right.ensures c.in-Ok.is) in
+    let after_right = stage-passes _ _ all-remain _ c.right-right.ensures c.in-Ok.is in
     stage-refuses _ _ after_right _ (rw size at c.curve_length-entries.ensures) _ c.in_default-entries.is
 
 pub returns-in_default-place : goal.returns-in_default-place
 unfolding prepared_plain_tests
 returns-in_default-place c =
-    let size = right-size (record-tested _ _ c.record-right.ensures c.in-Ok.is) in
-    let after_right = stage-passes _ _ all-remain _ c.record-right.ensures c.in-Ok.is in
+    let size = right-size (record-tested _ _ c.right-right.ensures c.in-Ok.is) in
+    let after_right = stage-passes _ _ all-remain _ c.right-right.ensures c.in-Ok.is in
     let after_entries = stage-passes _ _ after_right _ (rw size at c.curve_length-entries.ensures)
     c.in-Ok-entries.is in
     stage-refuses _ _ after_entries _ (rw size at c.output_length-place.ensures) _ c.in_default-place.is
@@ -28,8 +28,8 @@ returns-in_default-place c =
 pub returns : goal.returns
 unfolding prepared_plain_tests
 returns c =
-    let size = right-size (record-tested _ _ c.record-right.ensures c.in-Ok.is) in
-    let after_right = stage-passes _ _ all-remain _ c.record-right.ensures c.in-Ok.is in
+    let size = right-size (record-tested _ _ c.right-right.ensures c.in-Ok.is) in
+    let after_right = stage-passes _ _ all-remain _ c.right-right.ensures c.in-Ok.is in
     let after_entries = stage-passes _ _ after_right _ (rw size at c.curve_length-entries.ensures)
     c.in-Ok-entries.is in
     let after_place = stage-passes _ _ after_entries _ (rw size at c.output_length-place.ensures)
