@@ -65,7 +65,15 @@ fn rows(m1: u32, m2: u32, a: &[i32], c: &[i32]) -> Result<(), Refusal>
 }
 
 // All tests after those of the moduli: 4 5 6 7, and 17 10 17 10 18 11 18 11 of the rows.
-fn tests(m1: u32, m2: u32, a: &[i32], b: &[i32], c: &[i32], curve: usize, output: usize) -> Result<(), Refusal>
+fn tests(
+    m1: u32,
+    m2: u32,
+    a: &[i32],
+    b: &[i32],
+    c: &[i32],
+    curve: usize,
+    output: usize,
+) -> Result<(), Refusal>
     requires { Modulus m1 × Modulus m2 }
     ensures { answered result ≡ verdict
         (size_tests (length a.now) (length b.now) (length c.now) curve output

@@ -22,7 +22,12 @@ fn list(rt: &impl Print, xs: &[u32]) -> io::Result<()> {
     Ok(())
 }
 
-fn show(rt: &impl Print, label: &[u8], answer: Result<(), Refusal>, output: &[u32]) -> io::Result<()> {
+fn show(
+    rt: &impl Print,
+    label: &[u8],
+    answer: Result<(), Refusal>,
+    output: &[u32],
+) -> io::Result<()> {
     text(rt, label)?;
     match answer {
         Ok(()) => text(rt, b" finished:")?,
@@ -36,7 +41,10 @@ fn show_inverse(rt: &impl Print, label: &[u8], answer: Result<u32, NotInverted>)
     text(rt, label)?;
     match answer {
         Ok(y) => print!(rt; " value: {y}, factor 1")?,
-        Err(NotInverted::Shares { factor }) => print!(rt; " {}, factor {factor}", Refusal::NoInverse)?,
+        Err(NotInverted::Shares { factor }) => print!(rt;
+            " {}, factor {factor}",
+            Refusal::NoInverse
+        )?,
         Err(NotInverted::Refused(refusal)) => print!(rt; " {refusal}")?,
     }
     text(rt, b"\n")

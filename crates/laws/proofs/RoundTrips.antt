@@ -4,7 +4,7 @@
 -- of specs/ changes. Assumes nothing.
 use Rattle.std.specs.Prelude.{◌≡◌, List, [], ◌++◌, ℕ, length, Ok, Err}
 use Rattle.std.proofs.Common.{sym, ◌∙◌, ap}
-use Rattle.definitions.specs.Answers.{Answer, number_of, answered, after}
+use Rattle.definitions.specs.Answers.{Answer, answered, after}
 use Rattle.definitions.specs.Family.{Family}
 use Rattle.definitions.specs.Refusals.{Test, finished, verdict}
 use Rattle.acceptance.specs.Verdicts.{None, verdict-finished, none-append}

@@ -2,7 +2,7 @@
 -- Proved: calls that each keep their own promise come to HandedOut, whichever refuses. Assumes nothing.
 use Rattle.std.specs.Prelude.{◌≡◌, List, [], ℕ, length, Ok, Err}
 use Rattle.std.proofs.Common.{sym, ◌∙◌, ap}
-use Rattle.definitions.specs.Answers.{Answer, number_of, answered, after, cleared, NormsCall, MomentsCall}
+use Rattle.definitions.specs.Answers.{Answer, answered, after, cleared, NormsCall, MomentsCall}
 use Rattle.definitions.specs.Conversion.{expand}
 use Rattle.definitions.specs.Family.{Family}
 use Rattle.definitions.specs.Orthogonality.{moments, norms}

@@ -2,7 +2,7 @@
 -- Proved: two calls, each with its own promise, come to Agreed, whichever refuses. Assumes nothing.
 use Rattle.std.specs.Prelude.{◌≡◌, List, [], ◌++◌, ℕ, length, Ok, Err, Result, IsErrAnd}
 use Rattle.std.proofs.Common.{sym, ◌∙◌, ap}
-use Rattle.definitions.specs.Answers.{Answer, number_of, answered, after, cleared, PlainCall, TreeCall}
+use Rattle.definitions.specs.Answers.{Answer, answered, after, cleared, PlainCall, TreeCall}
 use Rattle.definitions.specs.Family.{Family}
 use Rattle.definitions.specs.Refusals.{Test, finished, verdict, plain_tests, tree_tests}
 use Rattle.acceptance.specs.Verdicts.{None, verdict-finished, none-append}

@@ -120,7 +120,11 @@ pub fn plain_adjoint(family: Prepared, curve: &[u32], output: &mut [u32]) -> Res
 }
 
 // Decompose, from the top power, by the stored inverses of the a. Refused as plain_expand is, with the coefficients in the curve's place.
-pub fn plain_decompose(family: Prepared, coefficients: &[u32], output: &mut [u32]) -> Result<(), Refusal>
+pub fn plain_decompose(
+    family: Prepared,
+    coefficients: &[u32],
+    output: &mut [u32],
+) -> Result<(), Refusal>
     ensures { PreparedPlainCall decompose (held family) coefficients.now (answered result)
         output.old output.new }
 {

@@ -84,7 +84,12 @@ fn moments_verdict<'a>(
 
 // Expand by the subproduct tree. After an accepted call the first 16,384 numbers of the working list are zero. Refused with 14: the record
 // is not right; with 6 to 8: curve or output is not n long, or the working list too short; with 12: a curve entry is not below m.
-pub fn tree_expand(family: Prepared, curve: &[u32], output: &mut [u32], work: &mut [u32]) -> Result<(), Refusal>
+pub fn tree_expand(
+    family: Prepared,
+    curve: &[u32],
+    output: &mut [u32],
+    work: &mut [u32],
+) -> Result<(), Refusal>
     ensures { PreparedTreeCall expand (held family) curve.now (answered result)
         output.old output.new work.old work.new }
 {
@@ -109,7 +114,12 @@ pub fn tree_expand(family: Prepared, curve: &[u32], output: &mut [u32], work: &m
 }
 
 // Adjoint by the subproduct tree. The working list and the refusals are as for tree_expand.
-pub fn tree_adjoint(family: Prepared, curve: &[u32], output: &mut [u32], work: &mut [u32]) -> Result<(), Refusal>
+pub fn tree_adjoint(
+    family: Prepared,
+    curve: &[u32],
+    output: &mut [u32],
+    work: &mut [u32],
+) -> Result<(), Refusal>
     ensures { PreparedTreeCall adjoint (held family) curve.now (answered result)
         output.old output.new work.old work.new }
 {

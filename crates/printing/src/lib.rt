@@ -4,8 +4,6 @@
 ghost use Rattle.std.specs.Prelude.{◌≡◌, replicate};
 ghost use Rattle.printing.specs.Printouts.{Prints};
 
-
-
 // The bytes to print stand at the front; zeros follow them.
 #[derive(Drop)]
 pub struct Printout {

@@ -1,5 +1,4 @@
 -- `expand_channel` lends the remainders of rows and curve to the plain core. Assumes nothing.
-use native.Mathlib.Omega.{arith}
 use Rattle.expand_join.specs.Channel.{channel-accepted, channel-curve, channel-written}
 use Rattle.expand_join.proofs.expand_channel.Goals as goal
 

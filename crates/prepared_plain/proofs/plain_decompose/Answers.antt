@@ -1,6 +1,5 @@
 -- `plain_decompose` meets its promise: it answers the verdict of its tests, and its core, lent the stored inverses of the a, writes
 -- the definition's list. Assumes nothing.
-use Rattle.acceptance.specs.Promises.{tests-refuse}
 use Rattle.prepared_plain.specs.RecordCore.{decompose-core, decompose-made}
 use Rattle.prepared_plain.proofs.plain_decompose.Goals as goal
 

@@ -1,6 +1,5 @@
 -- `moments` meets its promise: it answers the verdict of its tests, and its core, lent the stored inverses of the a, writes the definition's
 -- list and leaves the working list clear. Assumes nothing.
-use Rattle.acceptance.specs.Promises.{both-kept}
 use Rattle.prepared_tree.specs.RecordTree.{moments-core, moments-made}
 use Rattle.prepared_tree.proofs.moments.Goals as goal
 

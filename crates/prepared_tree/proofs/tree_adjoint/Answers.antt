@@ -1,6 +1,5 @@
 -- `tree_adjoint` meets its promise: it answers the verdict of its tests, and its core, whose list is the tree model's, writes the
 -- definition's list and leaves the working list clear. Assumes nothing.
-use Rattle.acceptance.specs.Promises.{both-kept}
 use Rattle.prepared_tree.specs.RecordTree.{tree-core, adjoint-made}
 use Rattle.prepared_tree.proofs.tree_adjoint.Goals as goal
 

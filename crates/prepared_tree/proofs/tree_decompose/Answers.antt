@@ -1,6 +1,5 @@
 -- `tree_decompose` meets its promise: it answers the verdict of its tests, and its core, lent the stored inverses, writes the definition's
 -- list and leaves the working list clear. Assumes nothing.
-use Rattle.acceptance.specs.Promises.{both-kept}
 use Rattle.prepared_tree.specs.RecordTree.{decompose-core, decompose-made}
 use Rattle.prepared_tree.proofs.tree_decompose.Goals as goal
 
