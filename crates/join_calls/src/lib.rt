@@ -47,7 +47,13 @@ fn remainders(m1: u32, m2: u32, first: &[u32], second: &[u32], output: usize) ->
 // Refused with 3: m1 or m2 is out of its range; with 19: they share a factor; with 20: the lists differ in length; with 7: the output is not as
 // long (all of these the station's program); with 12: a number of the first list is not below m1, or one of the second not below m2 (the sender
 // of the remainders).
-pub fn join(m1: u32, m2: u32, first: &[u32], second: &[u32], output: &mut [i64]) -> Result<(), Refusal>
+pub fn join(
+    m1: u32,
+    m2: u32,
+    first: &[u32],
+    second: &[u32],
+    output: &mut [i64],
+) -> Result<(), Refusal>
     ensures { JoinCall m1 m2 first.now second.now (answered result) output.old output.new }
 {
     let inverse = moduli(m1, m2)?;

@@ -9,7 +9,13 @@ ghost use Rattle.join_laws.specs.Laws.{lists, JoinLaw, ExpandJoinLaw, ChannelsLa
 use definitions::Refusal;
 
 // What Join hands out lies in the range and leaves the two lists that it was lent, and nothing else does.
-fn join_leaves_both(m1: u32, m2: u32, first: &[u32], second: &[u32], output: &mut [i64]) -> Result<(), Refusal>
+fn join_leaves_both(
+    m1: u32,
+    m2: u32,
+    first: &[u32],
+    second: &[u32],
+    output: &mut [i64],
+) -> Result<(), Refusal>
     ensures { JoinLaw m1 m2 first.now second.now (answered result) output.old output.new }
 {
     join_calls::join(m1, m2, first, second, output)

@@ -6,7 +6,7 @@ use Rattle.std.specs.Prelude.{List, [], ◌++◌, ◌≡◌, ℕ, ◌*◌, ◌%�
 use Rattle.std.proofs.Common.{sym, ◌∙◌, arith}
 use Rattle.std.proofs.Math.Path.{ap}
 use Rattle.std.proofs.Math.ListN.{length}
-use Rattle.definitions.specs.Answers.{Answer, number_of, answered, after}
+use Rattle.definitions.specs.Answers.{Answer, answered, after}
 use Rattle.definitions.specs.Conversion.{expand}
 use Rattle.definitions.specs.Family.{Family, Accepted, size, F}
 use Rattle.definitions.specs.Number.{sum}

@@ -7,7 +7,7 @@ use Rattle.std.proofs.Common.{sym, ◌∙◌, ap}
 use mathlib.Core.List.{List, [], ◌∷◌}
 use native.Mathlib.Omega.{arith}
 use Rattle.std.proofs.lemmas.List.{length-replicate}
-use Rattle.definitions.specs.Answers.{Answer, number_of, answered}
+use Rattle.definitions.specs.Answers.{Answer, answered}
 use Rattle.definitions.specs.Family.{Row, Modulus, most_rows, ones, family}
 use Rattle.definitions.specs.Prepared.{Prepared, Changed, handed_back, prepared, all_zeros, most_norms, record_test, no_rows_test}
 use Rattle.definitions.specs.Prepared.{absent_row_test, row_tests}

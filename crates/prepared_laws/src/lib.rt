@@ -182,7 +182,13 @@ fn moments_by_record(
     prepared_tree::moments(family, output, work)
 }
 
-fn norms_by_record(m: u32, a: &[u32], b: &[u32], c: &[u32], output: &mut [u32]) -> Result<(), Refusal>
+fn norms_by_record(
+    m: u32,
+    a: &[u32],
+    b: &[u32],
+    c: &[u32],
+    output: &mut [u32],
+) -> Result<(), Refusal>
     ensures { ByRecord (family m a.now b.now c.now)
         (NormsCall (family m a.now b.now c.now) (answered result)
         output.old output.new)

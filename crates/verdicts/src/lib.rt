@@ -36,7 +36,14 @@ fn values(m: u32, a: &[u32], b: &[u32], c: &[u32], curve: &[u32]) -> Result<(), 
 
 // Expand, Adjoint and Decompose by the plain way: 3 4 5 6 7 9 17 10 18 11 12.
 #[tactic(auto, using(checks::specs::Shape::shaped), unfolding(definitions::specs::Refusals::verdict, definitions::specs::Refusals::plain_tests, definitions::specs::Refusals::shape_tests))]
-pub fn plain(m: u32, a: &[u32], b: &[u32], c: &[u32], curve: &[u32], output: usize) -> Result<(), Refusal>
+pub fn plain(
+    m: u32,
+    a: &[u32],
+    b: &[u32],
+    c: &[u32],
+    curve: &[u32],
+    output: usize,
+) -> Result<(), Refusal>
     ensures { answered result ≡ verdict
         (plain_tests (family m a.now b.now c.now) curve.now output) [] }
 {
@@ -107,7 +114,14 @@ pub fn norms(m: u32, a: &[u32], b: &[u32], c: &[u32], output: usize) -> Result<(
 
 // Moments: 3 4 5 7 8 9 17 10 18 11.
 #[tactic(auto, using(checks::specs::Shape::shaped), unfolding(definitions::specs::Refusals::verdict, definitions::specs::Refusals::moments_tests, definitions::specs::Refusals::shape_tests))]
-pub fn moments(m: u32, a: &[u32], b: &[u32], c: &[u32], output: usize, work: usize) -> Result<(), Refusal>
+pub fn moments(
+    m: u32,
+    a: &[u32],
+    b: &[u32],
+    c: &[u32],
+    output: usize,
+    work: usize,
+) -> Result<(), Refusal>
     ensures { answered result ≡ verdict
         (moments_tests (family m a.now b.now c.now) output work) [] }
 {

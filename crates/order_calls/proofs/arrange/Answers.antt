@@ -1,5 +1,5 @@
 -- `arrange` keeps its promise: it answers the verdict of its tests, and writes the list in its order. Assumes nothing.
-use Rattle.order_calls.specs.Arranging.{order-refused, order-lent, order-made}
+use Rattle.order_calls.specs.Arranging.{order-lent, order-made}
 use Rattle.order_calls.proofs.arrange.Goals as goal
 
 pub write_arranged-requires : goal.write_arranged-requires

@@ -1,6 +1,5 @@
 -- `norms` meets its promise: it answers the verdict of its tests, and copies the stored norms, which are the definition's list.
 -- Assumes nothing.
-use Rattle.acceptance.specs.Promises.{tests-refuse}
 use Rattle.prepared_plain.specs.RecordCore.{norms-room, norms-made}
 use Rattle.prepared_plain.proofs.norms.Goals as goal
 
