@@ -4,10 +4,11 @@
 // keeps, on an accepted family, the very promise of the call on the lists: answer, output and working list.
 #![tactic(auto)]
 
-ghost use Rattle.std.specs.Prelude.{◌≡◌};
+ghost use Rattle.std.specs.Prelude.{◌≡◌, List, ℕ};
 ghost use Rattle.definitions.specs.Answers.{answered, NormsCall, MomentsCall};
 ghost use Rattle.definitions.specs.Conversion.{expand, adjoint, decompose};
-ghost use Rattle.definitions.specs.Family.{family, row_of};
+ghost use Rattle.definitions.specs.Family.{Family, family, row_of};
+ghost use Rattle.definitions.specs.PreparedCalls.{PreparedPlainCall, PreparedTreeCall};
 ghost use Rattle.laws.specs.Laws.{Made};
 ghost use Rattle.prepared.specs.Held.{held};
 ghost use Rattle.prepared_laws.specs.PreparedLaws.{ByAppends, PutBack, Dropped};
@@ -60,19 +61,123 @@ fn by_appends(m: u32, a: &[u32], b: &[u32], c: &[u32]) -> Change
             family: family,
         };
     };
-    let mut i: usize = 0;
-    while i < a.len() {
+    for i in 0..a.len() {
         let next = family.append(a[i], b[i], c[i]);
         let answer = next.answer;
         let Ok(()) = answer else {
             return next;
         };
         family = next.family;
-        i += 1;
     }
     Change {
         answer: Ok(()),
         family: family,
+    }
+}
+
+// A conversion, by the operations on a record of either way.
+trait Conversion {
+    ghost converted: { Family → List ℕ → List ℕ };
+
+    fn plain(family: Prepared, curve: &[u32], output: &mut [u32]) -> Result<(), Refusal>
+        ensures { PreparedPlainCall converted (held family) curve.now (answered result)
+            output.old output.new };
+
+    fn tree(
+        family: Prepared,
+        curve: &[u32],
+        output: &mut [u32],
+        work: &mut [u32],
+    ) -> Result<(), Refusal>
+        ensures { PreparedTreeCall converted (held family) curve.now (answered result)
+            output.old output.new work.old work.new };
+}
+
+#[derive(Clone, Copy)]
+struct Expanding;
+
+impl Conversion for Expanding {
+    ghost converted = { expand };
+
+    fn plain(family: Prepared, curve: &[u32], output: &mut [u32]) -> Result<(), Refusal> {
+        prepared_plain::plain_expand(family, curve, output)
+    }
+
+    fn tree(
+        family: Prepared,
+        curve: &[u32],
+        output: &mut [u32],
+        work: &mut [u32],
+    ) -> Result<(), Refusal> {
+        prepared_tree::tree_expand(family, curve, output, work)
+    }
+}
+
+#[derive(Clone, Copy)]
+struct Adjoining;
+
+impl Conversion for Adjoining {
+    ghost converted = { adjoint };
+
+    fn plain(family: Prepared, curve: &[u32], output: &mut [u32]) -> Result<(), Refusal> {
+        prepared_plain::plain_adjoint(family, curve, output)
+    }
+
+    fn tree(
+        family: Prepared,
+        curve: &[u32],
+        output: &mut [u32],
+        work: &mut [u32],
+    ) -> Result<(), Refusal> {
+        prepared_tree::tree_adjoint(family, curve, output, work)
+    }
+}
+
+#[derive(Clone, Copy)]
+struct Decomposing;
+
+impl Conversion for Decomposing {
+    ghost converted = { decompose };
+
+    fn plain(family: Prepared, curve: &[u32], output: &mut [u32]) -> Result<(), Refusal> {
+        prepared_plain::plain_decompose(family, curve, output)
+    }
+
+    fn tree(
+        family: Prepared,
+        curve: &[u32],
+        output: &mut [u32],
+        work: &mut [u32],
+    ) -> Result<(), Refusal> {
+        prepared_tree::tree_decompose(family, curve, output, work)
+    }
+}
+
+// A conversion by the way that is asked for, on the record that is made by appends.
+fn by_record<C: Conversion>(
+    way: Way,
+    m: u32,
+    a: &[u32],
+    b: &[u32],
+    c: &[u32],
+    curve: &[u32],
+    output: &mut [u32],
+    work: &mut [u32],
+) -> Result<(), Refusal>
+    ensures { ByRecord (family m a.now b.now c.now)
+        (Made C.converted way (family m a.now b.now c.now) curve.now result
+        output.old output.new work.old work.new)
+        (answered result) ((output.new ≡ output.old) × (work.new ≡ work.old)) }
+{
+    let made = by_appends(m, a, b, c);
+    let answer = made.answer;
+    let Ok(()) = answer else {
+        return answer;
+    };
+    let family = made.family;
+    match way {
+        Way::Plain => C::plain(family, curve, output),
+        Way::Tree => C::tree(family, curve, output, work),
     }
 }
 
@@ -92,16 +197,7 @@ fn expand_by_record(
         output.old output.new work.old work.new)
         (answered result) ((output.new ≡ output.old) × (work.new ≡ work.old)) }
 {
-    let made = by_appends(m, a, b, c);
-    let answer = made.answer;
-    let Ok(()) = answer else {
-        return answer;
-    };
-    let family = made.family;
-    match way {
-        Way::Plain => prepared_plain::plain_expand(family, curve, output),
-        Way::Tree => prepared_tree::tree_expand(family, curve, output, work),
-    }
+    by_record::<Expanding>(way, m, a, b, c, curve, output, work)
 }
 
 // Adjoint by the way that is asked for.
@@ -120,16 +216,7 @@ fn adjoint_by_record(
         output.old output.new work.old work.new)
         (answered result) ((output.new ≡ output.old) × (work.new ≡ work.old)) }
 {
-    let made = by_appends(m, a, b, c);
-    let answer = made.answer;
-    let Ok(()) = answer else {
-        return answer;
-    };
-    let family = made.family;
-    match way {
-        Way::Plain => prepared_plain::plain_adjoint(family, curve, output),
-        Way::Tree => prepared_tree::tree_adjoint(family, curve, output, work),
-    }
+    by_record::<Adjoining>(way, m, a, b, c, curve, output, work)
 }
 
 // Decompose by the way that is asked for.
@@ -148,16 +235,7 @@ fn decompose_by_record(
         output.old output.new work.old work.new)
         (answered result) ((output.new ≡ output.old) × (work.new ≡ work.old)) }
 {
-    let made = by_appends(m, a, b, c);
-    let answer = made.answer;
-    let Ok(()) = answer else {
-        return answer;
-    };
-    let family = made.family;
-    match way {
-        Way::Plain => prepared_plain::plain_decompose(family, coefficients, output),
-        Way::Tree => prepared_tree::tree_decompose(family, coefficients, output, work),
-    }
+    by_record::<Decomposing>(way, m, a, b, c, coefficients, output, work)
 }
 
 fn moments_by_record(
