@@ -5,7 +5,7 @@
 --   LeafPlaces               where one pair of rows reads and writes
 -- Proved: by a stored tree of a family these are the model's entries; they rest on nothing but the stored tree and the pair; and the
 -- recursion's steps. Assumes nothing.
-use Rattle.std.specs.Prelude.{◌≡◌, set}
+use Rattle.std.specs.Prelude.{◌≡◌}
 use Rattle.std.proofs.Math.Path.{refl, sym, ap, ap₂}
 use Rattle.std.proofs.Common.{◌∙◌, inl, inr, add-zero, length-append}
 use mathlib.Core.List.{List, [], ◌∷◌, ◌++◌}
@@ -16,7 +16,7 @@ use Rattle.definitions.specs.Family.{Family, greatest_modulus}
 use Rattle.tree_model.specs.Level.{span}
 use Rattle.numbers.specs.Regions.{part, written, Apart, ResiduesIn, KeptOutside, part-entry, part-take, part-both, part-residues}
 use Rattle.numbers.specs.Regions.{part-written}
-use Rattle.numbers.specs.Regions.{written_one, written-more, written-kept, kept_then, kept-part, kept-residues}
+use Rattle.numbers.specs.Regions.{written-kept, kept_then, kept-part, kept-residues}
 use Rattle.tree_model.specs.Tree.{Pair, node, first_terms, adjoint_pair, down}
 use Rattle.tree_model.specs.TreeLengths.{PairLength, adjoint_pair-length}
 use Rattle.tree_model.proofs.TreeBelow.{adjoint_pair-below}
@@ -96,9 +96,6 @@ unfolding first_terms lists_at
 lists_at-first w p q n k h = rw (part-take w n k p h, part-take w n k q h)
 
 -- ---- one pair of rows
-pub two-written : (w : List ℕ) (at x y : ℕ) → at + 2 ≤ length w → set (set w at x) (at + 1) y ≡ written w at (x ∷ y ∷ [])
-two-written w at x y h = ap (λ s. set s (at + 1) y) (written_one w at x (omega arith)) ∙ written-more w at (x ∷ []) y (omega arith)
-
 module _ {m : ℕ} {w : List ℕ} {tree first second at level pairs : ℕ} (h : DescendInput m w tree first second at level pairs) where
   pub descend-one : pairs ≡ 1 → LeafPlaces (length w) first second at
   descend-one e =
