@@ -4,8 +4,6 @@
 ghost use Rattle.std.specs.Prelude.{◌≡◌, replicate};
 ghost use Rattle.printing.specs.Printouts.{Prints};
 
-
-
 // The bytes to print stand at the front; zeros follow them. Fixed memory: without a heap the bytes and how many they are lie side by side.
 #[derive(Drop)]
 pub struct Printout {

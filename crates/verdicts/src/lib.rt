@@ -11,6 +11,7 @@ ghost use Rattle.definitions.specs.JobWriting.{written_job, writing_tests};
 ghost use Rattle.checks.specs.Shape.{Shaped};
 
 use definitions::{NotInverted, Operation, Refusal};
+use residue::SharedFactor;
 
 // 9, 17, 10, 18 and 11 of the rows of three lists, closed by 1 1 1.
 fn rows(m: u32, a: &[u32], b: &[u32], c: &[u32]) -> Result<(), Refusal>
@@ -239,6 +240,6 @@ pub fn inverse(m: u32, x: u32) -> Result<u32, NotInverted>
     checks::number_below(m, x)?;
     match residue::invert(m, x) {
         Ok(y) => Ok(y),
-        Err(shared) => Err(NotInverted::Shares { factor: shared.factor }),
+        Err(SharedFactor { factor }) => Err(NotInverted::Shares { factor }),
     }
 }
