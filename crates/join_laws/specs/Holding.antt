@@ -143,11 +143,6 @@ expand-join-law m m' s u v out out' made = record { made = made; holds = holds }
 never : (r : Answer) (k : Refusal) → r ≡ Err k → answered r ≡ finished [] → ⊥
 never r k q e = refused-not-finished (number_of k) [] (sym (ap answered q) ∙ e)
 
--- a refusal that is handed on
-pub handed-on : (r : Answer) (k : Refusal) → IsErrAnd r (λ e. e ≡ k) → r ≡ Err k
-handed-on (Ok x) k h = absurd h
-handed-on (Err e) k h = ap Err h
-
 -- one channel, lent the remainders of rows and curve
 module _ (m : ℕ) (s : Signed) (u : List ℤ) (accepted : Accepted (reduced m s)) (curve_long : length u ≡ suc (length s.a)) where
   reduced-curve : Curve (reduced m s) (reduced_list m u)

@@ -12,11 +12,6 @@ use Rattle.laws.specs.Laws.{TwoCallsInput, WaysAgree, Agreed}
 use Rattle.laws.specs.declared.Way.{Way}
 use Rattle.definitions.specs.declared.Refusal.{Refusal}
 
--- a refusal that is handed on
-pub handed-on : {A : Type 0} (r : Result A Refusal) (k : Refusal) → IsErrAnd r (λ e. e ≡ k) → r ≡ Err k
-handed-on (Ok x) k h = absurd h
-handed-on (Err e) k h = ap Err h
-
 module _ (convert : Family → List ℕ → List ℕ) (f : Family) (u plain plain' tree work : List ℕ) (s : Answer)
     (one : PlainCall convert f u (answered s) plain plain') where
   abbrev first : List Test

@@ -28,11 +28,6 @@ use Rattle.lists.specs.Lent.{lent, Long}
 use Rattle.verdicts.specs.Sizes.{sizes-shape, sizes-fit}
 use Rattle.operations.specs.Results.{result_count}
 
--- a refusal that is handed on
-pub handed-on : {A : Type 0} (r : Result A Refusal) (k : Refusal) → IsErrAnd r (λ e. e ≡ k) → r ≡ Err k
-handed-on (Ok x) k h = absurd h
-handed-on (Err e) k h = ap Err h
-
 pub record Sized (operation : Operation) (f : Family) (u : List ℕ) (output work : ℕ) : Type 0 where
   pub shape : None (family_shape f)
   pub curve : length u ≡ curve_count operation (rows f)

@@ -17,11 +17,6 @@ use Rattle.text_laws.specs.Laws.{CarriedOutInput, CarriedOut, write_tests, answe
 use Rattle.text_laws.specs.Carried.{written_read, written-reply, written-carried}
 use Rattle.definitions.specs.declared.Refusal.{Refusal}
 
--- a refusal that is handed on
-pub handed-on : (r : Valued) (k : Refusal) → IsErrAnd r (λ e. e ≡ k) → r ≡ Err k
-handed-on (Ok x) k h = absurd h
-handed-on (Err e) k h = ap Err h
-
 -- first: the answer of the call that writes; text': what it left
 module _ (w : WrittenJob) (text output work : List ℕ) (first : Valued) (text' : List ℕ) (call : JobWritten w first text text') where
   abbrev tests : List Test
