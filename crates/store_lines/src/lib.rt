@@ -80,14 +80,14 @@ pub fn put_printed(text: &[u8], out: &mut [u8], at: usize) -> usize
     if is_too_long {
         return writer::put_number_line(out, at, b"refused=", 1);
     }
-    let mut list = lists::zeros();
+    let mut list = lists::zeros::<128>();
     let Some(Request { direction, count }) = read_request(text, &mut list) else {
         return writer::put_number_line(out, at, b"refused=", 2);
     };
     if 128 < count {
         return writer::put_number_line(out, at, b"refused=", 5);
     }
-    let mut ordered = lists::zeros();
+    let mut ordered = lists::zeros::<128>();
     put_arranged(direction, &list[..count], &mut ordered[..count], out, at)
 }
 
