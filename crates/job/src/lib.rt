@@ -47,10 +47,10 @@ pub fn convert_text(text: &[u8], output: &mut [u8], work: &mut [u32]) -> Result<
     ensures { TextConverted text.now result output.old output.new work.old work.new }
 {
     checks::text_length(text.len())?;
-    let mut xs = lists::zeros();
-    let mut ys = lists::zeros();
-    let mut zs = lists::zeros();
-    let mut us = lists::zeros();
+    let mut xs = lists::zeros::<128>();
+    let mut ys = lists::zeros::<128>();
+    let mut zs = lists::zeros::<128>();
+    let mut us = lists::zeros::<128>();
     let Some(
         JobForm {
             modulus,
