@@ -69,6 +69,8 @@ pub fn products_at(
 }
 
 // The sum, and p_j v_{i+j} for j from first to end - 1 besides.
+// with_singles, with_first and with_pairs add one product a step, two and four, so they are three: four a step are quicker than two by 6 to
+// 36 percent from length 64 on (docs/DECISIONS.md).
 fn with_singles(total: Total, p: &[u32], v: &[u32], i: usize, first: usize, end: usize) -> Total
     requires { SinglesInput total.low total.wraps p.now v.now i first end }
     ensures { Added total.low total.wraps (end - first)

@@ -1,6 +1,8 @@
 // The calls on job texts. The text call: a job text in, its answer text out; the lists are read by `form`, converted by `operations` and
 // written by `writer`. And the call that writes a job text, by `job_text`. Nothing is written before every test has passed, and neither has
 // a 'requires'.
+// m, a, b and c come apart, as write_job is lent them, which README and docs/ name. Those of `answer`, of ten parameters, are arrays of fixed
+// length with the counts of a text beside, since there is no heap.
 #![tactic(auto)]
 
 ghost use Rattle.std.specs.Prelude.{take};

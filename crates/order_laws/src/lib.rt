@@ -1,6 +1,7 @@
 // Laws over the calls that put a list in another order. Each function lends every list, makes the calls until one refuses, and promises two
 // things: on every input, which refusal is given and what each list then holds; on what the calls accept, that they finish and the law holds of
 // the very lists handed out. The promises stand in specs/Laws.antt. They are evidence and no library calls.
+// Each list is lent for itself, as the calls ask that the laws are over.
 #![tactic(auto)]
 
 ghost use Rattle.definitions.specs.Answers.{answered};

@@ -31,6 +31,7 @@ pub struct Prepared {
 }
 
 // The answer of a change, and the record after it.
+// No Result: a refused change hands out a record too (EmptyCall, AppendCall, DropCall, ReplaceCall), all zeros or the one handed in.
 #[derive(Drop)]
 pub struct Change {
     pub answer: Result<(), Refusal>,
@@ -59,6 +60,7 @@ fn prepare(m: u32, rows: u32, a: [u32; 127], b: [u32; 127], c: [u32; 127]) -> Pr
 }
 
 // 14, 5, 9, 17, 10, 18 and 11.
+// A row's numbers come apart here and below, as the changes are handed them that README and docs/ name.
 #[inline(never)]
 fn append_verdict(p: Prepared, a: u32, b: u32, c: u32) -> Result<(), Refusal>
     ensures { answered result ≡ verdict (append_tests (held p) (row_of a b c)) [] }

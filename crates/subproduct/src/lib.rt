@@ -1,5 +1,7 @@
 // The subproduct tree in the working list, and the ways up and down a stored tree. Vectors and scratch lie behind the tree
 // (specs/Layout.antt). All recursions go by the number of pairs of rows, which is halved at each level.
+// Places and counts name the parts of that list, in eight parameters and more: slices of one lent list cannot be lent side by side where one
+// of them is written, and there is no heap.
 #![tactic(auto)]
 
 ghost use Rattle.std.specs.Prelude.{◌≡◌, [], ◌∷◌, ◌+◌, ◌*◌, ◌-◌, ◌%◌, ◌≤◌, length, get_or, take};
@@ -28,6 +30,7 @@ fn half_size(level: usize, pairs: usize) -> usize
 }
 
 // Writes the leaf of the rows p and q at place at.
+// A row's numbers come one by one: past the family's rows they are zeros, which stand in no list.
 fn write_leaf(
     m: u32,
     w: &mut [u32],

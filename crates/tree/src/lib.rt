@@ -1,6 +1,7 @@
 // Expand and Adjoint by the subproduct tree, on input that is already checked. Both work in the first 16,384 numbers of the working list and
 // leave zeros there: the tree from place 0 on, the vectors and their scratch from place 9,212 on. The lists are as long as the family and its
 // curve: n entries of the curve and of the output, n - 1 rows.
+// root_pair takes places: slices of that one list cannot be lent side by side where one of them is written, and there is no heap.
 #![tactic(auto)]
 
 ghost use Rattle.std.specs.Prelude.{◌≡◌, List, ◌++◌, ℕ, ◌+◌, ◌≤◌, length, take, drop};
@@ -194,6 +195,7 @@ pub fn adjoint(family: &Family, curve: &[u32], output: &mut [u32], work: &mut [u
 }
 
 // A conversion by the tree, on input that is already checked.
+// The plain way has a trait of its own by this name: its conversions are lent no working list.
 pub trait Conversion {
     ghost converted: { definition.Family → List ℕ → List ℕ };
 
