@@ -1,6 +1,6 @@
 -- The two ways of a conversion over the lists that the calls hand out.
 -- Proved: two calls, each with its own promise, come to Agreed, whichever refuses. Assumes nothing.
-use Rattle.std.specs.Prelude.{◌≡◌, List, [], ◌++◌, ℕ, length, Ok, Err, Result, IsErrAnd}
+use Rattle.std.specs.Prelude.{◌≡◌, List, [], ◌++◌, ℕ, length, Ok, Err}
 use Rattle.std.proofs.Common.{sym, ◌∙◌, ap}
 use Rattle.definitions.specs.Answers.{Answer, answered, after, cleared, PlainCall, TreeCall}
 use Rattle.definitions.specs.Family.{Family}

@@ -4,7 +4,7 @@
 // of them is written, and there is no heap.
 #![tactic(auto)]
 
-ghost use Rattle.std.specs.Prelude.{◌≡◌, [], ◌∷◌, ◌+◌, ◌*◌, ◌-◌, ◌%◌, ◌≤◌, length, get_or, take};
+ghost use Rattle.std.specs.Prelude.{◌≡◌, ◌+◌, ◌*◌, ◌-◌, ◌≤◌, take};
 ghost use Rattle.definitions.specs.Family.{row_of};
 ghost use Rattle.numbers.specs.Regions.{written};
 ghost use Rattle.tree_model.specs.Tree.{padded, leaf, join, expand_pair, adjoint_pair};
@@ -13,7 +13,7 @@ ghost use Rattle.subproduct.specs.Leaf.{LeafInput};
 ghost use Rattle.subproduct.specs.Join.{ExpandPlaces, JoinPlaces};
 ghost use Rattle.subproduct.specs.Build.{BuildInput, first_rows};
 ghost use Rattle.subproduct.specs.Climb.{ClimbInput, ClimbOutput};
-ghost use Rattle.subproduct.specs.Descend.{LeafPlaces, DescendInput, DescendOutput};
+ghost use Rattle.subproduct.specs.Descend.{DescendInput, DescendOutput};
 ghost use Rattle.subproduct.specs.AdjointPair.{AdjointPlaces};
 
 use lists::{Family, row_entry, store};

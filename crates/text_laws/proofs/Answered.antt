@@ -1,7 +1,7 @@
 -- From the promises of the two calls to the law over them.
 -- Proved: what is promised where the first call refuses (write-refused) and where it finishes, so that the second is made on the very bytes
 -- that it wrote (text-front, write-answered). These rest on the law of specs/, which an edit changes. Assumes nothing.
-use Rattle.std.specs.Prelude.{◌≡◌, refl, List, [], ◌∷◌, ◌++◌, ℕ, ◌≤◌, length, take, drop, Ok, Err, IsErrAnd}
+use Rattle.std.specs.Prelude.{◌≡◌, refl, List, [], ◌∷◌, ◌++◌, ℕ, ◌≤◌, length, take, drop, Ok, Err}
 use Rattle.std.proofs.Common.{sym, ◌∙◌, ap, subst, arith, length-append, take_at}
 use Rattle.definitions.specs.Answers.{Valued, number_of, valued, after, cleared}
 use Rattle.definitions.specs.JobWriting.{AcceptedJob, JobWritten}
