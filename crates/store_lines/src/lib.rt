@@ -135,7 +135,8 @@ fn answer_lines(
     Progress { printed: n, kept }
 }
 
-// The first `count` bytes of a list take the place of those of another.
+// The first `count` bytes of a list take the place of those of another. `copy` of lists is the same call of std, with a clause over the
+// numbers' `filled`: one function for both would need a clause over neither.
 pub fn copy_bytes(from: &[u8], count: usize, to: &mut [u8])
     requires { (count ≤ length from.now) × (count ≤ length to.old) }
     ensures { take count to.new ≡ take count from.now }
