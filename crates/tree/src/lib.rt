@@ -114,7 +114,7 @@ fn expand_tree(family: &Family, curve: &[u32], output: &mut [u32], work: &mut [u
     let pairs = pairs_for(level);
     let first = [family.b[0], family.a[0]];
     build(family, n - 1, work, 0, level, pairs, 0);
-    climb(m, curve, n, work, 0, 9212, level, pairs, 0);
+    climb(m, curve, work, 0, 9212, level, pairs, 0);
     expand_root(m, work, 9212, pairs + pairs, &first, output);
 }
 
