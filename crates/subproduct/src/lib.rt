@@ -5,18 +5,18 @@
 #![tactic(auto)]
 
 ghost use Rattle.std.specs.Prelude.{◌≡◌, ◌+◌, ◌*◌, ◌-◌, ◌≤◌, length};
-ghost use Rattle.definitions.specs.Family.{row_of};
+ghost use Rattle.definitions.specs.Family.{row_of, rows};
 ghost use Rattle.numbers.specs.Regions.{written};
 ghost use Rattle.tree_model.specs.Tree.{padded, leaf, join, expand_pair, adjoint_pair};
 ghost use Rattle.subproduct.specs.Layout.{Level, Halved, tree_list, matrix_list, pair_list, matrix_at, pair_at, lists_at};
 ghost use Rattle.subproduct.specs.Leaf.{LeafInput};
 ghost use Rattle.subproduct.specs.Join.{ExpandPlaces, JoinPlaces};
-ghost use Rattle.subproduct.specs.Build.{BuildInput, first_rows};
+ghost use Rattle.subproduct.specs.Build.{BuildInput};
 ghost use Rattle.subproduct.specs.Climb.{ClimbInput, ClimbOutput};
 ghost use Rattle.subproduct.specs.Descend.{DescendInput, DescendOutput};
 ghost use Rattle.subproduct.specs.AdjointPair.{AdjointPlaces};
 
-use lists::{Family, entry, row_entry, store};
+use lists::{Family, entry, store};
 use products::{add_products, transposed};
 use reduction::Modulus;
 use residue::combine;
@@ -117,36 +117,29 @@ fn join(m: u32, w: &mut [u32], target: usize, n: usize, right: usize, left: usiz
 }
 
 // Writes the leaf over the rows t + 2 and t + 3 at place at.
-fn build_leaf(family: &Family, r: usize, w: &mut [u32], at: usize, t: usize)
-    requires { BuildInput family.now r w.old at 0 1 t }
-    ensures { w.new ≡ written w.old at (tree_list (padded (first_rows family.now r)) 0 t) }
+fn build_leaf(family: &Family, w: &mut [u32], at: usize, t: usize)
+    requires { BuildInput family.now (rows family.now) w.old at 0 1 t }
+    ensures { w.new ≡ written w.old at (tree_list (padded family.now) 0 t) }
 {
     let p = t + 1;
     let q = t + 2;
-    let pa = row_entry(family.a, r, p, 0);
-    let pb = row_entry(family.b, r, p, 0);
-    let pc = row_entry(family.c, r, p, 0);
-    let qa = row_entry(family.a, r, q, 0);
-    let qb = row_entry(family.b, r, q, 0);
-    let qc = row_entry(family.c, r, q, 0);
+    let pa = entry(family.a, p);
+    let pb = entry(family.b, p);
+    let pc = entry(family.c, p);
+    let qa = entry(family.a, q);
+    let qb = entry(family.b, q);
+    let qc = entry(family.c, q);
     write_leaf(family.modulus, w, at, pa, pb, pc, qa, qb, qc);
 }
 
-// Stores the tree over 2 pairs rows that follow row t + 1, of the first r rows of the family, from place at on.
-pub fn build(
-    family: &Family,
-    r: usize,
-    w: &mut [u32],
-    at: usize,
-    level: usize,
-    pairs: usize,
-    t: usize,
-)
-    requires { BuildInput family.now r w.old at level pairs t }
-    ensures { w.new ≡ written w.old at (tree_list (padded (first_rows family.now r)) level t) }
+// Stores the tree over 2 pairs rows that follow row t + 1 from place at on.
+pub fn build(family: &Family, w: &mut [u32], at: usize, level: usize, pairs: usize, t: usize)
+    requires { BuildInput family.now (rows family.now) w.old at level pairs t }
+    ensures { w.new ≡ written w.old at (tree_list (padded family.now) level t) }
 {
+    let m = family.modulus;
     if pairs == 1 {
-        build_leaf(family, r, w, at, t);
+        build_leaf(family, w, at, t);
         return;
     }
     let half = pairs / 2;
@@ -155,17 +148,9 @@ pub fn build(
     let end = right + size;
     let k = pairs + 1;
     let lists = 4 * k;
-    build(family, r, w, at, level - 1, half, t);
-    build(family, r, w, right, level - 1, half, t + pairs);
-    join(
-        family.modulus,
-        w,
-        end,
-        pairs + k,
-        end - lists,
-        right - lists,
-        k,
-    );
+    build(family, w, at, level - 1, half, t);
+    build(family, w, right, level - 1, half, t + pairs);
+    join(m, w, end, pairs + k, end - lists, right - lists, k);
 }
 
 // Writes the pair over the 2 pairs entries of the curve from t on, from place at on, by the tree that is stored from place tree on.

@@ -11,7 +11,7 @@ use Rattle.definitions.specs.Answers.{cleared}
 use Rattle.definitions.specs.Family.{Family, family, ones, rows, size, row_at}
 use Rattle.definitions.specs.Refusals.{work_length}
 use Rattle.lists.specs.Held.{Output, held_below}
-use Rattle.lists.specs.Lent.{lent}
+use Rattle.lists.specs.Lent.{LentRows, lent}
 use Rattle.lists.specs.Whole.{written-whole}
 use Rattle.numbers.specs.Lists.{filled, table-equal}
 use Rattle.numbers.specs.Products.{Below, plus_product}
@@ -110,9 +110,9 @@ module _ {m : ℕ} {a b c curve : List ℕ} {n : ℕ} {output work : List ℕ} (
     some-rows : 0 < rows f
     some-rows = omega (arith, size_is)
 
-    pub core-build : BuildInput (family m a b c) (n - 1) work 0 level pairs 0
-    core-build = record {
-      input = h.rows;
+    pub core-build : n - 1 ≡ length a → BuildInput (family m a b c) (length a) work 0 level pairs 0
+    core-build all = record {
+      input = subst (λ r. LentRows m r a b c) all h.rows;
       depth = depth;
       room = omega (arith, small, h.work_long);
       last = omega (arith, deep.few);
@@ -124,7 +124,11 @@ module _ {m : ℕ} {a b c curve : List ℕ} {n : ℕ} {output work : List ℕ} (
     tree-stands w holds = subst (λ l. Stands w 0 (tree_list (padded f) l 0)) level-is
         (stands w 0 (tree_size level) tree (tree_list-length (padded f) level 0) holds)
 
-    module _ {w₁ : List ℕ} (e₁ : w₁ ≡ written work 0 tree) where
+    -- g: the family itself, where its lists are lent whole
+    module _ {g : Family} (same : f ≡ g) {w₁ : List ℕ} (stored : w₁ ≡ written work 0 (tree_list (padded g) level 0)) where
+      e₁ : w₁ ≡ written work 0 tree
+      e₁ = stored ∙ ap (λ k. written work 0 (tree_list (padded k) level 0)) (sym same)
+
       tree-long : length tree ≡ tree_size level
       tree-long = tree_list-length (padded f) level 0
 

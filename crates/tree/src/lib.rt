@@ -113,7 +113,7 @@ fn expand_tree(family: &Family, curve: &[u32], output: &mut [u32], work: &mut [u
     let level = level_for(n);
     let pairs = pairs_for(level);
     let first = [family.b[0], family.a[0]];
-    build(family, n - 1, work, 0, level, pairs, 0);
+    build(family, work, 0, level, pairs, 0);
     climb(m, curve, work, 0, 9212, level, pairs, 0);
     expand_root(m, work, 9212, pairs + pairs, &first, output);
 }
@@ -135,7 +135,7 @@ fn adjoint_tree(family: &Family, curve: &[u32], output: &mut [u32], work: &mut [
     let pairs = pairs_for(level);
     let second = 9212 + (pairs + pairs);
     let at = second + (pairs + pairs);
-    build(family, n - 1, work, 0, level, pairs, 0);
+    build(family, work, 0, level, pairs, 0);
     root_pair(
         m,
         family.b[0],
