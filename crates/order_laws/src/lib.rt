@@ -13,6 +13,7 @@ use definitions::Refusal;
 use laws::{Expanding, Way};
 
 // Even back of what Even first handed out returns the list.
+// This and the next are two calls each: one function over a direction would need a match for the public calls, and a law, and is no plainer.
 fn back_after_first(list: &[u32], between: &mut [u32], output: &mut [u32]) -> Result<(), Refusal>
     ensures { OrderTrip Direction.EvenFirst list.now (answered result)
         between.old between.new output.old output.new }

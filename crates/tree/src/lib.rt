@@ -150,6 +150,8 @@ fn adjoint_tree(family: &Family, curve: &[u32], output: &mut [u32], work: &mut [
 }
 
 // Expand: the coefficients of the sum of the u_j F_j. Up to 256 entries the tree fits.
+// expand and adjoint differ in the function with the tree alone. Above them the choice is a type, `Conversion`; a trait for these two would be
+// no plainer.
 pub fn expand(family: &Family, curve: &[u32], output: &mut [u32], work: &mut [u32])
     requires curve { Curve family.now curve.now }
     requires few { length curve.now ≤ 256 }
