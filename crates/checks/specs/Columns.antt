@@ -2,10 +2,11 @@
 -- closing number.
 --   column_tests  that the lowest of them without an inverse is zero, and that one of them has none, each with its number
 --   Inverted      all of them have inverses
+--   told number r the verdict that an answer tells, where a refusal has this number
 -- Proved: where all have inverses both tests pass (column-none), and otherwise the lowest without one settles which refuses (lowest-zero,
 -- lowest-shared), whether a pass over the list found it or it is the closing number; the tests 17, 10, 18 and 11 of a lent family are those
 -- of its two columns (columns-remain), and one product settles them all (joint-passes). Assumes nothing.
-use Rattle.std.specs.Prelude.{◌≡◌, Bool, true, Option, Some, ℕ, suc, ◌+◌, ◌-◌, ◌<◌, ◌≤◌, length, get_or, take, drop}
+use Rattle.std.specs.Prelude.{◌≡◌, refl, Bool, true, Option, Some, Result, Ok, Err, ℕ, suc, ◌+◌, ◌-◌, ◌<◌, ◌≤◌, length, get_or, take, drop}
 use Rattle.std.proofs.Math.Path.{sym, ap}
 use Rattle.std.proofs.Common.{◌∙◌, subst, true≢false, arith, length-drop, get_or-take, get_or-drop, length-take-le}
 use Rattle.std.proofs.Math.Bool.{false, not-eq-not}
@@ -14,6 +15,7 @@ use Rattle.std.proofs.Math.Logic.{by_cases}
 use Rattle.std.proofs.Math.Decide.{dec_lt}
 use Rattle.std.proofs.Math.Dec.{eqb}
 use borrow.Author.Tests.{eq-eqb, ne_eqb}
+use Rattle.definitions.specs.Answers.{Answer, answered, number_of}
 use Rattle.definitions.specs.Family.{Family, row_of, row_at}
 use Rattle.definitions.specs.Number.{HasInverse}
 use Rattle.definitions.specs.Refusals.{Test, Verdict, finished, refused, verdict, test, some, some_from, lowest_from, some_row, lowest_row}
@@ -34,6 +36,14 @@ column_tests m first r list close zero_number shared_number =
     test zero_number (lowest_from (λ i. no_inverse m (get_or (take r list) i close)) (λ i. eqb (get_or (take r list) i close) 0) first (suc r - first))
     ∷ test shared_number (some_from (λ i. no_inverse m (get_or (take r list) i close)) first (suc r - first))
     ∷ []
+
+abbrev pub told : {E : Type 0} → (E → ℕ) → Result (Unit {0}) E → Verdict
+told number (Ok _) = finished []
+told number (Err e) = refused (number e)
+
+pub told-answered : (r : Answer) → answered r ≡ told number_of r
+told-answered (Ok tt) = refl
+told-answered (Err k) = refl
 
 abbrev pub Inverted : ℕ → ℕ → ℕ → List ℕ → ℕ → Type 0
 Inverted m first r list close = (i : ℕ) → first ≤ i → i ≤ r → HasInverse m (get_or (take r list) i close)

@@ -1,5 +1,5 @@
-// The tests that the calls make before they convert. Each check answers a Result, which its caller takes apart by 'let .. else'
-// before the next check. A pass over a list answers with the place of the first bad entry and the reason, if there is one.
+// The tests that the calls make before they convert. Each check answers a Result, which its caller takes apart before the next check.
+// A pass over a list answers with the place of the first bad entry and the reason, if there is one.
 // Lists are lent as `&[u32]`, and the answers of checks taken apart by 'let .. else': the forms that the scope paper names. m, a, b, c and the
 // closing row's numbers come apart, in row_entries and family_rows too, which have eight: before these tests nothing holds of them. r stands
 // beside, since column and family_rows promise it of longer lists as well (docs/DECISIONS.md). Checks that differ in a number and the refusal
@@ -7,7 +7,7 @@
 #![tactic(auto)]
 
 ghost use Rattle.std.specs.Prelude.{◌≡◌, true, false, List, [], ◌∷◌, ℕ, ◌≤◌, ◌<◌, length};
-ghost use Rattle.definitions.specs.Answers.{answered, number_of};
+ghost use Rattle.definitions.specs.Answers.{answered};
 ghost use Rattle.definitions.specs.Family.{row_of};
 ghost use Rattle.definitions.specs.Prepared.{row_tests};
 ghost use Rattle.definitions.specs.Refusals.{verdict, some, not_below, modulus_test, equal_lengths_test, row_count_test, curve_length_test};
@@ -15,7 +15,7 @@ ghost use Rattle.definitions.specs.Refusals.{output_test, work_test, entries_tes
 ghost use Rattle.definitions.specs.TextCall.{text_length_test, text_output_test};
 ghost use Rattle.lists.specs.Lent.{lent, Long};
 ghost use Rattle.checks.specs.Passes.{BelowAnswer, FactorAnswer};
-ghost use Rattle.checks.specs.Columns.{column_tests};
+ghost use Rattle.checks.specs.Columns.{column_tests, told};
 
 use definitions::{FIRST_C, Refusal};
 use residue::{invert, running_product};
@@ -225,19 +225,21 @@ fn row_entries(
 }
 
 // The inverses of a column of rows, of its numbers from place first on up to row n: the entries of the list before place r, then the
-// closing number. The lowest without one decides: it is refused with the one number where it is zero, with the other where it is not.
+// closing number. The lowest without one decides: it is refused with the one refusal where it is zero, with the other where it is not. The clause
+// is of any numbers that stand for the two.
 // The reason is taken apart by 'let .. else' as well. expand_join has a column of signed numbers, which it reduces and hands on here.
-pub fn column(
+pub fn column<E: Copy>(
     m: u32,
     list: &[u32],
     first: usize,
     r: usize,
     close: u32,
-    zero: Refusal,
-    shared: Refusal,
-) -> Result<(), Refusal>
+    zero: E,
+    shared: E,
+) -> Result<(), E>
     requires { (0 < m) × (r ≤ length list.now) }
-    ensures { answered result ≡ verdict (column_tests m first r list.now close (number_of zero) (number_of shared)) [] }
+    ensures { (number : E → ℕ) → told number result
+        ≡ verdict (column_tests m first r list.now close (number zero) (number shared)) [] }
 {
     let start = r - r.saturating_sub(first);
     let factors = invertible(m, &list[start..r]);

@@ -3,6 +3,7 @@
 // it has no 'requires', and one 'ensures' that settles answer and output on every input.
 // m1, m2, a, b and c come apart, as the call is lent them that README and docs/ name. sizes, column and rows are tests of its own: of two
 // moduli, and of signed numbers.
+// Each check is taken apart by 'let .. else' before the next: the form that the scope paper names.
 #![tactic(auto)]
 
 ghost use Rattle.std.specs.Prelude.{List, [], ◌++◌, ◌≡◌, ◌≤◌, ◌<◌, ℤ, length, drop};

@@ -1,6 +1,7 @@
 // The public call that joins two lists of remainders, and the tests of two moduli, which the other call on two channels makes too. It makes
 // every test itself, ends on every input, and either joins or refuses with the number of the change requests and touches nothing: it has no
 // 'requires', and one 'ensures' that settles answer and output on every input.
+// The checks of `remainders` are taken apart by 'let .. else', the form that the scope paper names; `moduli` answers a number and hands on by `?`.
 #![tactic(auto)]
 
 ghost use Rattle.std.specs.Prelude.{[], ◌≡◌};

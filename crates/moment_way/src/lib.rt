@@ -173,7 +173,7 @@ pub fn moments(inverted: &Inverted, output: &mut [u32], work: &mut [u32])
 }
 
 // Each of the n entries times the inverse of its norm, (-1)^i a_{i+1} / (c_2 .. c_{i+1}); c_inverses[i] is the inverse of c_{i+1}.
-// The numbers come apart: over an `Inverted` the proof did not close, since a model in a model has no field names in an invariant.
+// The numbers come apart: over an `Inverted` the proof did not close, since a model in a model has no field names in a loop's invariant.
 fn divide_by_norms(
     m: u32,
     a: &[u32],

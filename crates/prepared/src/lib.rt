@@ -2,6 +2,7 @@
 // itself, the whole record first, ends on every input, and either hands out the record of the changed family or refuses with the paper's
 // number and hands back the record that it was handed: none has a 'requires', and each has one 'ensures' that settles answer and record on
 // every input. What a record holds and what it means that it is right stands in definitions, specs/Prepared.antt.
+// Each check is taken apart by 'let .. else' before the next: the form that the scope paper names.
 #![tactic(auto)]
 
 ghost use Rattle.std.specs.Prelude.{◌≡◌, [], ◌∷◌};

@@ -3,7 +3,7 @@
 // specs/RecordLaws.antt. They are evidence and no library calls. An operation on the record that is made by appending the rows of the lists
 // keeps, on an accepted family, the very promise of the call on the lists: answer, output and working list.
 // m, a, b and c come apart, and each list is lent for itself, as the calls ask that the laws are over. Laws that differ in a conversion alone
-// go through by_record, and keep the names of docs/.
+// go through by_record, and keep the names of docs/. Its trait is not that of laws: the methods are handed a record.
 #![tactic(auto)]
 
 ghost use Rattle.std.specs.Prelude.{◌≡◌, List, ℕ};
@@ -173,10 +173,7 @@ fn by_record<C: Conversion>(
         (answered result) ((output.new ≡ output.old) × (work.new ≡ work.old)) }
 {
     let made = by_appends(m, a, b, c);
-    let answer = made.answer;
-    let Ok(()) = answer else {
-        return answer;
-    };
+    made.answer?;
     let family = made.family;
     match way {
         Way::Plain => C::plain(family, curve, output),
@@ -255,10 +252,7 @@ fn moments_by_record(
         (answered result) ((output.new ≡ output.old) × (work.new ≡ work.old)) }
 {
     let made = by_appends(m, a, b, c);
-    let answer = made.answer;
-    let Ok(()) = answer else {
-        return answer;
-    };
+    made.answer?;
     let family = made.family;
     prepared_tree::moments(family, output, work)
 }
@@ -276,10 +270,7 @@ fn norms_by_record(
         (answered result) (output.new ≡ output.old) }
 {
     let made = by_appends(m, a, b, c);
-    let answer = made.answer;
-    let Ok(()) = answer else {
-        return answer;
-    };
+    made.answer?;
     let family = made.family;
     prepared_plain::norms(family, output)
 }

@@ -2,6 +2,7 @@
 // itself, ends on every input, and either converts or refuses with the paper's number and touches nothing: none has a 'requires', and each
 // has one 'ensures' that settles answer and output on every input. No inverse is searched for.
 // prepared_tree has functions of the same names: they are lent a working list, make test 8, and promise that the list is cleared.
+// Each check is taken apart by 'let .. else' before the next: the form that the scope paper names.
 #![tactic(auto)]
 
 ghost use Rattle.std.specs.Prelude.{◌≡◌, []};

@@ -2,6 +2,7 @@
 // itself, ends on every input, and either converts or refuses with the paper's number and touches nothing: none has a 'requires', and each
 // has one 'ensures' that settles answer, output and working list on every input. No inverse is searched for.
 // prepared_plain has functions of the same names: they are lent no working list, and make no test 8.
+// Each check is taken apart by 'let .. else' before the next: the form that the scope paper names.
 #![tactic(auto)]
 
 ghost use Rattle.std.specs.Prelude.{◌≡◌, []};

@@ -4,6 +4,7 @@
 // ends at the first that is wrong: taken several at a time they are slower.
 // The lists are a record's arrays, as C lays them out, with its row count beside; record takes the eight fields, since `Prepared` stands in a
 // crate above this one.
+// Each check is taken apart by 'let .. else' before the next: the form that the scope paper names.
 #![tactic(auto)]
 
 ghost use Rattle.std.specs.Prelude.{◌≡◌, true, List, [], ◌∷◌, ◌↔◌, ℕ, ◌≤◌, ◌<◌, length};

@@ -42,7 +42,7 @@ fn answer_text(
     let mut kept: usize = 0;
     let mut n: usize = 0;
     let mut at: usize = 0;
-    // a while: after a for over 0..=sizes.len() the proof has the last turn once more, in a branch of its own
+    // a while: after a for over 0..=sizes.len() the last turn is a branch of its own, in which the proof was not found
     let mut k: usize = 0;
     while k <= sizes.len() {
         let end = piece_end(sizes, k, at, text.len());

@@ -122,5 +122,5 @@ piece-answered piece before count out from line₁ line' kept' out' n same long 
 }
 
 -- the front of `from` in the place of that of `to`
-pub copied : (from to : List ℕ) (count : ℕ) → count ≤ length from → take count (take count from ++ drop count to) ≡ take count from
-copied from to count h = take_at (take count from) (drop count to) count (length-take-le count from h)
+pub front-copied : (from to : List ℕ) (count : ℕ) → count ≤ length from → take count (take count from ++ drop count to) ≡ take count from
+front-copied from to count h = take_at (take count from) (drop count to) count (length-take-le count from h)

@@ -2,6 +2,7 @@
 // m, a, b and c come apart, and lists as `&[u32]`, the form that the scope paper names: before these tests no family type holds of them.
 // plain, tree, norms and moments are functions of their own, as plain_tests, tree_tests, norms_tests and moments_tests are lists of tests of
 // their own, with 8 inside the order of two of them.
+// Each check is taken apart by 'let .. else' before the next: the form that the scope paper names.
 #![tactic(auto)]
 
 ghost use Rattle.std.specs.Prelude.{◌≡◌, [], ◌≤◌, length};

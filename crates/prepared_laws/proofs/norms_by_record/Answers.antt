@@ -1,12 +1,15 @@
 -- `norms_by_record` keeps its promise: where an append refuses nothing is touched; else the record is that of the family, and the operation on it
 -- keeps the promise of the call on the lists. Assumes nothing.
-use mathlib.Core.Path.{refl}
+use mathlib.Core.Path.{refl, sym, ◌∙◌}
+use Rattle.acceptance.proofs.HandedOn.{handed-on}
 use Rattle.prepared_laws.proofs.Settled.{rows-refused, norms-settled}
 use Rattle.prepared_laws.proofs.norms_by_record.Goals as goal
 
-pub returns-in_default : goal.returns-in_default
-returns-in_default c = rows-refused _ _ _ _ _ _ c.by_appends-made.ensures _ _ _ c.in_default.is refl
+pub returns-in_err-made : goal.returns-in_err-made
+returns-in_err-made c =
+    rw (handed-on _ _ c.from_residual.ensures.1 ∙ sym c.in_err-made.was)
+    (rows-refused _ _ _ _ _ _ c.by_appends-made.ensures _ _ _ c.in_err-made.was refl)
 
 pub returns : goal.returns
 returns c =
-    norms-settled _ _ _ _ _ _ c.by_appends-made.ensures c.in-Ok.is _ _ _ _ c.norms.ensures
+    norms-settled _ _ _ _ _ _ c.by_appends-made.ensures c.in_ok-made.was _ _ _ _ c.norms.ensures
