@@ -10,7 +10,7 @@ use Rattle.std.proofs.Math.Logic.{by_cases}
 use Rattle.std.proofs.Math.Decide.{dec_lt}
 use Rattle.std.proofs.Math.ListN.{length, get_or, get_or-eq_default}
 use Rattle.std.proofs.lemmas.List.{length-replicate, get_or-replicate}
-use Rattle.std.proofs.Math.Seq.{length-take-le}
+use Rattle.std.proofs.Math.Seq.{length-take-le, take-length}
 use Rattle.definitions.specs.Family.{Family, Row, row_at, F, G}
 use Rattle.definitions.specs.Number.{table}
 use Rattle.definitions.specs.Orthogonality.{reversal, quotient, moments}
@@ -49,6 +49,16 @@ module _ {m : ℕ} {inverses : List ℕ} {close_inverse n : ℕ} where
     multiplied-ends l =
         let e : i ≡ n = omega (arith, h.reached) in
         h.is ∙ ap (running_product m (entry_or inverses (n - 1) close_inverse)) e
+
+-- of a list that is lent to its first k entries
+pub leading-lent : (m close : ℕ) (list : List ℕ) {k n top : ℕ} → k ≤ length list → n ≡ k + 1
+    → top ≡ running_product m (entry_or (take k list) (length (take k list)) close) (length (take k list) + 1)
+    → top ≡ running_product m (entry_or list (n - 1) close) n
+unfolding entry_or
+leading-lent m close list {k} {n} long e h =
+    let less : k ≡ n - 1 = omega (arith, e) in
+    h ∙ ap (λ t. running_product m (λ i. get_or t i close) (length (take k list) + 1)) (take-length (take k list))
+    ∙ ap₂ (λ j q. running_product m (λ i. get_or (take j list) i close) q) less (ap (λ q. q + 1) (length-take-le k list long) ∙ sym e)
 
 -- ---- a list that stands at the front of a local one
 pub record Front (count k : ℕ) (g : ℕ → ℕ) (list : List ℕ) : Type 0 where

@@ -4,7 +4,7 @@
 // The inverses are lent beside the rows, and none is searched for.
 #![tactic(auto)]
 
-ghost use Rattle.std.specs.Prelude.{◌≡◌, ◌*◌, ◌-◌, ◌≤◌, ◌<◌, length};
+ghost use Rattle.std.specs.Prelude.{◌≡◌, ◌+◌, ◌*◌, ◌-◌, ◌≤◌, ◌<◌, length};
 ghost use Rattle.definitions.specs.Answers.{cleared};
 ghost use Rattle.definitions.specs.Conversion.{expand, decompose};
 ghost use Rattle.definitions.specs.Family.{Curve, ones, rows, size};
@@ -127,17 +127,18 @@ fn polynomials(inverted: &Inverted, divisor: &mut [u32], numerator: &mut [u32], 
 }
 
 // The product of the inverses of the a, that of the closing row too.
-// The numbers come apart: this clause, over n and n - 1 in the edit closing_row_not_inverted, speaks of the inverses, and the view of an
-// `Inverted` is its family alone. n stands beside, since the inverses may lie in a longer array.
-fn leading_inverse(m: u32, a_inverses: &[u32], close_a_inverse: u32, n: usize) -> u32
-    requires { (0 < m) × (1 ≤ n) × (n - 1 ≤ length a_inverses.now) }
-    ensures { result ≡ running_product m (entry_or a_inverses.now (n - 1) close_a_inverse) n }
+// The numbers come apart: this clause, with and without the closing row in the edit closing_row_not_inverted, speaks of the inverses, and the
+// view of an `Inverted` is its family alone.
+fn leading_inverse(m: u32, a_inverses: &[u32], close_a_inverse: u32) -> u32
+    requires { 0 < m }
+    ensures { result ≡ running_product m
+        (entry_or a_inverses.now (length a_inverses.now) close_a_inverse) (length a_inverses.now + 1) }
 {
-    let last = n - 1;
+    let rows = a_inverses.len();
     let modulus = Modulus::new(m);
     let mut result: u32 = 1;
-    for i in 0..n {
-        let factor = row_entry(a_inverses, last, i, close_a_inverse);
+    for i in 0..rows + 1 {
+        let factor = row_entry(a_inverses, rows, i, close_a_inverse);
         result = modulus.product(result, factor);
     }
     result
@@ -151,12 +152,12 @@ pub fn moments(inverted: &Inverted, output: &mut [u32], work: &mut [u32])
     ensures written { output.new ≡ moments inverted.now }
     ensures wiped { work.new ≡ cleared work.old }
 {
-    let n = inverted.family.a.len() + 1;
+    let rows = inverted.family.a.len();
+    let n = rows + 1;
     let top = leading_inverse(
         inverted.family.modulus,
-        inverted.a_inverses,
+        &inverted.a_inverses[..rows],
         inverted.close_a_inverse,
-        n,
     );
     let mut divisor = zeros::<255>();
     let mut numerator = zeros::<255>();
@@ -249,8 +250,8 @@ fn decompose_tree(
 }
 
 // The curve of the n coefficients in powers of x. With one coefficient there is no tree, and the answer is that of F_0.
-// c_inverses[i] is the inverse of c_{i+1} from i = 1 on. They and the closing row's come apart: decompose_tree goes on with them, and Moments
-// takes an `Inverted` and needs none.
+// c_inverses[i] is the inverse of c_{i+1} from i = 1 on.
+// The two come apart: they travel through this function and decompose_tree alone, to divide_by_norms, whose numbers come apart as it says.
 pub fn decompose(
     inverted: &Inverted,
     c_inverses: &[u32],

@@ -3,7 +3,7 @@
 use Rattle.std.proofs.Common.{refl, ◌∙◌, ap, add-one, arith}
 use Rattle.definitions.specs.Orthogonality.{moments}
 use Rattle.lists.specs.Whole.{written-whole}
-use Rattle.moment_way.specs.Moments.{moments-quotient, moments-are}
+use Rattle.moment_way.specs.Moments.{leading-lent, moments-quotient, moments-are}
 use Rattle.moment_way.proofs.Taken.{closed-lent, polynomials-lent, moments-input}
 use Rattle.moment_way.proofs.moments.Goals as goal
 
@@ -16,7 +16,8 @@ quotient-requires c =
     moments-quotient
     (moments-input c.inverted-inside.invariant beside.closing refl (omega (arith, few)) beside.a_inverts (rw add-one room) c.requires.work)
     c.zeros-divisor.ensures c.zeros-numerator.ensures
-    (polynomials-lent c.inverted-inside.invariant beside.closing refl (omega (arith, few)) made) c.leading_inverse-top.ensures
+    (polynomials-lent c.inverted-inside.invariant beside.closing refl (omega (arith, few)) made)
+    (leading-lent _ _ _ beside.a_inverts.long refl c.leading_inverse-top.ensures)
 
 pub returns-clause-written : goal.returns-clause-written
 returns-clause-written c =
