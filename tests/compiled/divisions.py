@@ -29,30 +29,28 @@ products::add_products            1  0  0
 products::transposed              1  0  0
 inverses::of_list                 2  2  2
 checks::column                    1  2  2
-record_check::record              1  0  0
-plain::decompose                  2  0  0
+plain::expand                     1  0  0
+plain::decompose                  3  0  0
+prepared::Prepared::right         1  0  0
 prepared::prepare                 1  0  0
 prepared::append_verdict          0  4  0
 prepared::replace_verdict         0  4  0
 subproduct::build                 1  0  0
 tree::expand                      2  0  0
 tree::adjoint                     1  0  0
-moment_way::moments               1  0  0
+moment_way::moments               2  0  0
 moment_way::decompose             2  0  0
 verdicts::rows                    1  2  0
 plain_calls::norms                1  0  0
-expand_join::expand_channel       1 40  0
+expand_join::expand_channel       0 40  0
 zahupnik_expand_join              2 42  0
 zahupnik_invert                   0  2  0
 zahupnik_join                     2  2  0
 zahupnik_plain_adjoint            0  1  0
-zahupnik_plain_expand             1  0  0
 zahupnik_prepared_plain_adjoint   0  1  0
-zahupnik_prepared_plain_expand    1  0  0
 """
 ROWS = (
-    "zahupnik_plain_expand",
-    "zahupnik_prepared_plain_expand",
+    "plain::expand",
     "zahupnik_plain_adjoint",
     "plain::decompose",
     "plain_calls::norms",
@@ -60,7 +58,7 @@ ROWS = (
     "expand_join::expand_channel",
     "zahupnik_join",
 )
-PRODUCTS = ("products::add_products", "products::transposed", "subproduct::descend", "record_check::record", "prepared::prepare")
+PRODUCTS = ("products::add_products", "products::transposed", "subproduct::descend", "prepared::Prepared::right", "prepared::prepare")
 
 JUMP = re.compile(r"(j[a-z]+|loop[a-z]*)\s+([0-9a-f]+) <")
 END = re.compile(r"(ret[qlw]?|ud2|hlt)\b")

@@ -1,5 +1,9 @@
 // The tests that the calls make before they convert. Each check answers a Result, which its caller takes apart by 'let .. else'
 // before the next check. A pass over a list answers with the place of the first bad entry and the reason, if there is one.
+// Lists are lent as `&[u32]`, and the answers of checks taken apart by 'let .. else': the forms that the scope paper names. m, a, b, c and the
+// closing row's numbers come apart, in row_entries and family_rows too, which have eight: before these tests nothing holds of them. r stands
+// beside, since column and family_rows promise it of longer lists as well (docs/DECISIONS.md). Checks that differ in a number and the refusal
+// alone stay apart: each has a clause over a definition of its own, as row_count_test and text_length_test.
 #![tactic(auto)]
 
 ghost use Rattle.std.specs.Prelude.{◌≡◌, true, false, List, [], ◌∷◌, ℕ, ◌≤◌, ◌<◌, length};
@@ -17,6 +21,7 @@ use definitions::{FIRST_C, Refusal};
 use residue::{invert, running_product};
 
 // Why a number has no inverse: it is zero, or it shares this factor with the modulus.
+// Both cases are reasons: zero is no lack of a factor, since m is shared with it, so no Option says it.
 #[derive(Clone, Copy, Debug, PartialEq, Eq)]
 pub enum Reason {
     Zero,
@@ -221,6 +226,7 @@ fn row_entries(
 
 // The inverses of a column of rows, of its numbers from place first on up to row n: the entries of the list before place r, then the
 // closing number. The lowest without one decides: it is refused with the one number where it is zero, with the other where it is not.
+// The reason is taken apart by 'let .. else' as well. expand_join has a column of signed numbers, which it reduces and hands on here.
 pub fn column(
     m: u32,
     list: &[u32],
@@ -255,6 +261,7 @@ pub fn column(
 
 // 17 and 10, then 18 and 11: the inverses of the a of all rows, then those of the c from place first on, whatever the b. One inverse settles
 // all four, that of a product of all; only if it has none is it looked for whom to blame, among the a first.
+// No b is handed in: the clause speaks of every b.
 fn row_inverses(
     m: u32,
     a: &[u32],
@@ -306,6 +313,7 @@ pub fn family_rows(
 }
 
 // 9, 17, 10, 18 and 11 of a new row, which is to stand at a place.
+// The row's numbers come apart, as `append` and `replace` of a record are handed them.
 pub fn new_row(m: u32, place: usize, a: u32, b: u32, c: u32) -> Result<(), Refusal>
     requires { 0 < m }
     ensures { answered result ≡ verdict (row_tests m place (row_of a b c)) [] }

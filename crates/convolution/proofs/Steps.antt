@@ -4,9 +4,9 @@
 -- an edit of specs/ changes, and on Totals of proofs/. Assumes nothing.
 use Rattle.std.specs.Prelude.{◌≡◌, ℕ, ◌+◌, ◌-◌, ◌*◌, ◌%◌, ◌<◌, ◌≤◌, List, length, slice_index, refl}
 use Rattle.std.proofs.Math.Path.{sym, ap}
-use Rattle.std.proofs.Common.{◌∙◌, add-zero, arith}
+use Rattle.std.proofs.Common.{◌∙◌, add-zero, zero-add, arith}
 use Rattle.definitions.specs.Number.{sum}
-use Rattle.numbers.specs.Sums.{sum-split}
+use Rattle.numbers.specs.Sums.{sum-equal, sum-split}
 use Rattle.convolution.specs.Totals.{SmallNumbers, PlusInput, Added, Totalling, amount, pair_fits, added_then}
 use Rattle.convolution.specs.Totals.{one-term, two-terms}
 use Rattle.convolution.proofs.Totals.{totalling-starts, totalling-next, totalling-added}
@@ -56,6 +56,19 @@ module _ (low₀ wraps₀ : ℕ) (p v : List ℕ) (i first end : ℕ) (input : S
 
     pub singles-end : end ≤ j → Added low₀ wraps₀ (end - first) (sum (end - first) (λ t. single (first + t))) low wraps
     singles-end l = totalling-added low₀ wraps₀ first end single j low wraps l h
+
+-- from the first term on
+pub singles-all : (low₀ wraps₀ : ℕ) (p v : List ℕ) (i end : ℕ) → SinglesInput low₀ wraps₀ p v i 0 end → {j low wraps : ℕ}
+    → Totalling wraps₀ (amount low₀ wraps₀) 0 end (transposed_term p v i) j low wraps → end ≤ j
+    → Added low₀ wraps₀ end (sum end (transposed_term p v i)) low wraps
+singles-all low₀ wraps₀ p v i end input h l =
+    let a = singles-end low₀ wraps₀ p v i 0 end input h l in
+    let all : end - 0 ≡ end = omega arith in
+    rw (← all) record {
+      few = a.few;
+      fits = a.fits;
+      whole = a.whole ∙ ap (λ s. amount low₀ wraps₀ + s) (sum-equal (end - 0) _ _ (λ t _. ap (transposed_term p v i) (zero-add t)));
+    }
 
 module _ {low₀ wraps₀ : ℕ} {p v q u : List ℕ} {i end : ℕ} (input : PairsInput low₀ wraps₀ p v q u i end) where
   pub pairs_first : PairsInput low₀ wraps₀ p v q u i (end % 2) × (end % 2 ≤ 1)

@@ -72,6 +72,40 @@ module _ (m : ℕ) (p v : List ℕ) (i : ℕ) (input : SumInput m p v i) (half :
     };
   }
 
+  reached-twice : half + half ≤ length v
+  reached-twice = omega (arith, input.reached)
+
+  -- what is beside the halves, on the slices that begin where the halves end
+  pub beside-input : SinglesInput 0 0 (onward p (half + half)) (onward v (half + half)) i 0 (length (onward p (half + half)))
+  beside-input = record {
+    fits = odd-input.fits;
+    few = odd-input.few;
+    within = omega arith;
+    reach = record {
+      multiplier = omega arith;
+      list = omega (arith, onward-length p (half + half) twice, onward-length v (half + half) reached-twice, input.reached);
+      p_small = λ j. rw (onward-entry p (half + half) twice j) (odd-input.reach.p_small (half + half + j));
+      v_small = λ j. rw (onward-entry v (half + half) reached-twice j) (odd-input.reach.v_small (half + half + j));
+    };
+  }
+
+  pub beside-added : {low wraps : ℕ}
+      → Added 0 0 (length (onward p (half + half)))
+      (sum (length (onward p (half + half))) (transposed_term (onward p (half + half)) (onward v (half + half)) i)) low wraps
+      → Added 0 0 (length p - (half + half)) (sum (length p - (half + half)) (λ t. each (half + half + t))) low wraps
+  beside-added a =
+      rw (← onward-length p (half + half) twice) record {
+        few = a.few;
+        fits = a.fits;
+        whole = a.whole ∙ ap (λ s. amount 0 0 + s) (sum-equal (length (onward p (half + half))) _ _ (λ j _. beside-is j));
+      }
+    where
+      beside-is : (j : ℕ) → transposed_term (onward p (half + half)) (onward v (half + half)) i j ≡ each (half + half + j)
+      beside-is j =
+          let there : half + half + (i + j) ≡ i + (half + half + j) = omega arith in
+          ap₂ ◌*◌ (onward-entry p (half + half) twice j)
+          (onward-entry v (half + half) reached-twice (i + j) ∙ ap (λ k. slice_index v k) there)
+
   halves-within : (half ≤ length p) × (half ≤ length v)
   halves-within = (omega arith, omega (arith, input.reached))
 

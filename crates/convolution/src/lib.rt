@@ -2,7 +2,7 @@
 // checked. A sum is kept as its low 64 bits and a count of its wraps: nothing is taken off in the loop, and one remainder ends it.
 #![tactic(auto)]
 
-ghost use Rattle.std.specs.Prelude.{◌≡◌, ◌+◌, ◌-◌, ◌*◌, ◌%◌, ◌≤◌};
+ghost use Rattle.std.specs.Prelude.{◌≡◌, ◌+◌, ◌-◌, ◌*◌, ◌%◌, ◌≤◌, length};
 ghost use Rattle.definitions.specs.Number.{sum};
 ghost use Rattle.numbers.specs.Products.{product_at, transposed_at};
 ghost use Rattle.convolution.specs.Totals.{SmallNumbers, PlusInput, Added};
@@ -68,14 +68,16 @@ pub fn products_at(
     m.remainder_of_sum(total.low, total.wraps)
 }
 
-// The sum, and p_j v_{i+j} for j from first to end - 1 besides.
-fn with_singles(total: Total, p: &[u32], v: &[u32], i: usize, first: usize, end: usize) -> Total
-    requires { SinglesInput total.low total.wraps p.now v.now i first end }
-    ensures { Added total.low total.wraps (end - first)
-        (sum (end - first) (λ t. transposed_term p.now v.now i (first + t))) result.low result.wraps }
+// The sum, and the p_j v_{i+j} besides.
+// with_singles, with_first and with_pairs add one product a step, two and four, so they are three: four a step are quicker than two by 6 to
+// 36 percent from length 64 on (docs/DECISIONS.md).
+fn with_singles(total: Total, p: &[u32], v: &[u32], i: usize) -> Total
+    requires { SinglesInput total.low total.wraps p.now v.now i 0 (length p.now) }
+    ensures { Added total.low total.wraps (length p.now)
+        (sum (length p.now) (transposed_term p.now v.now i)) result.low result.wraps }
 {
     let mut sum = total;
-    for j in first..end {
+    for j in 0..p.len() {
         let k = i + j;
         let x = pair(p[j], v[k], 0, 0);
         sum = plus(sum, x);
@@ -148,7 +150,7 @@ pub fn sum_at(m: Modulus, p: &[u32], v: &[u32], i: usize) -> u32
 {
     let half = p.len() / 2;
     let none = Total { low: 0, wraps: 0 };
-    let odd = with_singles(none, p, v, i, half + half, p.len());
+    let odd = with_singles(none, &p[half + half..], &v[half + half..], i);
     let total = with_pairs(odd, p, v, &p[half..], &v[half..], i, half);
     m.remainder_of_sum(total.low, total.wraps)
 }

@@ -14,6 +14,7 @@ use std::fmt;
 pub const FIRST_C: usize = 1;
 
 // Why a call refuses, in the order of the paper's numbers, 1 to 20.
+// An error enum: twenty kinds without values.
 #[derive(Clone, Copy, Debug, PartialEq, Eq)]
 pub enum Refusal {
     TextTooLong,
@@ -77,6 +78,7 @@ impl Error for Refusal {}
 
 // Why Inverse hands out no inverse: a refusal before it is looked for, or that there is none (13), with the greatest common factor of the
 // number and the modulus. The factor of a number with an inverse is 1.
+// Both cases are errors, so neither has the place of Ok. Refused holds the refusal itself and no number of it.
 #[derive(Clone, Copy, Debug, PartialEq, Eq)]
 pub enum NotInverted {
     Refused(Refusal),
@@ -92,6 +94,7 @@ impl From<Refusal> for NotInverted {
 }
 
 // The operations of a job.
+// Five kinds without values.
 #[derive(Clone, Copy, Debug, PartialEq, Eq)]
 pub enum Operation {
     Expand,

@@ -1,6 +1,8 @@
 // The public call that expands a curve on two channels and joins: rows and curve are signed numbers, reduced modulo each. It makes every test
 // itself, ends on every input, and either hands out the joined coefficients or refuses with the number of the change requests and touches nothing:
 // it has no 'requires', and one 'ensures' that settles answer and output on every input.
+// m1, m2, a, b and c come apart, as the call is lent them that README and docs/ name. sizes, column and rows are tests of its own: of two
+// moduli, and of signed numbers.
 #![tactic(auto)]
 
 ghost use Rattle.std.specs.Prelude.{List, [], ◌++◌, ◌≡◌, ◌≤◌, ◌<◌, ℤ, length, drop};

@@ -3,7 +3,7 @@
 // and not here. Every contract says what the reading of definitions answers.
 #![tactic(auto)]
 
-ghost use Rattle.std.specs.Prelude.{◌≡◌, ◌≤◌, length, drop};
+ghost use Rattle.std.specs.Prelude.{◌≤◌, length, drop};
 ghost use Rattle.form.specs.FamilyLines.{read_rows, RowsRead, read_family, FamilyRead};
 ghost use Rattle.form.specs.JobForm.{read_end, EndRead, Formed};
 

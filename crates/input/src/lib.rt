@@ -39,7 +39,8 @@ pub fn unwritten(rt: &impl Eprint, program: &str, error: Error) -> ExitCode
     ensures unread { error_kind error ≡ kind.BrokenPipe → exit_status result ≡ 141 }
     ensures other { error_kind error ≢ kind.BrokenPipe → exit_status result ≡ 1 }
 {
-    if error.kind() == ErrorKind::BrokenPipe {
+    let is_unread = error.kind() == ErrorKind::BrokenPipe;
+    if is_unread {
         return ExitCode::from(141);
     }
     fail(rt, program, "write standard output", error)

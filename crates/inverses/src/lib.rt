@@ -1,5 +1,6 @@
 // The inverses of the entries of a list modulo m from a place on, from one inverse where the product of all has one; and one product by
 // which to tell whether all entries of two lists have inverses, and two numbers more.
+// A list is lent with a count of entries, n or count, since the places of the output past it stay, as the clauses say.
 #![tactic(auto)]
 
 ghost use Rattle.std.specs.Prelude.{◌≡◌, ◌+◌, ◌<◌, ◌≤◌, length, get_or};

@@ -1,6 +1,8 @@
 // The calls on job texts. The text call: a job text in, its answer text out; the lists are read by `form`, converted by `operations` and
 // written by `writer`. And the call that writes a job text, by `job_text`. Nothing is written before every test has passed, and neither has
 // a 'requires'.
+// m, a, b and c come apart, as write_job is lent them, which README and docs/ name. Those of `answer`, of ten parameters, are arrays of fixed
+// length with the counts of a text beside, since there is no heap.
 #![tactic(auto)]
 
 ghost use Rattle.std.specs.Prelude.{take};
@@ -47,10 +49,10 @@ pub fn convert_text(text: &[u8], output: &mut [u8], work: &mut [u32]) -> Result<
     ensures { TextConverted text.now result output.old output.new work.old work.new }
 {
     checks::text_length(text.len())?;
-    let mut xs = lists::zeros();
-    let mut ys = lists::zeros();
-    let mut zs = lists::zeros();
-    let mut us = lists::zeros();
+    let mut xs = lists::zeros::<128>();
+    let mut ys = lists::zeros::<128>();
+    let mut zs = lists::zeros::<128>();
+    let mut us = lists::zeros::<128>();
     let Some(
         JobForm {
             modulus,

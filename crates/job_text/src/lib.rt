@@ -1,5 +1,6 @@
 // Writes a job text (the scope paper, 'The job text') line by line into a lent output. Nothing is tested here: the lists are no longer
 // than those of a family and its curve, and the output has room for them.
+// The family's lists come apart, as write_job is lent them; a place in the output stands beside it, since Put (writer, Putting) is of the whole.
 #![tactic(auto)]
 
 ghost use Rattle.std.specs.Prelude.{[], ◌+◌, ◌≤◌, length};

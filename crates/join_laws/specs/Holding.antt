@@ -1,6 +1,6 @@
 -- Why the laws over the calls on two channels hold: each list handed out is its definition, and so is what holds of the definitions.
 -- Assumes nothing.
-use Rattle.std.specs.Prelude.{true, List, [], ◌≡◌, ℕ, suc, ◌*◌, ◌<◌, ◌≤◌, ℤ, pos, length, get_or, Ok, Err, IsErrAnd}
+use Rattle.std.specs.Prelude.{true, List, [], ◌≡◌, ℕ, suc, ◌*◌, ◌<◌, ◌≤◌, ℤ, pos, length, get_or, Err}
 use Rattle.std.proofs.Common.{sym, ◌∙◌, ap, ap₂, subst, arith}
 use Rattle.std.proofs.lemmas.List.{length-map}
 use Rattle.std.proofs.Math.ListN.{get_or-map}
@@ -142,11 +142,6 @@ expand-join-law m m' s u v out out' made = record { made = made; holds = holds }
 -- ---- Expand on either channel, and Join
 never : (r : Answer) (k : Refusal) → r ≡ Err k → answered r ≡ finished [] → ⊥
 never r k q e = refused-not-finished (number_of k) [] (sym (ap answered q) ∙ e)
-
--- a refusal that is handed on
-pub handed-on : (r : Answer) (k : Refusal) → IsErrAnd r (λ e. e ≡ k) → r ≡ Err k
-handed-on (Ok x) k h = absurd h
-handed-on (Err e) k h = ap Err h
 
 -- one channel, lent the remainders of rows and curve
 module _ (m : ℕ) (s : Signed) (u : List ℤ) (accepted : Accepted (reduced m s)) (curve_long : length u ≡ suc (length s.a)) where

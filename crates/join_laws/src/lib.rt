@@ -1,5 +1,6 @@
 // Laws over the calls on two channels. Each function lends every list, makes the calls until one refuses, and promises its law of the very
 // lists handed out, on what the calls accept. The promises stand in specs/Laws.antt. They are evidence and no library calls.
+// Each list is lent for itself, as the calls ask that the laws are over: each call has its own.
 #![tactic(auto)]
 
 ghost use Rattle.definitions.specs.Answers.{answered};

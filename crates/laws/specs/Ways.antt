@@ -1,6 +1,6 @@
 -- The two ways of a conversion over the lists that the calls hand out.
 -- Proved: two calls, each with its own promise, come to Agreed, whichever refuses. Assumes nothing.
-use Rattle.std.specs.Prelude.{◌≡◌, List, [], ◌++◌, ℕ, length, Ok, Err, Result, IsErrAnd}
+use Rattle.std.specs.Prelude.{◌≡◌, List, [], ◌++◌, ℕ, length, Ok, Err}
 use Rattle.std.proofs.Common.{sym, ◌∙◌, ap}
 use Rattle.definitions.specs.Answers.{Answer, answered, after, cleared, PlainCall, TreeCall}
 use Rattle.definitions.specs.Family.{Family}
@@ -11,11 +11,6 @@ use Rattle.acceptance.specs.Stages.{all-remain, stage-refuses, stage-passes, sta
 use Rattle.laws.specs.Laws.{TwoCallsInput, WaysAgree, Agreed}
 use Rattle.laws.specs.declared.Way.{Way}
 use Rattle.definitions.specs.declared.Refusal.{Refusal}
-
--- a refusal that is handed on
-pub handed-on : {A : Type 0} (r : Result A Refusal) (k : Refusal) → IsErrAnd r (λ e. e ≡ k) → r ≡ Err k
-handed-on (Ok x) k h = absurd h
-handed-on (Err e) k h = ap Err h
 
 module _ (convert : Family → List ℕ → List ℕ) (f : Family) (u plain plain' tree work : List ℕ) (s : Answer)
     (one : PlainCall convert f u (answered s) plain plain') where

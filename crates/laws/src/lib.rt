@@ -2,6 +2,8 @@
 // input, which refusal is given and what each list then holds; on an accepted family, with curves on it and lists as long as the calls
 // ask, that every call finishes and the law holds of the very lists handed out. The promises stand in specs/Laws.antt.
 // They are evidence and no library calls: public is what the program `weighing` runs, and what other laws go on from.
+// m, a, b and c come apart, and each list is lent for itself, as the calls ask that the laws are over: eight parameters and more.
+// plain and tree of a Conversion are those calls. Laws that differ in a conversion alone go through one function, and keep the names of docs/.
 #![tactic(auto)]
 
 ghost use Rattle.std.specs.Prelude.{List, ℕ};
@@ -15,12 +17,14 @@ use definitions::Refusal;
 use std::fmt;
 
 // A way of Expand and of Decompose.
+// Two kinds without values: neither is the lack of the other, so no Option says it.
 #[derive(Clone, Copy, Debug, PartialEq, Eq)]
 pub enum Way {
     Plain,
     Tree,
 }
 
+// The match is the one table of their names: no derive prints.
 impl fmt::Display for Way {
     fn fmt<W: fmt::Write>(&self, f: &mut fmt::Formatter<W>) -> fmt::Result {
         f.write_str(match self {
@@ -149,6 +153,7 @@ impl Conversion for Decomposing {
 }
 
 // A conversion by the way that is asked for.
+// The way is asked for at run time (`weighing` goes through both in loops), so a match chooses.
 pub fn by_way<C: Conversion>(
     way: Way,
     m: u32,

@@ -8,7 +8,8 @@
 --   Taking ..                  the state of its loop
 -- Assumes nothing.
 use Rattle.std.specs.Prelude.{Bool, true, false, List, [], ◌∷◌, ◌++◌, ◌≡◌, refl, ℕ, ◌+◌, ◌-◌, ◌<◌, ◌≤◌, eqb, length, get_or, take, drop, set}
-use Rattle.std.proofs.Common.{true≢false, subst, sym, ◌∙◌, ap, add-one, arith, length-append, length-take, length-set, drop_of_length-le, take_all, take-take, take-suc-set, drop-cons, length-take-le}
+use Rattle.std.proofs.Common.{true≢false, subst, sym, ◌∙◌, ap, add-one, arith, length-append, length-take, length-take-le, length-set}
+use Rattle.std.proofs.Common.{take_all, take-take, take-suc-set, drop_of_length-le, drop-cons}
 use Rattle.std.proofs.lemmas.List.{take-append-le}
 use Rattle.definitions.specs.Reading.{pick}
 use Rattle.definitions.specs.Text.{newline}

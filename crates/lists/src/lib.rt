@@ -1,5 +1,6 @@
 // Local lists and lent ones, entry by entry: what the ways of conversion share. Lists are lent whole, with a count of the entries that take
 // part; the entries past the count stay.
+// The count stands beside since local lists have a fixed length: there is no heap.
 #![tactic(auto)]
 
 ghost use Rattle.std.specs.Prelude.{◌≡◌, ◌+◌, ◌≤◌, length, get_or, take, replicate};
@@ -30,6 +31,7 @@ impl<'a> Model for Family<'a> {
 }
 
 // A local list, all zeros.
+// One function for every length.
 pub fn zeros<const N: usize>() -> [u32; N]
     ensures { result ≡ replicate N 0 }
 {

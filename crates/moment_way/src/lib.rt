@@ -4,7 +4,7 @@
 // The inverses are lent beside the rows, and none is searched for.
 #![tactic(auto)]
 
-ghost use Rattle.std.specs.Prelude.{◌≡◌, ◌*◌, ◌-◌, ◌≤◌, ◌<◌, length, replicate};
+ghost use Rattle.std.specs.Prelude.{◌≡◌, ◌*◌, ◌-◌, ◌≤◌, ◌<◌, length};
 ghost use Rattle.definitions.specs.Answers.{cleared};
 ghost use Rattle.definitions.specs.Conversion.{expand, decompose};
 ghost use Rattle.definitions.specs.Family.{Curve, ones, rows, size};
@@ -127,6 +127,8 @@ fn polynomials(inverted: &Inverted, divisor: &mut [u32], numerator: &mut [u32], 
 }
 
 // The product of the inverses of the a, that of the closing row too.
+// The numbers come apart: this clause, over n and n - 1 in the edit closing_row_not_inverted, speaks of the inverses, and the view of an
+// `Inverted` is its family alone. n stands beside, since the inverses may lie in a longer array.
 fn leading_inverse(m: u32, a_inverses: &[u32], close_a_inverse: u32, n: usize) -> u32
     requires { (0 < m) × (1 ≤ n) × (n - 1 ≤ length a_inverses.now) }
     ensures { result ≡ running_product m (entry_or a_inverses.now (n - 1) close_a_inverse) n }
@@ -171,6 +173,7 @@ pub fn moments(inverted: &Inverted, output: &mut [u32], work: &mut [u32])
 }
 
 // Each of the n entries times the inverse of its norm, (-1)^i a_{i+1} / (c_2 .. c_{i+1}); c_inverses[i] is the inverse of c_{i+1}.
+// The numbers come apart: over an `Inverted` the proof did not close, since a model in a model has no field names in an invariant.
 fn divide_by_norms(
     m: u32,
     a: &[u32],
@@ -246,7 +249,8 @@ fn decompose_tree(
 }
 
 // The curve of the n coefficients in powers of x. With one coefficient there is no tree, and the answer is that of F_0.
-// c_inverses[i] is the inverse of c_{i+1} from i = 1 on.
+// c_inverses[i] is the inverse of c_{i+1} from i = 1 on. They and the closing row's come apart: decompose_tree goes on with them, and Moments
+// takes an `Inverted` and needs none.
 pub fn decompose(
     inverted: &Inverted,
     c_inverses: &[u32],

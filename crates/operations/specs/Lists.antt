@@ -5,7 +5,7 @@
 --   ConvertedFront    the same, written at the front of a longer output
 -- Proved: Sized from the passed tests on sizes; each call of the tree way, and Norms with the working list cleared, as the operation's
 -- promise. Assumes nothing.
-use Rattle.std.specs.Prelude.{◌≡◌, Bool, true, false, ℕ, ◌-◌, ◌≤◌, take, drop, Result, Ok, Err, IsErrAnd}
+use Rattle.std.specs.Prelude.{◌≡◌, Bool, true, false, ℕ, ◌-◌, ◌≤◌, take, drop}
 use Rattle.std.proofs.Math.Path.{refl, sym}
 use Rattle.std.proofs.Common.{◌∙◌, ap, arith, take-append-drop, length-take-le}
 use mathlib.Core.List.{List, [], ◌∷◌, ◌++◌}
@@ -20,18 +20,12 @@ use Rattle.definitions.specs.Refusals.{work_test, curve_entries_test}
 use Rattle.definitions.specs.Refusals.{family_shape, family_rows, value_tests, tree_tests, moments_tests, norms_tests}
 use Rattle.definitions.specs.TextCall.{curve_count, sizes_of, converted}
 use Rattle.definitions.specs.declared.Operation.{Operation}
-use Rattle.definitions.specs.declared.Refusal.{Refusal}
 use Rattle.acceptance.specs.Verdicts.{None, verdict-here, verdict-next}
 use Rattle.acceptance.specs.Stages.{Remaining, all-remain, none-remain}
 use Rattle.acceptance.specs.Verdicts.{curve-length-passes, output-passes, work-passes}
 use Rattle.lists.specs.Lent.{lent, Long}
 use Rattle.verdicts.specs.Sizes.{sizes-shape, sizes-fit}
 use Rattle.operations.specs.Results.{result_count}
-
--- a refusal that is handed on
-pub handed-on : {A : Type 0} (r : Result A Refusal) (k : Refusal) → IsErrAnd r (λ e. e ≡ k) → r ≡ Err k
-handed-on (Ok x) k h = absurd h
-handed-on (Err e) k h = ap Err h
 
 pub record Sized (operation : Operation) (f : Family) (u : List ℕ) (output work : ℕ) : Type 0 where
   pub shape : None (family_shape f)

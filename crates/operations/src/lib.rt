@@ -1,5 +1,6 @@
 // The operations of a job on lists, by the tree way, once the tests on sizes have passed: how many numbers each hands out, and the conversion
 // with the tests that are left.
+// m, a, b and c come apart, as the calls are lent them that they go on to. convert_parts has counts beside lists of fixed length: no heap.
 #![tactic(auto)]
 
 ghost use Rattle.std.specs.Prelude.{◌≡◌, ◌≤◌, length, take};
@@ -12,6 +13,7 @@ ghost use Rattle.operations.specs.Lists.{Sized, Parts, ConvertedValues, Converte
 use definitions::{Operation, Refusal};
 
 // How many numbers an operation hands out, on a family of that many rows.
+// A job's operation comes from a text, so a match chooses, here and in convert_lists: one table each.
 pub fn result_count(operation: Operation, rows: usize) -> usize
     requires { rows ≤ 127 }
     ensures { result ≡ result_count operation rows }

@@ -15,6 +15,7 @@ use definitions::Refusal;
 use storing::Direction;
 
 // Of n entries, the index of the one that comes to place k.
+// The match is the one table of both orders: a list's direction is asked for at run time.
 fn source(direction: Direction, n: usize, k: usize) -> usize
     requires { (k < n) × (n ≤ 128) }
     ensures { (result ≡ source direction n k) × (result < n) }
@@ -38,6 +39,7 @@ fn write_arranged(direction: Direction, list: &[u32], output: &mut [u32])
 }
 
 // 5 and 7, of a list of n numbers.
+// Of one list: verdicts has the lengths of a job.
 fn lengths(n: usize, output: usize) -> Result<(), Refusal>
     ensures { answered result ≡ verdict (order_tests n output) [] }
 {

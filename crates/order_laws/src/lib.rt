@@ -1,6 +1,7 @@
 // Laws over the calls that put a list in another order. Each function lends every list, makes the calls until one refuses, and promises two
 // things: on every input, which refusal is given and what each list then holds; on what the calls accept, that they finish and the law holds of
 // the very lists handed out. The promises stand in specs/Laws.antt. They are evidence and no library calls.
+// Each list is lent for itself, as the calls ask that the laws are over.
 #![tactic(auto)]
 
 ghost use Rattle.definitions.specs.Answers.{answered};
@@ -12,6 +13,7 @@ use definitions::Refusal;
 use laws::{Expanding, Way};
 
 // Even back of what Even first handed out returns the list.
+// This and the next are two calls each: one function over a direction would need a match for the public calls, and a law, and is no plainer.
 fn back_after_first(list: &[u32], between: &mut [u32], output: &mut [u32]) -> Result<(), Refusal>
     ensures { OrderTrip Direction.EvenFirst list.now (answered result)
         between.old between.new output.old output.new }

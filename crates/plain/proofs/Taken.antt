@@ -3,7 +3,7 @@
 -- the family of that a. Assumes nothing.
 use Rattle.std.proofs.Common.{◌≡◌, ◌∙◌, ap, sym, List, ◌++◌, ℕ, ◌-◌, ◌≤◌, length, take, drop, take_all, take-take, length-take-le, get_or-take, ap₂, arith}
 use Rattle.definitions.specs.Conversion.{decompose}
-use Rattle.definitions.specs.Family.{Family, Curve, family, ones, rows}
+use Rattle.definitions.specs.Family.{Curve, family, ones, rows}
 use Rattle.lists.specs.Inverses.{Inverts}
 use Rattle.lists.specs.Lent.{lent}
 use Rattle.lists.specs.Lending.{Lending, lending-rows, lending-least, lending-lent, lending-curve}

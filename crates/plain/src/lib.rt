@@ -66,6 +66,7 @@ pub fn adjoint(family: &Family, curve: &[u32], output: &mut [u32])
 }
 
 // A conversion by the plain way, on input that is already checked.
+// The tree has a trait of its own by this name: its conversions are lent a working list, which is cleared.
 pub trait Conversion {
     ghost converted: { definition.Family → List ℕ → List ℕ };
 
@@ -117,6 +118,7 @@ fn negative_products(m: u32, list: &[u32], factors: &[u32], output: &mut [u32])
 // of the i top powers, each lowered by n - i, and the next is x times that and a coefficient more. In the basis
 // x F_i = (F_{i+1} - b_{i+1} F_i - c_{i+1} F_{i-1}) / a_{i+1}. No a is read, only its inverse: inverted has the inverses of the a in their
 // place.
+// The clause speaks of every a that they invert, so no `Inverted` is taken, which holds one.
 pub fn decompose(inverted: &Family, coefficients: &[u32], output: &mut [u32])
     requires curve { Curve inverted.now coefficients.now }
     requires few { length coefficients.now ≤ 128 }
@@ -152,6 +154,7 @@ pub fn decompose(inverted: &Family, coefficients: &[u32], output: &mut [u32])
 
 // The norms (-1)^i c_2 .. c_{i+1} / a_{i+1}, n of them; a_inverses[i] is the inverse of a_{i+1}. The closing row's numbers are handed in
 // beside, and the lists may be longer than the n - 1 rows.
+// No a and no b is read, and the clause speaks of all that fit, so no `Inverted` is taken, which would ask for them.
 pub fn norms(
     m: u32,
     a_inverses: &[u32],

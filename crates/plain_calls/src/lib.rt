@@ -1,6 +1,7 @@
 // The public calls by the plain way, Norms, and Inverse. Each makes every test itself, ends on every input, and either converts or refuses
 // with the scope paper's number and touches nothing: none has a 'requires', and each has one 'ensures' that settles answer and output on
 // every input.
+// m, a, b and c come apart, and lists as `&[u32]`: the form that the scope paper names, of calls that README and docs/ name.
 #![tactic(auto)]
 
 ghost use Rattle.std.specs.Prelude.{[]};
@@ -21,6 +22,7 @@ pub fn invert(m: u32, x: u32) -> Result<u32, NotInverted>
 }
 
 // A conversion by the plain way: its tests, and then its core.
+// tree_calls has one of its own: it is lent a working list, and makes test 8.
 fn call<C: Conversion>(
     m: u32,
     a: &[u32],

@@ -31,6 +31,7 @@ pub struct Prepared {
 }
 
 // The answer of a change, and the record after it.
+// No Result: a refused change hands out a record too (EmptyCall, AppendCall, DropCall, ReplaceCall), all zeros or the one handed in.
 #[derive(Drop)]
 pub struct Change {
     pub answer: Result<(), Refusal>,
@@ -59,9 +60,10 @@ fn prepare(m: u32, rows: u32, a: [u32; 127], b: [u32; 127], c: [u32; 127]) -> Pr
 }
 
 // 14, 5, 9, 17, 10, 18 and 11.
+// A row's numbers come apart here and below, as the changes are handed them that README and docs/ name.
 #[inline(never)]
-fn append_verdict(p: Prepared, a: u32, b: u32, c: u32) -> Result<(), Refusal>
-    ensures { answered result ≡ verdict (append_tests (held p) (row_of a b c)) [] }
+fn append_verdict(p: &Prepared, a: u32, b: u32, c: u32) -> Result<(), Refusal>
+    ensures { answered result ≡ verdict (append_tests (held p.now) (row_of a b c)) [] }
 {
     let right = p.right();
     let Ok(()) = right else {
@@ -74,8 +76,8 @@ fn append_verdict(p: Prepared, a: u32, b: u32, c: u32) -> Result<(), Refusal>
 }
 
 // 14 and 15.
-fn drop_verdict(p: Prepared) -> Result<(), Refusal>
-    ensures { answered result ≡ verdict (drop_tests (held p)) [] }
+fn drop_verdict(p: &Prepared) -> Result<(), Refusal>
+    ensures { answered result ≡ verdict (drop_tests (held p.now)) [] }
 {
     let right = p.right();
     let Ok(()) = right else {
@@ -89,8 +91,8 @@ fn drop_verdict(p: Prepared) -> Result<(), Refusal>
 
 // 14, 16, 9, 17, 10, 18 and 11.
 #[inline(never)]
-fn replace_verdict(p: Prepared, row: u32, a: u32, b: u32, c: u32) -> Result<(), Refusal>
-    ensures { answered result ≡ verdict (replace_tests (held p) row (row_of a b c)) [] }
+fn replace_verdict(p: &Prepared, row: u32, a: u32, b: u32, c: u32) -> Result<(), Refusal>
+    ensures { answered result ≡ verdict (replace_tests (held p.now) row (row_of a b c)) [] }
 {
     let right = p.right();
     let Ok(()) = right else {
@@ -158,7 +160,7 @@ impl Prepared {
     pub fn append(self, a: u32, b: u32, c: u32) -> Change
         ensures { AppendCall (held self) (row_of a b c) (answered result.answer) (held result.family) }
     {
-        let tested = append_verdict(self, a, b, c);
+        let tested = append_verdict(&self, a, b, c);
         let Ok(()) = tested else {
             return Change {
                 answer: tested,
@@ -182,7 +184,7 @@ impl Prepared {
     pub fn drop_last(self) -> Change
         ensures { DropCall (held self) (answered result.answer) (held result.family) }
     {
-        let tested = drop_verdict(self);
+        let tested = drop_verdict(&self);
         let Ok(()) = tested else {
             return Change {
                 answer: tested,
@@ -208,7 +210,7 @@ impl Prepared {
     pub fn replace(self, row: u32, a: u32, b: u32, c: u32) -> Change
         ensures { ReplaceCall (held self) row (row_of a b c) (answered result.answer) (held result.family) }
     {
-        let tested = replace_verdict(self, row, a, b, c);
+        let tested = replace_verdict(&self, row, a, b, c);
         let Ok(()) = tested else {
             return Change {
                 answer: tested,

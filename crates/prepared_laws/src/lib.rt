@@ -2,6 +2,8 @@
 // refuses, and promises what then holds on every input: of the changes in specs/PreparedLaws.antt, of the operations in
 // specs/RecordLaws.antt. They are evidence and no library calls. An operation on the record that is made by appending the rows of the lists
 // keeps, on an accepted family, the very promise of the call on the lists: answer, output and working list.
+// m, a, b and c come apart, and each list is lent for itself, as the calls ask that the laws are over. Laws that differ in a conversion alone
+// go through by_record, and keep the names of docs/.
 #![tactic(auto)]
 
 ghost use Rattle.std.specs.Prelude.{◌≡◌, List, ℕ};
@@ -154,6 +156,7 @@ impl Conversion for Decomposing {
 }
 
 // A conversion by the way that is asked for, on the record that is made by appends.
+// The way is asked for at run time, as in `laws`, so a match chooses.
 fn by_record<C: Conversion>(
     way: Way,
     m: u32,

@@ -1,6 +1,7 @@
 // The operations on a prepared family by the plain way, and Norms: the record stands in the place of m, a, b and c. Each makes every test
 // itself, ends on every input, and either converts or refuses with the paper's number and touches nothing: none has a 'requires', and each
 // has one 'ensures' that settles answer and output on every input. No inverse is searched for.
+// prepared_tree has functions of the same names: they are lent a working list, make test 8, and promise that the list is cleared.
 #![tactic(auto)]
 
 ghost use Rattle.std.specs.Prelude.{◌≡◌, []};

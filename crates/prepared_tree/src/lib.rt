@@ -1,6 +1,7 @@
 // The operations on a prepared family by the tree way, and Moments: the record stands in the place of m, a, b and c. Each makes every test
 // itself, ends on every input, and either converts or refuses with the paper's number and touches nothing: none has a 'requires', and each
 // has one 'ensures' that settles answer, output and working list on every input. No inverse is searched for.
+// prepared_plain has functions of the same names: they are lent no working list, and make no test 8.
 #![tactic(auto)]
 
 ghost use Rattle.std.specs.Prelude.{◌≡◌, []};

@@ -1,4 +1,5 @@
 // What a record stores beside the rows, worked out from them: the inverses, with zeros behind, and the norms.
+// The count stands beside a list since a record holds arrays of 127 and 128 numbers: there is no heap.
 #![tactic(auto)]
 
 ghost use Rattle.std.specs.Prelude.{◌≡◌, List, ℕ, ◌<◌, ◌≤◌, length};

@@ -1,7 +1,6 @@
 // What the program prints for a job text: its answer text, or its refusal text (the scope paper, 'The job text').
 #![tactic(auto)]
 
-ghost use Rattle.std.specs.Prelude.{◌≡◌, replicate};
 ghost use Rattle.printing.specs.Printouts.{Prints};
 
 // The bytes to print stand at the front; zeros follow them. Fixed memory: without a heap the bytes and how many they are lie side by side.
@@ -11,24 +10,12 @@ pub struct Printout {
     pub length: usize,
 }
 
-fn output() -> [u8; 4096]
-    ensures { result ≡ replicate 4096 0 }
-{
-    [0; 4096]
-}
-
-fn working_list() -> [u32; 16384]
-    ensures { result ≡ replicate 16384 0 }
-{
-    [0; 16384]
-}
-
 // What is printed for a text: the text call is lent all that it asks for, so that 7 and 8 are never given.
 pub fn print_job(text: &[u8]) -> Printout
     ensures { Prints text.now result.bytes result.length }
 {
-    let mut bytes = output();
-    let mut work = working_list();
+    let mut bytes: [u8; 4096] = input::zeros();
+    let mut work: [u32; 16384] = lists::zeros();
     match job::convert_text(text, &mut bytes, &mut work) {
         Ok(count) => {
             let length = count as usize;

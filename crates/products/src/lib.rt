@@ -1,4 +1,6 @@
 // Products of polynomials and transposed products, of parts of a working list and into a part of it, on input that is already checked.
+// Places and counts (target, p, q, r, s, t, u, v, with n, pn, qn, tn, vn) name the parts: slices of one lent list cannot be lent side by side
+// where one of them is written, and there is no heap. What only reads is handed the same places, and takes slices where it reads.
 #![tactic(auto)]
 
 ghost use Rattle.std.specs.Prelude.{◌≡◌, ◌+◌, ◌%◌, ◌≤◌, length, get_or};
@@ -11,6 +13,7 @@ use convolution::{products_at, transposed_at};
 use reduction::Modulus;
 
 // Entry i of the n numbers of w from place at on, and 0 past them.
+// Not that of lists, which is zero past the end of the list.
 fn entry(w: &[u32], at: usize, n: usize, i: usize) -> u32
     requires { at + n ≤ length w.now }
     ensures { result ≡ get_or (part w.now at n) i 0 }

@@ -2,6 +2,8 @@
 // whether entries are below m is looked at to the end of a list whatever is found, so that the compiler can take several at a time; a stored
 // inverse is tried by one product, and none is searched for; a norm is tried by two, and no product waits for another. A pass over products
 // ends at the first that is wrong: taken several at a time they are slower.
+// The lists are a record's arrays, as C lays them out, with its row count beside; record takes the eight fields, since `Prepared` stands in a
+// crate above this one.
 #![tactic(auto)]
 
 ghost use Rattle.std.specs.Prelude.{◌≡◌, true, List, [], ◌∷◌, ◌↔◌, ℕ, ◌≤◌, ◌<◌, length};

@@ -12,6 +12,7 @@ ghost use Rattle.residue.specs.Summands.{Summands};
 use reduction::Modulus;
 
 // The remainder of x, of 64 bits.
+// remainder, sum and product divide and need no reciprocal; those of `Modulus` go by it.
 fn remainder(m: u32, x: u64) -> u32
     requires { 0 < m }
     ensures { result ≡ x % m }
@@ -43,6 +44,7 @@ pub fn negative(m: Modulus, x: u32) -> u32
 }
 
 // The remainder of s + a p + b q + c r: three products of residues and one more fit 64 bits.
+// The eight numbers come from different lists, and no type holds them.
 pub fn combine(m: Modulus, s: u32, a: u32, p: u32, b: u32, q: u32, c: u32, r: u32) -> u32
     requires { Summands m.value s a p b q c r }
     ensures { result ≡ (s + a * p + b * q + c * r) % m.value }

@@ -1,5 +1,7 @@
 // Loops over lists of residues: one step of each plain way. Lists are lent whole, with a count of the entries that take part;
 // the entries past the count stay. Each stored coefficient costs one remainder, by the reciprocal of m.
+// They are local arrays of 128 (fixed memory), lent whole so that the compiler knows their bound and leaves comparisons out of the rows.
+// Of eight parameters, in expand_row, the numbers of a row and of the step come from different lists, and no type holds them.
 #![tactic(auto)]
 
 ghost use Rattle.std.specs.Prelude.{◌≡◌, ◌<◌, length};

@@ -1,5 +1,7 @@
 // Quotients of power series, on input that is already checked. A series is a polynomial read from its top coefficient down, as the
 // moments' two are: the polynomial is lent as it lies, and no list is turned round.
+// n and k stand beside lists: both polynomials are local arrays of fixed length, and q is the output, of which the first k stand. The output
+// may be longer than count: the rest of it stays, as the clause says.
 #![tactic(auto)]
 
 ghost use Rattle.std.specs.Prelude.{◌≡◌, ◌++◌, suc, ◌≤◌, length, get_or, drop};

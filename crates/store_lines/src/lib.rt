@@ -64,7 +64,8 @@ fn put_arranged(
         (line [] (numbers (arranged direction list.now)) []) printed_room
         out.new result }
 {
-    order_calls::arrange(direction, list, ordered);
+    // never refused: the list is short enough, and the room is as long
+    let _ = order_calls::arrange(direction, list, ordered);
     writer::put_line(out, at, b"", ordered)
 }
 
@@ -80,14 +81,14 @@ pub fn put_printed(text: &[u8], out: &mut [u8], at: usize) -> usize
     if is_too_long {
         return writer::put_number_line(out, at, b"refused=", 1);
     }
-    let mut list = lists::zeros();
+    let mut list = lists::zeros::<128>();
     let Some(Request { direction, count }) = read_request(text, &mut list) else {
         return writer::put_number_line(out, at, b"refused=", 2);
     };
     if 128 < count {
         return writer::put_number_line(out, at, b"refused=", 5);
     }
-    let mut ordered = lists::zeros();
+    let mut ordered = lists::zeros::<128>();
     put_arranged(direction, &list[..count], &mut ordered[..count], out, at)
 }
 
@@ -134,7 +135,8 @@ fn answer_lines(
     Progress { printed: n, kept }
 }
 
-// The first `count` bytes of a list take the place of those of another.
+// The first `count` bytes of a list take the place of those of another. `copy` of lists is the same call of std, with a clause over the
+// numbers' `filled`: one function for both would need a clause over neither.
 pub fn copy_bytes(from: &[u8], count: usize, to: &mut [u8])
     requires { (count ≤ length from.now) × (count ≤ length to.old) }
     ensures { take count to.new ≡ take count from.now }

@@ -2,6 +2,7 @@
 #![tactic(auto)]
 
 // Even powers first, or the way back.
+// Two kinds without values: neither is the lack of the other, so no Option says it.
 #[derive(Clone, Copy)]
 pub enum Direction {
     EvenFirst,

@@ -1,20 +1,22 @@
 // The subproduct tree in the working list, and the ways up and down a stored tree. Vectors and scratch lie behind the tree
 // (specs/Layout.antt). All recursions go by the number of pairs of rows, which is halved at each level.
+// Places and counts name the parts of that list, in eight parameters and more: slices of one lent list cannot be lent side by side where one
+// of them is written, and there is no heap.
 #![tactic(auto)]
 
-ghost use Rattle.std.specs.Prelude.{◌≡◌, [], ◌∷◌, ◌+◌, ◌*◌, ◌-◌, ◌%◌, ◌≤◌, length, get_or, take};
-ghost use Rattle.definitions.specs.Family.{row_of};
+ghost use Rattle.std.specs.Prelude.{◌≡◌, ◌+◌, ◌*◌, ◌-◌, ◌≤◌, length};
+ghost use Rattle.definitions.specs.Family.{row_of, rows};
 ghost use Rattle.numbers.specs.Regions.{written};
 ghost use Rattle.tree_model.specs.Tree.{padded, leaf, join, expand_pair, adjoint_pair};
 ghost use Rattle.subproduct.specs.Layout.{Level, Halved, tree_list, matrix_list, pair_list, matrix_at, pair_at, lists_at};
 ghost use Rattle.subproduct.specs.Leaf.{LeafInput};
 ghost use Rattle.subproduct.specs.Join.{ExpandPlaces, JoinPlaces};
-ghost use Rattle.subproduct.specs.Build.{BuildInput, first_rows};
+ghost use Rattle.subproduct.specs.Build.{BuildInput};
 ghost use Rattle.subproduct.specs.Climb.{ClimbInput, ClimbOutput};
-ghost use Rattle.subproduct.specs.Descend.{LeafPlaces, DescendInput, DescendOutput};
+ghost use Rattle.subproduct.specs.Descend.{DescendInput, DescendOutput};
 ghost use Rattle.subproduct.specs.AdjointPair.{AdjointPlaces};
 
-use lists::{Family, row_entry, store};
+use lists::{Family, entry, store};
 use products::{add_products, transposed};
 use reduction::Modulus;
 use residue::combine;
@@ -28,6 +30,7 @@ fn half_size(level: usize, pairs: usize) -> usize
 }
 
 // Writes the leaf of the rows p and q at place at.
+// A row's numbers come one by one: past the family's rows they are zeros, which stand in no list.
 fn write_leaf(
     m: u32,
     w: &mut [u32],
@@ -114,36 +117,29 @@ fn join(m: u32, w: &mut [u32], target: usize, n: usize, right: usize, left: usiz
 }
 
 // Writes the leaf over the rows t + 2 and t + 3 at place at.
-fn build_leaf(family: &Family, r: usize, w: &mut [u32], at: usize, t: usize)
-    requires { BuildInput family.now r w.old at 0 1 t }
-    ensures { w.new ≡ written w.old at (tree_list (padded (first_rows family.now r)) 0 t) }
+fn build_leaf(family: &Family, w: &mut [u32], at: usize, t: usize)
+    requires { BuildInput family.now (rows family.now) w.old at 0 1 t }
+    ensures { w.new ≡ written w.old at (tree_list (padded family.now) 0 t) }
 {
     let p = t + 1;
     let q = t + 2;
-    let pa = row_entry(family.a, r, p, 0);
-    let pb = row_entry(family.b, r, p, 0);
-    let pc = row_entry(family.c, r, p, 0);
-    let qa = row_entry(family.a, r, q, 0);
-    let qb = row_entry(family.b, r, q, 0);
-    let qc = row_entry(family.c, r, q, 0);
+    let pa = entry(family.a, p);
+    let pb = entry(family.b, p);
+    let pc = entry(family.c, p);
+    let qa = entry(family.a, q);
+    let qb = entry(family.b, q);
+    let qc = entry(family.c, q);
     write_leaf(family.modulus, w, at, pa, pb, pc, qa, qb, qc);
 }
 
-// Stores the tree over 2 pairs rows that follow row t + 1, of the first r rows of the family, from place at on.
-pub fn build(
-    family: &Family,
-    r: usize,
-    w: &mut [u32],
-    at: usize,
-    level: usize,
-    pairs: usize,
-    t: usize,
-)
-    requires { BuildInput family.now r w.old at level pairs t }
-    ensures { w.new ≡ written w.old at (tree_list (padded (first_rows family.now r)) level t) }
+// Stores the tree over 2 pairs rows that follow row t + 1 from place at on.
+pub fn build(family: &Family, w: &mut [u32], at: usize, level: usize, pairs: usize, t: usize)
+    requires { BuildInput family.now (rows family.now) w.old at level pairs t }
+    ensures { w.new ≡ written w.old at (tree_list (padded family.now) level t) }
 {
+    let m = family.modulus;
     if pairs == 1 {
-        build_leaf(family, r, w, at, t);
+        build_leaf(family, w, at, t);
         return;
     }
     let half = pairs / 2;
@@ -152,17 +148,9 @@ pub fn build(
     let end = right + size;
     let k = pairs + 1;
     let lists = 4 * k;
-    build(family, r, w, at, level - 1, half, t);
-    build(family, r, w, right, level - 1, half, t + pairs);
-    join(
-        family.modulus,
-        w,
-        end,
-        pairs + k,
-        end - lists,
-        right - lists,
-        k,
-    );
+    build(family, w, at, level - 1, half, t);
+    build(family, w, right, level - 1, half, t + pairs);
+    join(m, w, end, pairs + k, end - lists, right - lists, k);
 }
 
 // Writes the pair over the 2 pairs entries of the curve from t on, from place at on, by the tree that is stored from place tree on.
@@ -170,7 +158,6 @@ pub fn build(
 pub fn climb(
     m: u32,
     curve: &[u32],
-    n: usize,
     w: &mut [u32],
     tree: usize,
     at: usize,
@@ -178,12 +165,12 @@ pub fn climb(
     pairs: usize,
     t: usize,
 )
-    requires { ClimbInput m curve.now n w.old tree at level pairs t }
-    ensures { ClimbOutput m (take n curve.now) w.old tree at level t w.new }
+    requires { ClimbInput m curve.now (length curve.now) w.old tree at level pairs t }
+    ensures { ClimbOutput m curve.now w.old tree at level t w.new }
 {
     if pairs == 1 {
-        let x = row_entry(curve, n, t, 0);
-        let y = row_entry(curve, n, t + 1, 0);
+        let x = entry(curve, t);
+        let y = entry(curve, t + 1);
         store(w, at, [x, 0, y, 0]);
         return;
     }
@@ -193,8 +180,8 @@ pub fn climb(
     let right = left + 2 * pairs;
     let end = tree + size;
     let k = pairs + 1;
-    climb(m, curve, n, w, tree, left, level - 1, half, t);
-    climb(m, curve, n, w, end, right, level - 1, half, t + pairs);
+    climb(m, curve, w, tree, left, level - 1, half, t);
+    climb(m, curve, w, end, right, level - 1, half, t + pairs);
     expand_pair(
         m,
         w,

@@ -1,7 +1,7 @@
 -- From the promises of the two calls to the law over them.
 -- Proved: what is promised where the first call refuses (write-refused) and where it finishes, so that the second is made on the very bytes
 -- that it wrote (text-front, write-answered). These rest on the law of specs/, which an edit changes. Assumes nothing.
-use Rattle.std.specs.Prelude.{◌≡◌, refl, List, [], ◌∷◌, ◌++◌, ℕ, ◌≤◌, length, take, drop, Ok, Err, IsErrAnd}
+use Rattle.std.specs.Prelude.{◌≡◌, refl, List, [], ◌∷◌, ◌++◌, ℕ, ◌≤◌, length, take, drop, Ok, Err}
 use Rattle.std.proofs.Common.{sym, ◌∙◌, ap, subst, arith, length-append, take_at}
 use Rattle.definitions.specs.Answers.{Valued, number_of, valued, after, cleared}
 use Rattle.definitions.specs.JobWriting.{AcceptedJob, JobWritten}
@@ -16,11 +16,6 @@ use Rattle.acceptance.specs.Verdicts.{None, with_values, refused-not-finished, v
 use Rattle.text_laws.specs.Laws.{CarriedOutInput, CarriedOut, write_tests, answer_tests, WrittenAndAnswered}
 use Rattle.text_laws.specs.Carried.{written_read, written-reply, written-carried}
 use Rattle.definitions.specs.declared.Refusal.{Refusal}
-
--- a refusal that is handed on
-pub handed-on : (r : Valued) (k : Refusal) → IsErrAnd r (λ e. e ≡ k) → r ≡ Err k
-handed-on (Ok x) k h = absurd h
-handed-on (Err e) k h = ap Err h
 
 -- first: the answer of the call that writes; text': what it left
 module _ (w : WrittenJob) (text output work : List ℕ) (first : Valued) (text' : List ℕ) (call : JobWritten w first text text') where

@@ -2,6 +2,7 @@
 // refuses, and promises on every input which refusal is given and what each list then holds, and that only an accepted job is written; on
 // an accepted job and lists as long as the calls ask, that both finish and the law holds of the very bytes handed out. The promise stands
 // in specs/Laws.antt. It is evidence and no library call.
+// Each list is lent for itself, as the two calls ask.
 #![tactic(auto)]
 
 ghost use Rattle.definitions.specs.JobWriting.{written_job};

@@ -1,5 +1,6 @@
 // The two totals of the product law, one remainder for each term. Lists are lent whole, with n: the first n entries take part, and
 // of the moments the first 2n - 1. Entries need not be below m.
+// The clauses speak of the first n of longer lists too, so n stands beside them.
 #![tactic(auto)]
 
 ghost use Rattle.std.specs.Prelude.{◌≡◌};

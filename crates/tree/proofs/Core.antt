@@ -11,7 +11,8 @@ use Rattle.definitions.specs.Answers.{cleared}
 use Rattle.definitions.specs.Family.{Family, family, ones, rows, size, row_at}
 use Rattle.definitions.specs.Refusals.{work_length}
 use Rattle.lists.specs.Held.{Output, held_below}
-use Rattle.lists.specs.Lent.{lent}
+use Rattle.lists.specs.Lent.{LentRows, lent}
+use Rattle.lists.specs.Whole.{written-whole}
 use Rattle.numbers.specs.Lists.{filled, table-equal}
 use Rattle.numbers.specs.Products.{Below, plus_product}
 use Rattle.numbers.specs.Regions.{part, written, Apart, ResiduesIn, KeptOutside, part_length, part-take, part-both, part-residues}
@@ -109,9 +110,9 @@ module _ {m : ℕ} {a b c curve : List ℕ} {n : ℕ} {output work : List ℕ} (
     some-rows : 0 < rows f
     some-rows = omega (arith, size_is)
 
-    pub core-build : BuildInput (family m a b c) (n - 1) work 0 level pairs 0
-    core-build = record {
-      input = h.rows;
+    pub core-build : n - 1 ≡ length a → BuildInput (family m a b c) (length a) work 0 level pairs 0
+    core-build all = record {
+      input = subst (λ r. LentRows m r a b c) all h.rows;
       depth = depth;
       room = omega (arith, small, h.work_long);
       last = omega (arith, deep.few);
@@ -123,7 +124,11 @@ module _ {m : ℕ} {a b c curve : List ℕ} {n : ℕ} {output work : List ℕ} (
     tree-stands w holds = subst (λ l. Stands w 0 (tree_list (padded f) l 0)) level-is
         (stands w 0 (tree_size level) tree (tree_list-length (padded f) level 0) holds)
 
-    module _ {w₁ : List ℕ} (e₁ : w₁ ≡ written work 0 tree) where
+    -- g: the family itself, where its lists are lent whole
+    module _ {g : Family} (same : f ≡ g) {w₁ : List ℕ} (stored : w₁ ≡ written work 0 (tree_list (padded g) level 0)) where
+      e₁ : w₁ ≡ written work 0 tree
+      e₁ = stored ∙ ap (λ k. written work 0 (tree_list (padded k) level 0)) (sym same)
+
       tree-long : length tree ≡ tree_size level
       tree-long = tree_list-length (padded f) level 0
 
@@ -170,8 +175,8 @@ module _ {m : ℕ} {a b c curve : List ℕ} {n : ℕ} {output work : List ℕ} (
         pair-holds : part w₂ 9212 (width + width) ≡ pair_list pair
         pair-holds = ap (λ s. part w₂ 9212 (s + s)) covers ∙ climbs.holds
 
-        pub core-root : RootInput m w₂ 9212 width first n output
-        core-root = record {
+        pub core-root : length output ≡ n → RootInput m w₂ 9212 width first (length output) output
+        core-root long = record {
           modulus = h.rows.modulus;
           inside = omega (arith, deep.few, h.work_long, tree-kept.long, climbs.kept.long);
           below = part-residues m w₂ 9212 (width + width) (pair_list pair) pair-holds
@@ -179,7 +184,7 @@ module _ {m : ℕ} {a b c curve : List ℕ} {n : ℕ} {output work : List ℕ} (
           first_long = refl;
           first_below = first_below;
           covers = omega (arith, deep.reaches);
-          room = h.output_long;
+          room = omega arith;
         }
 
         -- what the last step writes
@@ -195,11 +200,13 @@ module _ {m : ℕ} {a b c curve : List ℕ} {n : ℕ} {output work : List ℕ} (
             ∙ ap₂ (λ k l. plus_product m k (up (padded f) u l 0).v0 (up (padded f) u l 0).v1 (F₁ (padded f))) (sym size_is) level-is
             ∙ sym (tree_expand-tree f u some-rows)
 
-        pub core-expand : {output' : List ℕ} → output' ≡ expanded ++ drop n output
+        pub core-expand : length output ≡ n
+            → {output' : List ℕ} → output' ≡ plus_product m (length output) (part w₂ 9212 width) (part w₂ second width) first
             → TreeOutput tree_expand expand_vectors f u n output output' work w₂
         unfolding expand_vectors
-        core-expand e = record {
-          written = e ∙ ap (λ t. t ++ drop n output) expanded-is;
+        core-expand long e = record {
+          written = e ∙ ap (λ k. plus_product m k (part w₂ 9212 width) (part w₂ second width) first) long ∙ expanded-is
+              ∙ sym (written-whole (tree_expand f u) output n long);
           tree_stands = tree-stands w₂ (kept-part 9212 _ w₁ w₂ climbs.kept 0 (tree_size level) tree_apart ∙ tree-holds);
           vectors_stand = subst (λ l. Stands w₂ 9212 (pair_list (up (padded f) u l 0))) level-is
               (stands w₂ 9212 _ _ (pair_list-length width _ (rw (← pair_is) pair-length)) (pair-holds ∙ ap pair_list pair_is));

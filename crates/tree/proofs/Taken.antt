@@ -1,15 +1,38 @@
 -- A family and a curve of it, lent whole, are what the tree's steps take: n is the number of entries, one more than the rows.
--- Proved: that; what the steps leave of the first n entries, by the tree model, is what the definitions say of all. Assumes nothing.
-use Rattle.std.proofs.Common.{◌≡◌, ◌∙◌, ap, subst, List, ◌++◌, ℕ, suc, ◌-◌, ◌<◌, ◌≤◌, length, take, drop, take_all, arith}
+-- Proved: that; what the steps leave of the first n entries, by the tree model, is what the definitions say of all; a step that is lent a
+-- list whole does what it does with that list's length as a count. Assumes nothing.
+use Rattle.std.proofs.Common.{◌≡◌, refl, ◌∙◌, sym, ap, subst, List, ◌++◌, ℕ, suc, ◌+◌, ◌-◌, ◌<◌, ◌≤◌, length, take, drop, take_all, arith}
 use Rattle.definitions.specs.Family.{Family, Curve, family, ones, rows}
 use Rattle.definitions.specs.Refusals.{work_length}
 use Rattle.lists.specs.Held.{Output}
 use Rattle.lists.specs.Lent.{lent}
 use Rattle.lists.specs.Lending.{Lending, lending-least, lending-lent, lending-curve, lending-family}
 use Rattle.lists.specs.Whole.{written-whole}
+use Rattle.numbers.specs.Lists.{Filling}
+use Rattle.numbers.specs.Products.{plus_product}
+use Rattle.numbers.specs.Regions.{part}
 use Rattle.theory.specs.Closing.{EqualLengths}
 use Rattle.tree.specs.Core.{TreeOutput}
 use Rattle.tree.specs.Input.{Input}
+use Rattle.tree.specs.Root.{RootInput, root_entry, root_ends}
+use Rattle.tree.specs.RootPair.{PairInput, PairOutput}
+
+-- a curve is the first of its own entries: what a step does with the one it does with the other
+module _ {m b a : ℕ} {u w : List ℕ} {at n : ℕ} where
+  pub pair-curve : PairInput m b a u (length u) w at n → take (length u) u ≡ u
+  pair-curve h = take_all (length u) u (omega arith)
+
+  pub whole-pair : {w' : List ℕ} → PairOutput m b a (take (length u) u) w at n w' → PairOutput m b a u w at n w'
+  whole-pair {w'} = subst (λ v. PairOutput m b a v w at n w') (take_all (length u) u (omega arith))
+
+  pub taken-pair : {w' : List ℕ} → PairOutput m b a u w at n w' → PairOutput m b a (take (length u) u) w at n w'
+  taken-pair {w'} = subst (λ v. PairOutput m b a v w at n w') (sym (take_all (length u) u (omega arith)))
+
+-- the last step of Expand writes its output whole
+pub root-whole : {m : ℕ} {w : List ℕ} {at span : ℕ} {first output : List ℕ} → RootInput m w at span first (length output) output
+    → {now : List ℕ} {k : ℕ} → k ≡ length output → Filling (root_entry m w at span first) k output now
+    → now ≡ plus_product m (length output) (part w at span) (part w (at + span) span) first
+root-whole {output = output} h e f = root_ends h e f ∙ written-whole _ output (length output) refl
 
 module _ {m : ℕ} {a b c u : List ℕ} (output work : List ℕ) (lending : Lending (family m a b c)) (curve : Curve (family m a b c) u)
     (few : length u ≤ 256) (room : length output ≡ length u) (working : work_length ≤ length work) where

@@ -1,9 +1,10 @@
 // Expand and Adjoint by the subproduct tree, on input that is already checked. Both work in the first 16,384 numbers of the working list and
 // leave zeros there: the tree from place 0 on, the vectors and their scratch from place 9,212 on. The lists are as long as the family and its
 // curve: n entries of the curve and of the output, n - 1 rows.
+// root_pair takes places: slices of that one list cannot be lent side by side where one of them is written, and there is no heap.
 #![tactic(auto)]
 
-ghost use Rattle.std.specs.Prelude.{◌≡◌, List, ◌++◌, ℕ, ◌+◌, ◌≤◌, length, take, drop};
+ghost use Rattle.std.specs.Prelude.{◌≡◌, List, ℕ, ◌+◌, ◌≤◌, length};
 ghost use Rattle.definitions.specs.Answers.{cleared};
 ghost use Rattle.definitions.specs.Conversion.{expand, adjoint};
 ghost use Rattle.definitions.specs.Family.{Curve};
@@ -17,7 +18,7 @@ ghost use Rattle.tree.specs.RootPair.{StretchInput, stretched, PairInput, PairOu
 ghost use Rattle.tree.specs.Core.{TreeOutput, expand_vectors, adjoint_vectors};
 
 use convolution::products_at;
-use lists::{Family, clear, copy, row_entry, store};
+use lists::{Family, clear, copy, entry, store};
 use products::transposed;
 use reduction::Modulus;
 use subproduct::{build, climb, descend};
@@ -57,50 +58,42 @@ fn root_coefficient(m: Modulus, w: &[u32], at: usize, span: usize, first: &[u32]
     )
 }
 
-// Writes the n coefficients of v_0 F_0 + v_1 F_1, from the pair of the root.
-fn expand_root(
-    m: u32,
-    w: &[u32],
-    at: usize,
-    span: usize,
-    first: &[u32],
-    n: usize,
-    output: &mut [u32],
-)
-    requires { RootInput m w.now at span first.now n output.old }
-    ensures { output.new ≡ plus_product m n (part w.now at span) (part w.now (at + span) span)
-        first.now ++ drop n output.old }
+// Writes the coefficients of v_0 F_0 + v_1 F_1, from the pair of the root, as many as the output has room for.
+fn expand_root(m: u32, w: &[u32], at: usize, span: usize, first: &[u32], output: &mut [u32])
+    requires { RootInput m w.now at span first.now (length output.old) output.old }
+    ensures { output.new ≡ plus_product m (length output.old)
+        (part w.now at span) (part w.now (at + span) span) first.now }
 {
     let modulus = Modulus::new(m);
-    for k in 0..n {
+    for k in 0..output.len() {
         output[k] = root_coefficient(modulus, w, at, span, first, k);
     }
 }
 
-// Writes the curve, of which n entries take part, from entry first on: at place at and on, with zeros behind, span numbers in all.
-fn stretch(curve: &[u32], n: usize, first: usize, w: &mut [u32], at: usize, span: usize)
-    requires { StretchInput curve.now n first w.old at span }
-    ensures { w.new ≡ written w.old at (stretched span first (take n curve.now)) }
+// Writes the curve from entry first on: at place at and on, with zeros behind, span numbers in all.
+fn stretch(curve: &[u32], first: usize, w: &mut [u32], at: usize, span: usize)
+    requires { StretchInput curve.now (length curve.now) first w.old at span }
+    ensures { w.new ≡ written w.old at (stretched span first curve.now) }
 {
     for i in 0..span {
         let place = at + i;
-        w[place] = row_entry(curve, n, first + i, 0);
+        w[place] = entry(curve, first + i);
     }
 }
 
 // Writes the pair of the root from place at on: the transposed products of the curve with F_0 = 1, which is the curve, and with
 // F_1 = b + a x, of which b meets the curve and a the curve from its second entry on. Behind the pair b and a are left, and behind them the
 // curve from its second entry on.
-fn root_pair(m: u32, b: u32, a: u32, curve: &[u32], n: usize, w: &mut [u32], at: usize, span: usize)
-    requires { PairInput m b a curve.now n w.old at span }
-    ensures { PairOutput m b a (take n curve.now) w.old at span w.new }
+fn root_pair(m: u32, b: u32, a: u32, curve: &[u32], w: &mut [u32], at: usize, span: usize)
+    requires { PairInput m b a curve.now (length curve.now) w.old at span }
+    ensures { PairOutput m b a curve.now w.old at span w.new }
 {
     let second = at + span;
     let behind = second + span;
     let onward = behind + 2;
-    stretch(curve, n, 0, w, at, span);
+    stretch(curve, 0, w, at, span);
     store(w, behind, [b, a]);
-    stretch(curve, n, 1, w, onward, span);
+    stretch(curve, 1, w, onward, span);
     transposed(m, w, second, span, behind, behind + 1, 1, at, onward, span);
 }
 
@@ -120,9 +113,9 @@ fn expand_tree(family: &Family, curve: &[u32], output: &mut [u32], work: &mut [u
     let level = level_for(n);
     let pairs = pairs_for(level);
     let first = [family.b[0], family.a[0]];
-    build(family, n - 1, work, 0, level, pairs, 0);
-    climb(m, curve, n, work, 0, 9212, level, pairs, 0);
-    expand_root(m, work, 9212, pairs + pairs, &first, n, output);
+    build(family, work, 0, level, pairs, 0);
+    climb(m, curve, work, 0, 9212, level, pairs, 0);
+    expand_root(m, work, 9212, pairs + pairs, &first, output);
 }
 
 // Adjoint with two entries at least: the tree is stored, and the root's pair descends it to the entries. The tree, that pair and the
@@ -142,13 +135,12 @@ fn adjoint_tree(family: &Family, curve: &[u32], output: &mut [u32], work: &mut [
     let pairs = pairs_for(level);
     let second = 9212 + (pairs + pairs);
     let at = second + (pairs + pairs);
-    build(family, n - 1, work, 0, level, pairs, 0);
+    build(family, work, 0, level, pairs, 0);
     root_pair(
         m,
         family.b[0],
         family.a[0],
         curve,
-        n,
         work,
         9212,
         pairs + pairs,
@@ -158,6 +150,8 @@ fn adjoint_tree(family: &Family, curve: &[u32], output: &mut [u32], work: &mut [
 }
 
 // Expand: the coefficients of the sum of the u_j F_j. Up to 256 entries the tree fits.
+// expand and adjoint differ in the function with the tree alone. Above them the choice is a type, `Conversion`; a trait for these two would be
+// no plainer.
 pub fn expand(family: &Family, curve: &[u32], output: &mut [u32], work: &mut [u32])
     requires curve { Curve family.now curve.now }
     requires few { length curve.now ≤ 256 }
@@ -194,6 +188,7 @@ pub fn adjoint(family: &Family, curve: &[u32], output: &mut [u32], work: &mut [u
 }
 
 // A conversion by the tree, on input that is already checked.
+// The plain way has a trait of its own by this name: its conversions are lent no working list.
 pub trait Conversion {
     ghost converted: { definition.Family → List ℕ → List ℕ };
 

@@ -1,5 +1,6 @@
 // The public calls by the tree way, and Moments. Each makes every test itself, ends on every input, and either converts or refuses with the scope
 // paper's number and touches nothing: none has a 'requires', and each has one 'ensures' that settles answer, output and working list on every input.
+// m, a, b and c come apart, and lists as `&[u32]`: the form that the scope paper names, of calls that README and docs/ name.
 #![tactic(auto)]
 
 ghost use Rattle.definitions.specs.Answers.{answered, TreeCall, MomentsCall};
@@ -12,6 +13,7 @@ use moment_way::Inverted;
 use tree::{Adjoining, Conversion, Expanding};
 
 // A conversion by the tree: its tests, and then its core.
+// plain_calls has one of its own: it is lent no working list, and makes no test 8.
 fn call<C: Conversion>(
     m: u32,
     a: &[u32],

@@ -1,4 +1,7 @@
 // All tests of a call in their order, as its one verdict: the call goes on where it is Ok, and hands a refusal on.
+// m, a, b and c come apart, and lists as `&[u32]`, the form that the scope paper names: before these tests no family type holds of them.
+// plain, tree, norms and moments are functions of their own, as plain_tests, tree_tests, norms_tests and moments_tests are lists of tests of
+// their own, with 8 inside the order of two of them.
 #![tactic(auto)]
 
 ghost use Rattle.std.specs.Prelude.{◌≡◌, [], ◌≤◌, length};
@@ -142,6 +145,7 @@ pub fn moments(
 }
 
 // How many numbers an operation takes, beside a family of that many rows.
+// A job's operation comes from a text, so a match chooses: one table of counts.
 #[tactic(auto, using(checks::specs::Shape::shaped), unfolding(definitions::specs::Refusals::verdict, definitions::specs::TextCall::curve_count))]
 fn curve_count(operation: Operation, rows: usize) -> usize
     requires { rows ≤ 127 }
@@ -157,6 +161,7 @@ fn curve_count(operation: Operation, rows: usize) -> usize
 }
 
 // Of a job and the output for a text, 3 to 7: the modulus and the lengths, where the output has so many bytes at least.
+// Each length is a number of its own, as in length_tests and size_tests: with those of a job there are eight.
 #[tactic(auto, using(checks::specs::Shape::shaped), unfolding(definitions::specs::Refusals::verdict, definitions::specs::TextCall::length_tests, definitions::specs::Refusals::shape_tests))]
 fn lengths(
     m: u32,

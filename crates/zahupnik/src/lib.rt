@@ -1,6 +1,7 @@
 // The public calls for C, as include/zahupnik.h declares them: numbers, lent lists and records by value, and each returns 0 or the
 // refusal number, a change with the record after it. None has a 'requires', and each has one 'ensures' that settles the number and what is
 // lent on every input.
+// What C asks: a function for each call, a list as a pointer and a length, a refusal and an operation as a number, m, a, b and c apart.
 #![tactic(auto)]
 
 ghost use Rattle.std.specs.Prelude.{◌≡◌, [], ◌∷◌};
@@ -28,6 +29,7 @@ pub struct NumberedChange {
 }
 
 // 0 for the finished kind, and a refusal's number.
+// A function, since From, u32 and Result are all of other crates.
 fn number(answer: Result<(), Refusal>) -> u32
     ensures { result ≡ number (answered answer) }
 {
@@ -210,6 +212,7 @@ pub extern "C" fn zahupnik_convert_text(
 }
 
 // The operation that a number names, if it names one: 0 to 4, in the scope paper's order.
+// A function, since TryFrom and Operation are both of other crates, and C's numbers belong to this one.
 fn choose(k: u32) -> Option<Operation>
     ensures { result ≡ choice k }
 {

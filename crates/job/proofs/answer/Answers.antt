@@ -1,6 +1,6 @@
 -- `answer` meets its promise: what the conversion and the writer leave is the answer text. Assumes that the sizes are in order.
 use native.Mathlib.Omega.{arith}
-use Rattle.operations.specs.Lists.{handed-on}
+use Rattle.acceptance.proofs.HandedOn.{handed-on}
 use Rattle.job.specs.Replies.{few-rows, parts, values-refused, count_fits, room, replied}
 use Rattle.job.proofs.answer.Goals as goal
 

@@ -1,7 +1,7 @@
 -- `convert_text` meets its promise: at each test its verdict, and past them that of the job. Assumes nothing.
 use mathlib.Core.Path.{subst}
 use Rattle.form.specs.JobForm.{Formed}
-use Rattle.operations.specs.Lists.{handed-on}
+use Rattle.acceptance.proofs.HandedOn.{handed-on}
 use Rattle.job.specs.Texts.{too_long, short-text, no-form, sizes-refused, ready, text-answered}
 use Rattle.job.proofs.convert_text.Goals as goal
 

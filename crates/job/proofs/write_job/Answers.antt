@@ -1,5 +1,5 @@
 -- `write_job` meets its promise: a refusal by its tests, or the job text. Assumes nothing.
-use Rattle.operations.specs.Lists.{handed-on}
+use Rattle.acceptance.proofs.HandedOn.{handed-on}
 use Rattle.job.specs.Writing.{job-refused, job-room, job-written}
 use Rattle.job.proofs.write_job.Goals as goal
 

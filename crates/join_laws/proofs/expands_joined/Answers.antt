@@ -1,7 +1,8 @@
 -- `expands_joined` meets its law: the lists of Expand on each channel are what the joined list leaves, and Join of them is that list. Where a
 -- call refuses, the input is none on which the law is promised. Assumes nothing.
 use mathlib.Core.Path.{sym, ◌∙◌}
-use Rattle.join_laws.specs.Holding.{handed-on, both-refused, first-refused, second-refused, channels-law}
+use Rattle.acceptance.proofs.HandedOn.{handed-on}
+use Rattle.join_laws.specs.Holding.{both-refused, first-refused, second-refused, channels-law}
 use Rattle.join_laws.proofs.expands_joined.Goals as goal
 
 pub returns-in_err-expand_join : goal.returns-in_err-expand_join

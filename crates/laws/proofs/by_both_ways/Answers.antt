@@ -1,6 +1,7 @@
 -- `by_both_ways` meets its law: both calls keep their promise, and the lists that they hand out are the same. Assumes nothing.
 use mathlib.Core.Path.{sym, ◌∙◌}
-use Rattle.laws.specs.Ways.{handed-on, plain-refused, ways-agree}
+use Rattle.acceptance.proofs.HandedOn.{handed-on}
+use Rattle.laws.specs.Ways.{plain-refused, ways-agree}
 use Rattle.laws.proofs.by_both_ways.Goals as goal
 
 pub returns-in_err-plain : goal.returns-in_err-plain

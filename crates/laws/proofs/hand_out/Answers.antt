@@ -1,6 +1,6 @@
 -- `hand_out` meets its promise: each call keeps its own, whichever refuses. Assumes nothing.
 use mathlib.Core.Path.{sym, ◌∙◌}
-use Rattle.laws.specs.Ways.{handed-on}
+use Rattle.acceptance.proofs.HandedOn.{handed-on}
 use Rattle.laws.specs.HandedOut.{first-refused, second-refused, third-refused, all-handed-out}
 use Rattle.laws.proofs.hand_out.Goals as goal
 

@@ -1,6 +1,6 @@
 -- `product_law` meets its law: the totals of what the calls handed out, or the refusal of the call that refused. Assumes nothing.
 use native.Mathlib.Omega.{arith}
-use Rattle.laws.specs.Ways.{handed-on}
+use Rattle.acceptance.proofs.HandedOn.{handed-on}
 use Rattle.laws.proofs.Totalled.{rows_few, refused-weighed, moment-total-input, norm-total-input, totals-weighed}
 use Rattle.laws.proofs.product_law.Goals as goal
 

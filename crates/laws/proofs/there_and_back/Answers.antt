@@ -1,6 +1,6 @@
 -- `there_and_back` meets its law: the second conversion undoes the first on the lists that the calls hand out. Assumes nothing.
 use mathlib.Core.Path.{sym, ◌∙◌}
-use Rattle.laws.specs.Ways.{handed-on}
+use Rattle.acceptance.proofs.HandedOn.{handed-on}
 use Rattle.laws.proofs.RoundTrips.{first-refused, both-made}
 use Rattle.laws.proofs.there_and_back.Goals as goal
 

@@ -1,6 +1,7 @@
 -- `convert_lists` meets its promise: with the sizes in order, the verdict of each call is that of the tests that are left. Assumes nothing.
 use mathlib.Core.Path.{refl}
-use Rattle.operations.specs.Lists.{handed-on, expand-promised, adjoint-promised, decompose-promised, moments-promised, norms-promised}
+use Rattle.acceptance.proofs.HandedOn.{handed-on}
+use Rattle.operations.specs.Lists.{expand-promised, adjoint-promised, decompose-promised, moments-promised, norms-promised}
 use Rattle.operations.proofs.convert_lists.Goals as goal
 
 pub returns-in_err-norms-in-Norms : goal.returns-in_err-norms-in-Norms

@@ -1,6 +1,6 @@
 -- `back_after_first` meets its law: Even back of what Even first hands out returns the list. Assumes nothing.
 use mathlib.Core.Path.{sym, ◌∙◌}
-use Rattle.laws.specs.Ways.{handed-on}
+use Rattle.acceptance.proofs.HandedOn.{handed-on}
 use Rattle.order_laws.proofs.Holding.{trip-refused, trip-made}
 use Rattle.order_laws.proofs.back_after_first.Goals as goal
 

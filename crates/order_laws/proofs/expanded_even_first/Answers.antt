@@ -1,6 +1,6 @@
 -- `expanded_even_first` meets its law of zeros. Assumes nothing.
 use mathlib.Core.Path.{sym, ◌∙◌}
-use Rattle.laws.specs.Ways.{handed-on}
+use Rattle.acceptance.proofs.HandedOn.{handed-on}
 use Rattle.order_laws.proofs.Holding.{expand-refused, expand-made}
 use Rattle.order_laws.proofs.expanded_even_first.Goals as goal
 

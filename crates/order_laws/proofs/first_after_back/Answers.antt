@@ -1,6 +1,6 @@
 -- `first_after_back` meets its law: Even first of what Even back hands out returns the list. Assumes nothing.
 use mathlib.Core.Path.{sym, ◌∙◌}
-use Rattle.laws.specs.Ways.{handed-on}
+use Rattle.acceptance.proofs.HandedOn.{handed-on}
 use Rattle.order_laws.proofs.Holding.{trip-refused, trip-made}
 use Rattle.order_laws.proofs.first_after_back.Goals as goal
 

@@ -1,6 +1,5 @@
 use Rattle.std.proofs.Common.{arith}
 use Rattle.lists.specs.Lending.{accepted-lending}
-use Rattle.acceptance.specs.Promises.{tests-finish}
 use Rattle.plain_calls.specs.PlainCall.{plain-input}
 use Rattle.plain_calls.proofs.call.Goals as goal
 

@@ -32,4 +32,5 @@ returns-then-none_is_open c =
 
 pub returns : goal.returns
 returns c =
-    answering-last _ _ _ _ _ _ c.loop-k.invariant.0.answering (omega (arith, c.loop-k.invariant.0.done (omega arith))) c.if-none_is_open.false _ _ c.put_printed.ensures
+    answering-last _ _ _ _ _ _ c.loop-k.invariant.0.answering (omega (arith, c.loop-k.invariant.0.done (omega arith))) c.if-none_is_open.false
+    _ _ c.put_printed.ensures

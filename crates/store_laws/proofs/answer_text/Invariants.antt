@@ -8,8 +8,8 @@ use Rattle.store_laws.proofs.answer_text.Given as goal
 
 abbrev pub invariant-loop-k : goal.invariant-loop-k
 invariant-loop-k l =
-    Stage l.text (length l.sizes) l.before l.kept l.out l.n l.at l.k × (l.k ≤ suc (length l.sizes)) × (length l.out ≡ length l.initial.out) × (length l.line ≡ 8193)
-    × (length l.before ≡ length l.initial.before)
+    Stage l.text (length l.sizes) l.before l.kept l.out l.n l.at l.k × (l.k ≤ suc (length l.sizes))
+    × (length l.out ≡ length l.initial.out) × (length l.line ≡ 8193) × (length l.before ≡ length l.initial.before)
 
 abbrev pub decreases-loop-k : goal.decreases-loop-k
 decreases-loop-k l = suc (length l.sizes) - l.k

@@ -2,7 +2,8 @@
 use mathlib.Core.Path.{sym, ◌∙◌}
 use mathlib.Core.List.{[]}
 use lib.Seq.{length-take-le}
-use Rattle.text_laws.proofs.Answered.{handed-on, write-refused, text-inside, write-answered}
+use Rattle.acceptance.proofs.HandedOn.{handed-on}
+use Rattle.text_laws.proofs.Answered.{write-refused, text-inside, write-answered}
 use Rattle.text_laws.proofs.write_and_answer.Goals as goal
 
 pub returns-in_err-end : goal.returns-in_err-end

@@ -1,7 +1,8 @@
 -- `tree::expand_root` meets its contract: each entry that is written is the root's at its place. Assumes nothing.
 use native.Mathlib.Omega.{arith}
 use Rattle.numbers.specs.Lists.{filling-start, filling-next}
-use Rattle.tree.specs.Root.{root-coefficient, root_ends}
+use Rattle.tree.specs.Root.{root-coefficient}
+use Rattle.tree.proofs.Taken.{root-whole}
 use Rattle.tree.proofs.expand_root.Goals as goal
 
 pub new-modulus-requires : goal.new-modulus-requires
@@ -22,4 +23,4 @@ pub shape_of-output : goal.shape_of-output
 shape_of-output c = c.loop-k.invariant.same_length
 
 pub returns : goal.returns
-returns c = root_ends c.requires (omega arith) c.loop-k.invariant
+returns c = root-whole c.requires (omega arith) c.loop-k.invariant

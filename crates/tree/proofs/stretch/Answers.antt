@@ -10,11 +10,8 @@ loop-i-init c = writing-starts _ _ _ _ c.requires.room
 pub overflow_add-first : goal.overflow_add-first
 overflow_add-first c = omega (arith, c.requires.few, c.requires.room, c.well_formed)
 
-pub row_entry-requires : goal.row_entry-requires
-row_entry-requires c = c.requires.long
-
 pub loop-i-preserved : goal.loop-i-preserved
-loop-i-preserved c = writing-next _ _ _ _ _ _ c.loop-i.invariant _ c.loop-i-test.true c.row_entry.ensures
+loop-i-preserved c = writing-next _ _ _ _ _ _ c.loop-i.invariant _ c.loop-i-test.true c.entry.ensures
 
 pub returns : goal.returns
 returns c = stretch-ends _ _ c.loop-i.invariant c.loop-i-test.false
