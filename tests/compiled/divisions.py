@@ -63,6 +63,7 @@ PRODUCTS = ("products::add_products", "products::transposed", "subproduct::desce
 JUMP = re.compile(r"(j[a-z]+|loop[a-z]*)\s+([0-9a-f]+) <")
 END = re.compile(r"(ret[qlw]?|ud2|hlt)\b")
 INDIRECT = re.compile(r"(notrack\s+)?jmp[qlw]?\s+\*")
+INSTANCE = re.compile(r"::<#[0-9a-f]+>$")  # of a generic function, which the library has once
 DIVISION = re.compile(r"i?div[bwlq]?\s")
 
 
@@ -81,9 +82,10 @@ def functions(archive):
     found, body = {}, None
     for line in text.splitlines():
         if match := re.fullmatch(r"[0-9a-f]+ <(.*)>:", line):
-            if match[1] in found:
-                raise Failure(f"{archive} has two functions {match[1]}")
-            body = found[match[1]] = {}
+            name = INSTANCE.sub("", match[1])
+            if name in found:
+                raise Failure(f"{archive} has two functions {name}")
+            body = found[name] = {}
         elif match := re.fullmatch(r"\s*([0-9a-f]+):\t(.*?)\s*", line):
             body[int(match[1], 16)] = match[2]
     if not found:
