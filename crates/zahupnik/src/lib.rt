@@ -258,10 +258,10 @@ pub extern "C" fn zahupnik_write_job(
 fn numbered(change: Change) -> NumberedChange
     ensures { (result.answer ≡ number (answered change.answer)) × (held result.family ≡ held change.family) }
 {
-    let answer = change.answer;
+    let answer = number(change.answer);
     let family = change.family;
     NumberedChange {
-        answer: number(answer),
+        answer: answer,
         family: family,
     }
 }
