@@ -39,23 +39,6 @@ pub struct Change {
     pub family: Prepared,
 }
 
-// 14, as `right` of a record, which is handed over here: where it is lent, the compiler keeps a copy, and a change takes 3,056 bytes of stack more
-// than the header states.
-fn test(p: Prepared) -> Result<(), Refusal>
-    ensures { answered result ≡ verdict (record_test (held p) ∷ []) [] }
-{
-    record_check::record(
-        p.modulus,
-        p.rows,
-        &p.a,
-        &p.b,
-        &p.c,
-        &p.a_inverses,
-        &p.c_inverses,
-        &p.norms,
-    )
-}
-
 // The record of the family of the first rows of three lists with zeros behind.
 fn prepare(m: u32, rows: u32, a: [u32; 127], b: [u32; 127], c: [u32; 127]) -> Prepared
     requires { Preparable m rows a b c }
@@ -83,7 +66,7 @@ fn prepare(m: u32, rows: u32, a: [u32; 127], b: [u32; 127], c: [u32; 127]) -> Pr
 fn append_verdict(p: Prepared, a: u32, b: u32, c: u32) -> Result<(), Refusal>
     ensures { answered result ≡ verdict (append_tests (held p) (row_of a b c)) [] }
 {
-    let right = test(p);
+    let right = p.right();
     let Ok(()) = right else {
         return right;
     };
@@ -97,7 +80,7 @@ fn append_verdict(p: Prepared, a: u32, b: u32, c: u32) -> Result<(), Refusal>
 fn drop_verdict(p: Prepared) -> Result<(), Refusal>
     ensures { answered result ≡ verdict (drop_tests (held p)) [] }
 {
-    let right = test(p);
+    let right = p.right();
     let Ok(()) = right else {
         return right;
     };
@@ -112,7 +95,7 @@ fn drop_verdict(p: Prepared) -> Result<(), Refusal>
 fn replace_verdict(p: Prepared, row: u32, a: u32, b: u32, c: u32) -> Result<(), Refusal>
     ensures { answered result ≡ verdict (replace_tests (held p) row (row_of a b c)) [] }
 {
-    let right = test(p);
+    let right = p.right();
     let Ok(()) = right else {
         return right;
     };

@@ -7,17 +7,17 @@ use Rattle.prepared.proofs.append_verdict.Goals as goal
 
 pub returns-in_default : goal.returns-in_default
 unfolding append_tests
-returns-in_default c = stage-refuses _ _ all-remain _ c.test-right.ensures _ c.in_default.is
+returns-in_default c = stage-refuses _ _ all-remain _ c.right-right.ensures _ c.in_default.is
 
 pub returns-then-p-ge-MOST_ROWS : goal.returns-then-p-ge-MOST_ROWS
 returns-then-p-ge-MOST_ROWS c =
-    append-full _ _ c.test-right.ensures c.in-Ok.is _ c.if-p-ge-MOST_ROWS.true
+    append-full _ _ c.right-right.ensures c.in-Ok.is _ c.if-p-ge-MOST_ROWS.true
 
 pub new_row-requires : goal.new_row-requires
 new_row-requires c =
-    right_positive (record-tested _ _ c.test-right.ensures c.in-Ok.is)
+    right_positive (record-tested _ _ c.right-right.ensures c.in-Ok.is)
 
 pub returns : goal.returns
 returns c =
-    append-room _ _ c.test-right.ensures c.in-Ok.is _ c.if-p-ge-MOST_ROWS.false
+    append-room _ _ c.right-right.ensures c.in-Ok.is _ c.if-p-ge-MOST_ROWS.false
     c.new_row.result c.new_row.ensures

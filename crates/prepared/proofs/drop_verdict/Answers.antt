@@ -6,10 +6,10 @@ use Rattle.prepared.proofs.drop_verdict.Goals as goal
 
 pub returns-in_default : goal.returns-in_default
 unfolding drop_tests
-returns-in_default c = stage-refuses _ _ all-remain _ c.test-right.ensures _ c.in_default.is
+returns-in_default c = stage-refuses _ _ all-remain _ c.right-right.ensures _ c.in_default.is
 
 pub returns-then-p-eq0 : goal.returns-then-p-eq0
-returns-then-p-eq0 c = drop-none _ _ c.test-right.ensures c.in-Ok.is c.if-p-eq0.true
+returns-then-p-eq0 c = drop-none _ _ c.right-right.ensures c.in-Ok.is c.if-p-eq0.true
 
 pub returns : goal.returns
-returns c = drop-some _ _ c.test-right.ensures c.in-Ok.is c.if-p-eq0.false
+returns c = drop-some _ _ c.right-right.ensures c.in-Ok.is c.if-p-eq0.false
