@@ -31,7 +31,7 @@ inverses::of_list                 2  2  2
 checks::column                    1  2  2
 plain::expand                     1  0  0
 plain::decompose                  3  0  0
-record_check::record              1  0  0
+prepared::Prepared::right         1  0  0
 prepared::prepare                 1  0  0
 prepared::append_verdict          0  4  0
 prepared::replace_verdict         0  4  0
@@ -58,7 +58,7 @@ ROWS = (
     "expand_join::expand_channel",
     "zahupnik_join",
 )
-PRODUCTS = ("products::add_products", "products::transposed", "subproduct::descend", "record_check::record", "prepared::prepare")
+PRODUCTS = ("products::add_products", "products::transposed", "subproduct::descend", "prepared::Prepared::right", "prepared::prepare")
 
 JUMP = re.compile(r"(j[a-z]+|loop[a-z]*)\s+([0-9a-f]+) <")
 END = re.compile(r"(ret[qlw]?|ud2|hlt)\b")

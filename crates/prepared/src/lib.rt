@@ -63,8 +63,8 @@ fn prepare(m: u32, rows: u32, a: [u32; 127], b: [u32; 127], c: [u32; 127]) -> Pr
 // 14, 5, 9, 17, 10, 18 and 11.
 // A row's numbers come apart here and below, as the changes are handed them that README and docs/ name.
 #[inline(never)]
-fn append_verdict(p: Prepared, a: u32, b: u32, c: u32) -> Result<(), Refusal>
-    ensures { answered result ≡ verdict (append_tests (held p) (row_of a b c)) [] }
+fn append_verdict(p: &Prepared, a: u32, b: u32, c: u32) -> Result<(), Refusal>
+    ensures { answered result ≡ verdict (append_tests (held p.now) (row_of a b c)) [] }
 {
     let right = p.right();
     let Ok(()) = right else {
@@ -77,8 +77,8 @@ fn append_verdict(p: Prepared, a: u32, b: u32, c: u32) -> Result<(), Refusal>
 }
 
 // 14 and 15.
-fn drop_verdict(p: Prepared) -> Result<(), Refusal>
-    ensures { answered result ≡ verdict (drop_tests (held p)) [] }
+fn drop_verdict(p: &Prepared) -> Result<(), Refusal>
+    ensures { answered result ≡ verdict (drop_tests (held p.now)) [] }
 {
     let right = p.right();
     let Ok(()) = right else {
@@ -92,8 +92,8 @@ fn drop_verdict(p: Prepared) -> Result<(), Refusal>
 
 // 14, 16, 9, 17, 10, 18 and 11.
 #[inline(never)]
-fn replace_verdict(p: Prepared, row: u32, a: u32, b: u32, c: u32) -> Result<(), Refusal>
-    ensures { answered result ≡ verdict (replace_tests (held p) row (row_of a b c)) [] }
+fn replace_verdict(p: &Prepared, row: u32, a: u32, b: u32, c: u32) -> Result<(), Refusal>
+    ensures { answered result ≡ verdict (replace_tests (held p.now) row (row_of a b c)) [] }
 {
     let right = p.right();
     let Ok(()) = right else {
@@ -161,7 +161,7 @@ impl Prepared {
     pub fn append(self, a: u32, b: u32, c: u32) -> Change
         ensures { AppendCall (held self) (row_of a b c) (answered result.answer) (held result.family) }
     {
-        let tested = append_verdict(self, a, b, c);
+        let tested = append_verdict(&self, a, b, c);
         let Ok(()) = tested else {
             return Change {
                 answer: tested,
@@ -185,7 +185,7 @@ impl Prepared {
     pub fn drop_last(self) -> Change
         ensures { DropCall (held self) (answered result.answer) (held result.family) }
     {
-        let tested = drop_verdict(self);
+        let tested = drop_verdict(&self);
         let Ok(()) = tested else {
             return Change {
                 answer: tested,
@@ -211,7 +211,7 @@ impl Prepared {
     pub fn replace(self, row: u32, a: u32, b: u32, c: u32) -> Change
         ensures { ReplaceCall (held self) row (row_of a b c) (answered result.answer) (held result.family) }
     {
-        let tested = replace_verdict(self, row, a, b, c);
+        let tested = replace_verdict(&self, row, a, b, c);
         let Ok(()) = tested else {
             return Change {
                 answer: tested,
