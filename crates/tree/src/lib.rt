@@ -4,12 +4,13 @@
 // root_pair takes places: slices of that one list cannot be lent side by side where one of them is written, and there is no heap.
 #![tactic(auto)]
 
-ghost use Rattle.std.specs.Prelude.{◌≡◌, List, ℕ, ◌+◌, ◌≤◌, length};
+ghost use Rattle.std.specs.Prelude.{◌≡◌, List, ℕ, ◌+◌, ◌≤◌, length, get_or};
 ghost use Rattle.definitions.specs.Answers.{cleared};
 ghost use Rattle.definitions.specs.Conversion.{expand, adjoint};
 ghost use Rattle.definitions.specs.Family.{Curve};
 ghost use Rattle.definitions.specs.Family as definition;
 ghost use Rattle.definitions.specs.Refusals.{work_length};
+ghost use Rattle.numbers.specs.Lists.{filled};
 ghost use Rattle.numbers.specs.Regions.{part, written};
 ghost use Rattle.numbers.specs.Products.{plus_product};
 ghost use Rattle.subproduct.specs.Layout.{Level};
@@ -18,7 +19,7 @@ ghost use Rattle.tree.specs.RootPair.{StretchInput, stretched, PairInput, PairOu
 ghost use Rattle.tree.specs.Core.{TreeOutput, expand_vectors, adjoint_vectors};
 
 use convolution::products_at;
-use lists::{Family, clear, copy, entry, store};
+use lists::{Family, clear, entry, store};
 use products::transposed;
 use reduction::Modulus;
 use subproduct::{build, climb, descend};
@@ -118,6 +119,18 @@ fn expand_tree(family: &Family, curve: &[u32], output: &mut [u32], work: &mut [u
     expand_root(m, work, 9212, pairs + pairs, &first, output);
 }
 
+// The first count entries of from take the place of those of to. Not by std's copy, as `copy` of lists: between two lists that are lent the
+// compiler makes memmove of it, and the library asks others for memcpy and memset alone.
+#[tactic(auto, using(lists::proofs::Fills::fillings))]
+fn copy_out(from: &[u32], count: usize, to: &mut [u32])
+    requires { (count ≤ length from.now) × (count ≤ length to.old) }
+    ensures { to.new ≡ filled (λ i. get_or from.now i 0) count to.old }
+{
+    for i in 0..count {
+        to[i] = from[i];
+    }
+}
+
 // Adjoint with two entries at least: the tree is stored, and the root's pair descends it to the entries. The tree, that pair and the
 // entries are left in the working list, and scratch behind them, for `adjoint` to clear.
 fn adjoint_tree(family: &Family, curve: &[u32], output: &mut [u32], work: &mut [u32])
@@ -146,7 +159,7 @@ fn adjoint_tree(family: &Family, curve: &[u32], output: &mut [u32], work: &mut [
         pairs + pairs,
     );
     descend(m, work, 0, 9212, second, at, level, pairs);
-    copy(&work[at..], n, output);
+    copy_out(&work[at..], n, output);
 }
 
 // Expand: the coefficients of the sum of the u_j F_j. Up to 256 entries the tree fits.

@@ -22,24 +22,24 @@ descend-requires c =
     core-descend (taken _ _ c.family.invariant (rw (← c.family.view_is) at c.requires.curve) c.requires.few c.requires.room c.requires.work) c.requires.many c.level_for-level.ensures c.pairs_for-pairs.ensures
     (lending-family c.family.invariant (rw (← c.family.view_is) at c.requires.curve)) (rw (← c.family.view_is) at c.build.ensures) (taken-pair c.root_pair.ensures)
 
-pub slice_bounds-copy-count : goal.slice_bounds-copy-count
-slice_bounds-copy-count c =
+pub slice_bounds-copy_out-count : goal.slice_bounds-copy_out-count
+slice_bounds-copy_out-count c =
     omega (
       arith,
       core-room (taken _ _ c.family.invariant (rw (← c.family.view_is) at c.requires.curve) c.requires.few c.requires.room c.requires.work) c.requires.many c.level_for-level.ensures c.pairs_for-pairs.ensures
           (lending-family c.family.invariant (rw (← c.family.view_is) at c.requires.curve)) (rw (← c.family.view_is) at c.build.ensures) (taken-pair c.root_pair.ensures) c.descend.ensures,
     )
 
-pub slice_bounds-copy-start : goal.slice_bounds-copy-start
-slice_bounds-copy-start c =
+pub slice_bounds-copy_out-start : goal.slice_bounds-copy_out-start
+slice_bounds-copy_out-start c =
     omega (
       arith,
       core-room (taken _ _ c.family.invariant (rw (← c.family.view_is) at c.requires.curve) c.requires.few c.requires.room c.requires.work) c.requires.many c.level_for-level.ensures c.pairs_for-pairs.ensures
           (lending-family c.family.invariant (rw (← c.family.view_is) at c.requires.curve)) (rw (← c.family.view_is) at c.build.ensures) (taken-pair c.root_pair.ensures) c.descend.ensures,
     )
 
-pub copy-requires : goal.copy-requires
-copy-requires c =
+pub copy_out-requires : goal.copy_out-requires
+copy_out-requires c =
     core-copy (taken _ _ c.family.invariant (rw (← c.family.view_is) at c.requires.curve) c.requires.few c.requires.room c.requires.work) c.requires.many c.level_for-level.ensures c.pairs_for-pairs.ensures
     (lending-family c.family.invariant (rw (← c.family.view_is) at c.requires.curve)) (rw (← c.family.view_is) at c.build.ensures) (taken-pair c.root_pair.ensures) c.descend.ensures
 
@@ -49,4 +49,4 @@ returns c =
     let input = taken _ _ c.family.invariant curve c.requires.few c.requires.room c.requires.work in
     rw (← c.family.view_is) (tree-made _ _ c.family.invariant curve c.requires.few c.requires.room c.requires.work tree_adjoint adjoint tree-adjoint
     (core-adjoint input c.requires.many c.level_for-level.ensures c.pairs_for-pairs.ensures
-    (lending-family c.family.invariant curve) (rw (← c.family.view_is) at c.build.ensures) (taken-pair c.root_pair.ensures) c.descend.ensures c.copy.ensures))
+    (lending-family c.family.invariant curve) (rw (← c.family.view_is) at c.build.ensures) (taken-pair c.root_pair.ensures) c.descend.ensures c.copy_out.ensures))
