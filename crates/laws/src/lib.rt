@@ -6,10 +6,11 @@
 // plain and tree of a Conversion are those calls. Laws that differ in a conversion alone go through one function, and keep the names of docs/.
 #![tactic(auto)]
 
-ghost use Rattle.std.specs.Prelude.{List, ℕ};
+ghost use Rattle.std.specs.Prelude.{List, ℕ, Some};
 ghost use Rattle.definitions.specs.Answers.{answered, PlainCall, TreeCall};
 ghost use Rattle.definitions.specs.Conversion.{expand, adjoint, decompose};
 ghost use Rattle.definitions.specs.Family.{Family, family};
+ghost use Rattle.laws.specs.Names.{name};
 ghost use Rattle.laws.specs.Laws.{lists, Made, ThereAndBack, Agreed, HandedOut, Weighed};
 ghost use Rattle.laws.specs.RoundTrips.{Undoes};
 
@@ -26,6 +27,8 @@ pub enum Way {
 
 // The match is the one table of their names: no derive prints.
 impl fmt::Display for Way {
+    ghost output = { λ way. Some (name way) };
+
     fn fmt<W: fmt::Write>(&self, f: &mut fmt::Formatter<W>) -> fmt::Result {
         f.write_str(match self {
             Way::Plain => "plain",
