@@ -36,9 +36,9 @@ prepared::prepare                 1  0  0
 prepared::append_verdict          0  4  0
 prepared::replace_verdict         0  4  0
 subproduct::build                 1  0  0
-tree::expand                      2  0  0
-tree::adjoint                     1  0  0
-moment_way::moments               2  0  0
+tree::expand_whole                2  0  0
+tree::adjoint_whole               1  0  0
+moment_way::moments_whole         2  0  0
 moment_way::decompose             2  0  0
 verdicts::rows                    1  2  0
 plain_calls::norms                1  0  0

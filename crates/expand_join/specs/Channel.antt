@@ -1,21 +1,19 @@
 -- One channel by the plain core on reduced lists, and both channels joined.
--- Proved: what the core asks and writes where its lists begin with remainders (channel-input, channel-result; channel-lending, channel-curve and
--- channel-made where it is lent just as many entries as there are); what joining asks of two outputs that
+-- Proved: what the core asks and writes where its lists begin with remainders (channel-input, channel-result); what joining asks of two outputs that
 -- begin with expanded curves, and what it writes (both-held, both-joined); what each channel asks, from the call's tests (channel-asked).
 -- Assumes nothing.
 use Rattle.std.specs.Prelude.{List, [], ◌++◌, ◌≡◌, refl, ℕ, suc, ◌-◌, ◌<◌, ◌≤◌, ℤ, length, get_or, take, drop, replicate, Ok}
-use Rattle.std.proofs.Common.{sym, ◌∙◌, ap, ap₂, arith, length-append, length-take-le, get_or-take, take_at}
+use Rattle.std.proofs.Common.{sym, ◌∙◌, ap, ap₂, arith, length-append, take_at}
 use Rattle.std.proofs.lemmas.List.{length-map, length-replicate}
 use Rattle.std.proofs.Math.ListN.{get_or-append}
 use Rattle.definitions.specs.Answers.{Answer, answered}
 use Rattle.definitions.specs.Conversion.{expand}
-use Rattle.definitions.specs.Family.{Modulus, Curve, family, ones}
+use Rattle.definitions.specs.Family.{Modulus, family, ones}
 use Rattle.definitions.specs.Refusals.{verdict}
 use Rattle.acceptance.specs.Stages.{stage-none}
 use Rattle.acceptance.specs.Verdicts.{none-append}
 use Rattle.lists.specs.Held.{Holds}
-use Rattle.lists.specs.Lending.{Lending, taken-lending}
-use Rattle.lists.specs.Lent.{LentRows, lent}
+use Rattle.lists.specs.Lent.{lent}
 use Rattle.plain.specs.Input.{ConvertInput}
 use Rattle.joining.specs.Whole.{remainder, joined_list}
 use Rattle.joining.specs.Expanding.{Signed, signed, reduced_list, reduced, reduced_expand}
@@ -50,6 +48,10 @@ module _ (m : ℕ) (a b c u : List ℤ) (l : ℕ) (s : ChannelInput m a b c u l)
   rows : length u - 1 ≡ length a
   rows = omega (arith, s.curve_long)
 
+  -- the family that the core is lent
+  pub channel-rows : (x y z : List ℕ) → lent m (length u - 1) x y z ones ≡ lent m (length a) x y z ones
+  channel-rows x y z = ap (λ r. lent m r x y z ones) rows
+
   module _ (x y z v x₀ y₀ z₀ v₀ : List ℕ) (ex : x ≡ reduced_list m a ++ x₀) (ey : y ≡ reduced_list m b ++ y₀)
       (ez : z ≡ reduced_list m c ++ z₀) (ev : v ≡ reduced_list m u ++ v₀) where
     pub channel-input : (out : List ℕ) → l ≡ length out → ConvertInput m x y z v (length u) out
@@ -75,32 +77,6 @@ module _ (m : ℕ) (a b c u : List ℤ) (l : ℕ) (s : ChannelInput m a b c u l)
         lists-equal : {x x' y y' z z' v v' : List ℕ} → x ≡ x' → y ≡ y' → z ≡ z' → v ≡ v'
             → expand (family m x y z) v ++ drop (length u) out ≡ expand (family m x' y' z') v' ++ drop (length u) out
         lists-equal e f g h = cc
-
-    channel-rows : LentRows m (length a) x y z
-    channel-rows = record {
-      modulus = s.modulus;
-      a_holds = front-holds m some a x₀ x ex (length a) refl;
-      b_holds = front-holds m some b y₀ y ey (length a) (sym s.b_same);
-      c_holds = front-holds m some c z₀ z ez (length a) (sym s.c_same);
-    }
-
-    -- lent just as many entries as there are
-    pub channel-lending : Lending (lent m (length a) x y z ones)
-    channel-lending = taken-lending channel-rows
-
-    pub channel-curve : Curve (lent m (length a) x y z ones) (take (length u) v)
-    channel-curve =
-        let held = front-holds m some u v₀ v ev (length u) refl in
-        let count = length-take-le (length a) x channel-rows.a_holds.long in
-        record {
-          long = length-take-le (length u) v held.long ∙ s.curve_long ∙ ap suc (sym count);
-          below = λ i h. rw (get_or-take (length u) v i 0 (omega (arith, count, s.curve_long))) (held.below i (omega (arith, count, s.curve_long)));
-        }
-
-    pub channel-made : (out made : List ℕ) → made ≡ expand (lent m (length a) x y z ones) (take (length u) v)
-        → made ++ drop (length u) out ≡ reduced_expand m (signed a b c) u ++ drop (length u) out
-    channel-made out made e = channel-result out (made ++ drop (length u) out) (ap (λ t. t ++ drop (length u) out)
-        (e ∙ ap (λ r. expand (lent m r x y z ones) (take (length u) v)) (sym rows)))
 
 -- an output that begins with an expanded curve
 module _ (m : ℕ) (two : 2 ≤ m) (s : Signed) (u : List ℤ) (long : length u ≡ suc (length s.a)) (rest out : List ℕ)

@@ -106,14 +106,13 @@ fn expand_channel(m: u32, a: &[i32], b: &[i32], c: &[i32], curve: &[i32], output
     join::reduce_list(m, c, &mut z);
     join::reduce_list(m, curve, &mut u);
     let rows = a.len();
-    let n = curve.len();
     let family = Family {
         modulus: m,
         a: &x[..rows],
         b: &y[..rows],
         c: &z[..rows],
     };
-    plain::expand(&family, &u[..n], &mut output[..n]);
+    plain::expand(&family, &u, output);
 }
 
 // Expand and join, row by row on each channel: output[k] becomes the joined value of the coefficients of x^k modulo m1 and modulo m2. Where the

@@ -1,10 +1,12 @@
 // The moments, and Decompose by the moments, on input that is already checked. The tree gives F_n and G_{n-1}, Expand of 0 .. 0 1 over the
 // rows with the closing row as one row more; the quotient of their reversals is the series of the moments. Decompose is by F^t H F = D with
 // the Hankel matrix H of the moments and the norms D: u = D^-1 F^t H p, a Hankel product, Adjoint, and the norms (the report, Figure 3).
-// The inverses are lent beside the rows, and none is searched for.
+// The inverses are lent beside the rows, and none is searched for. Of n - 1 rows the first n coefficients take part, and of the output the first
+// numbers are written, n or 2 n - 1: `moments` and `decompose` are lent lists of these lengths or longer, and what they call (`moments_whole`,
+// `decompose_whole`) lists that are just as long.
 #![tactic(auto)]
 
-ghost use Rattle.std.specs.Prelude.{◌≡◌, ◌+◌, ◌*◌, ◌-◌, ◌≤◌, ◌<◌, length};
+ghost use Rattle.std.specs.Prelude.{◌≡◌, ◌+◌, ◌*◌, ◌-◌, ◌≤◌, ◌<◌, length, take};
 ghost use Rattle.definitions.specs.Answers.{cleared};
 ghost use Rattle.definitions.specs.Conversion.{expand, decompose};
 ghost use Rattle.definitions.specs.Family.{Curve, ones, rows, size};
@@ -13,6 +15,7 @@ ghost use Rattle.definitions.specs.Refusals.{work_length};
 ghost use Rattle.tree_model.specs.Extended.{last_unit};
 ghost use Rattle.numbers.specs.Lists.{filled};
 ghost use Rattle.numbers.specs.RunningProduct.{running_product};
+ghost use Rattle.lists.specs.Held.{Holds, Output};
 ghost use Rattle.lists.specs.Inverses.{Inverts};
 ghost use Rattle.theory.specs.Closing.{closed_by};
 ghost use Rattle.moment_way.specs.Decompose.{DivideInput, divided};
@@ -26,7 +29,7 @@ use reduction::Modulus;
 use residue::negative;
 use series::quotient;
 use std::marker::Model;
-use tree::{adjoint, expand};
+use tree::{adjoint_whole, expand_whole};
 
 // A row's three numbers.
 #[derive(Clone, Copy)]
@@ -95,7 +98,7 @@ fn last_polynomial(family: &Family, output: &mut [u32], work: &mut [u32])
     let r = family.a.len();
     let mut curve = zeros::<255>();
     curve[r] = 1;
-    expand(family, &curve[..r + 1], output, work);
+    expand_whole(family, &curve[..r + 1], output, work);
 }
 
 // The n + 1 coefficients of F_n and the n of G_{n-1}. The closing row is row n of both, and G begins with row 2.
@@ -144,8 +147,8 @@ fn leading_inverse(m: u32, a_inverses: &[u32], close_a_inverse: u32) -> u32
     result
 }
 
-// The 2 n - 1 moments of a family of n - 1 rows and its closing row.
-pub fn moments(inverted: &Inverted, output: &mut [u32], work: &mut [u32])
+// The 2 n - 1 moments of a family of n - 1 rows and its closing row, in a list that is just as long.
+fn moments_whole(inverted: &Inverted, output: &mut [u32], work: &mut [u32])
     requires few { size inverted.now ≤ 128 }
     requires room { length output.old ≡ 2 * size inverted.now - 1 }
     requires work { work_length ≤ length work.old }
@@ -171,6 +174,18 @@ pub fn moments(inverted: &Inverted, output: &mut [u32], work: &mut [u32])
         2 * n - 1,
         output,
     );
+}
+
+// The 2 n - 1 moments of a family of n - 1 rows and its closing row. What lies behind these numbers in the output stays.
+pub fn moments(inverted: &Inverted, output: &mut [u32], work: &mut [u32])
+    requires few { size inverted.now ≤ 128 }
+    requires room { 2 * size inverted.now - 1 ≤ length output.old }
+    requires work { work_length ≤ length work.old }
+    ensures { Output (moments inverted.now) (2 * size inverted.now - 1)
+        output.old output.new work.old work.new }
+{
+    let n = inverted.family.a.len() + 1;
+    moments_whole(inverted, &mut output[..2 * n - 1], work);
 }
 
 // Each of the n entries times the inverse of its norm, (-1)^i a_{i+1} / (c_2 .. c_{i+1}); c_inverses[i] is the inverse of c_{i+1}.
@@ -222,7 +237,7 @@ fn decompose_tree(
     let m = inverted.family.modulus;
     let n = coefficients.len();
     let mut lists = zeros::<511>();
-    moments(inverted, &mut lists[128..127 + 2 * n], work);
+    moments_whole(inverted, &mut lists[128..127 + 2 * n], work);
     copy(coefficients, n, &mut lists[383..]);
     let used = used_length(&lists, 383, 383, n);
     let half = used - used / 2;
@@ -238,7 +253,7 @@ fn decompose_tree(
         128 + half,
         n + half - 1,
     );
-    adjoint(&inverted.family, &lists[..n], output, work);
+    adjoint_whole(&inverted.family, &lists[..n], output, work);
     divide_by_norms(
         m,
         inverted.family.a,
@@ -249,10 +264,8 @@ fn decompose_tree(
     );
 }
 
-// The curve of the n coefficients in powers of x. With one coefficient there is no tree, and the answer is that of F_0.
-// c_inverses[i] is the inverse of c_{i+1} from i = 1 on.
-// The two come apart: they travel through this function and decompose_tree alone, to divide_by_norms, whose numbers come apart as it says.
-pub fn decompose(
+// Decompose on lists that are just as long. With one coefficient there is no tree, and the answer is that of F_0.
+fn decompose_whole(
     inverted: &Inverted,
     c_inverses: &[u32],
     close_c_inverse: u32,
@@ -279,6 +292,38 @@ pub fn decompose(
         close_c_inverse,
         coefficients,
         output,
+        work,
+    );
+}
+
+// The curve of the first n coefficients in powers of x, n - 1 being the number of rows. What lies behind the first n numbers of the output stays.
+// c_inverses[i] is the inverse of c_{i+1} from i = 1 on.
+// The two come apart: they travel through this function, decompose_whole and decompose_tree alone, to divide_by_norms, whose numbers come
+// apart as it says.
+pub fn decompose(
+    inverted: &Inverted,
+    c_inverses: &[u32],
+    close_c_inverse: u32,
+    coefficients: &[u32],
+    output: &mut [u32],
+    work: &mut [u32],
+)
+    requires inverses { Inverts inverted.now.m 1 (rows inverted.now) inverted.now.c c_inverses.now inverted.now.close.c close_c_inverse }
+    requires curve { Holds inverted.now.m (size inverted.now) coefficients.now }
+    requires few { size inverted.now ≤ 128 }
+    requires room { size inverted.now ≤ length output.old }
+    requires work { work_length ≤ length work.old }
+    ensures { Output (decompose inverted.now (take (size inverted.now) coefficients.now)) (size inverted.now)
+        output.old output.new work.old work.new }
+{
+    let n = inverted.family.a.len() + 1;
+    let curve = &coefficients[..n];
+    decompose_whole(
+        inverted,
+        c_inverses,
+        close_c_inverse,
+        curve,
+        &mut output[..n],
         work,
     );
 }

@@ -1,54 +1,68 @@
--- A family and a curve of it, lent whole, are what the loops take: n is the number of entries, one more than the rows.
--- Proved: that; what a loop leaves of the first n entries it leaves of all; what Decompose leaves, lent the inverses of the a, is Decompose of
--- the family of that a. Assumes nothing.
-use Rattle.std.proofs.Common.{◌≡◌, ◌∙◌, ap, sym, List, ◌++◌, ℕ, ◌-◌, ◌≤◌, length, take, drop, take_all, take-take, length-take-le, get_or-take, ap₂, arith}
+-- A family is lent as lists of its rows, and n is one more than these.
+-- Proved: what a core asks of a family its loop asks of these lists; what the loop leaves is said of the family; what a core leaves,
+-- lent the first rows of longer lists, is said of these lists. Assumes nothing.
+use Rattle.std.specs.Prelude.{◌≡◌, List, ◌++◌, ℕ, suc, ◌+◌, ◌-◌, length, take, drop}
+use Rattle.std.proofs.Common.{◌∙◌, ap, subst, sym, take-take, length-take-le, get_or-take, ap₂, arith, add-one}
 use Rattle.definitions.specs.Conversion.{decompose}
-use Rattle.definitions.specs.Family.{Curve, family, ones, rows}
+use Rattle.definitions.specs.Family.{Family, family, ones, size}
 use Rattle.lists.specs.Inverses.{Inverts}
-use Rattle.lists.specs.Lent.{lent}
-use Rattle.lists.specs.Lending.{Lending, lending-rows, lending-least, lending-lent, lending-curve}
-use Rattle.lists.specs.Whole.{written-whole}
+use Rattle.lists.specs.Lending.{Lending}
+use Rattle.lists.specs.Lent.{lent, lent-whole}
 use Rattle.plain.specs.Decomposing.{Decomposes}
-use Rattle.plain.specs.Input.{ConvertInput}
+use Rattle.plain.specs.Input.{ConvertInput, convert-sized}
 
-module _ {m : ℕ} {a b c u : List ℕ} (output : List ℕ) (lending : Lending (family m a b c)) (curve : Curve (family m a b c) u)
-    (few : length u ≤ 128) (room : length output ≡ length u) where
-  pub taken : ConvertInput m a b c u (length u) output
-  taken = record {
-    rows = lending-lent lending curve;
-    least = lending-least lending curve;
-    most = few;
-    curve_holds = lending-curve lending curve;
-    output_long = omega arith;
-  }
+rows_are : (a : List ℕ) → length a + 1 - 1 ≡ length a
+rows_are a = omega arith
 
-  pub b-rows : length b ≡ length u - 1
-  b-rows = lending.b_length ∙ sym (lending-rows lending curve)
+pub taken : {m : ℕ} {a b c u output : List ℕ} → ConvertInput m a b c u (size (family m a b c)) output
+    → ConvertInput m a b c u (length a + 1) output
+taken {a = a} input = rw (add-one (length a)) input
 
-  pub c-rows : length c ≡ length u - 1
-  c-rows = lending.c_length ∙ sym (lending-rows lending curve)
+-- a list of as many rows
+pub listed : (xs a : List ℕ) → length xs ≡ length a → length xs ≡ length a + 1 - 1
+listed xs a e = e ∙ sym (rows_are a)
 
-  pub decomposed : {out : List ℕ}
-      → ((x : List ℕ) → Inverts m 0 (length u - 1) x a 1 1
-      → out ≡ decompose (lent m (length u - 1) x b c ones) (take (length u) u) ++ drop (length u) output)
-      → Decomposes (family m a b c) u out
-  decomposed made x inverts =
-      let rows_are : length u - 1 ≡ length a = lending-rows lending curve in
-      made x (rw rows_are inverts) ∙ written-whole _ output (length u) room
-      ∙ ap (decompose (lent m (length u - 1) x b c ones)) (take_all (length u) u (omega arith))
-      ∙ ap (λ r. decompose (lent m r x b c ones) u) rows_are
+module _ {m : ℕ} {a b c : List ℕ} (u output : List ℕ) (lending : Lending (family m a b c)) where
+  pub made : (convert : Family → List ℕ → List ℕ) {output' : List ℕ}
+      → output' ≡ convert (lent m (length a + 1 - 1) a b c ones) (take (length a + 1) u) ++ drop (length a + 1) output
+      → output' ≡ convert (family m a b c) (take (size (family m a b c)) u) ++ drop (size (family m a b c)) output
+  made convert e = e
+      ∙ ap (λ f. convert f (take (length a + 1) u) ++ drop (length a + 1) output)
+      (ap (λ r. lent m r a b c ones) (rows_are a) ∙ lent-whole m a b c lending.b_length lending.c_length)
+      ∙ ap (λ n. convert (family m a b c) (take n u) ++ drop n output) (add-one (length a))
 
--- the first rows of longer lists, with the inverses v in the place of the a
-pub decomposed-by : {m r : ℕ} {v : List ℕ} {out : List ℕ} (a b c u : List ℕ) → Inverts m 0 r a v 1 1 → Decomposes (lent m r v b c ones) u out
-    → out ≡ decompose (lent m r a b c ones) u
-decomposed-by {m} {r} {v} {out} a b c u h made =
-    let count : length (take r v) ≡ r = length-take-le r v h.long in
-    let inverts : Inverts m 0 r a (take r v) 1 1 = record {
-      long = omega (arith, count);
-      inverts = λ i g l. rw (get_or-take r v i 0 l) (h.inverts i g l);
-      closes = h.closes;
-    } in
-    made a (rw count inverts)
-    ∙ ap (λ k. decompose (record { m = m; a = take k a; b = take k (take r b); c = take k (take r c); close = ones }) u) count
-    ∙ ap₂ (λ y z. decompose (record { m = m; a = take r a; b = y; c = z; close = ones }) u)
-    (take-take r r b (omega arith)) (take-take r r c (omega arith))
+  pub decomposed : {output' : List ℕ}
+      → ((x : List ℕ) → Inverts m 0 (length a + 1 - 1) x a 1 1
+      → output' ≡ decompose (lent m (length a + 1 - 1) x b c ones) (take (length a + 1) u) ++ drop (length a + 1) output)
+      → Decomposes (family m a b c) u output output'
+  decomposed left x inverts = left x (rw (rows_are a) inverts)
+      ∙ ap (λ r. decompose (lent m r x b c ones) (take (length a + 1) u) ++ drop (length a + 1) output) (rows_are a)
+      ∙ ap (λ n. decompose (lent m (length a) x b c ones) (take n u) ++ drop n output) (add-one (length a))
+
+-- from what is said of the family to what is said of the lists whose first rows it has
+module _ {m n : ℕ} {a b c u output output' : List ℕ} (input : ConvertInput m a b c u n output) {f : Family}
+    (is : lent m (n - 1) a b c ones ≡ f) where
+  pub written : (convert : Family → List ℕ → List ℕ) → output' ≡ convert f (take (size f) u) ++ drop (size f) output
+      → output' ≡ convert (lent m (n - 1) a b c ones) (take n u) ++ drop n output
+  written convert e =
+      subst (λ g. output' ≡ convert g (take (size g) u) ++ drop (size g) output) (sym is) e
+      ∙ ap (λ k. convert (lent m (n - 1) a b c ones) (take k u) ++ drop k output) (convert-sized input)
+
+  -- the a stand for the inverses of those of x
+  pub written-decomposed : Decomposes f u output output' → (x : List ℕ) → Inverts m 0 (n - 1) x a 1 1
+      → output' ≡ decompose (lent m (n - 1) x b c ones) (take n u) ++ drop n output
+  written-decomposed left x h =
+      let r = n - 1 in
+      let n_is : suc (n - 1) ≡ n = omega (arith, input.least) in
+      let count : length (take (n - 1) a) ≡ n - 1 = length-take-le (n - 1) a h.long in
+      let inverts : Inverts m 0 (n - 1) x (take (n - 1) a) 1 1 = record {
+        long = omega (arith, count);
+        inverts = λ i g l. rw (get_or-take (n - 1) a i 0 l) (h.inverts i g l);
+        closes = h.closes;
+      } in
+      subst (λ g. Decomposes g u output output') (sym is) left x (rw count inverts)
+      ∙ ap (λ k. decompose (record { m = m; a = take k x; b = take k (take r b); c = take k (take r c); close = ones }) (take (suc k) u)
+      ++ drop (suc k) output) count
+      ∙ ap₂ (λ y z. decompose (record { m = m; a = take r x; b = y; c = z; close = ones }) (take (suc r) u) ++ drop (suc r) output)
+      (take-take r r b (omega arith)) (take-take r r c (omega arith))
+      ∙ ap (λ k. decompose (lent m (n - 1) x b c ones) (take k u) ++ drop k output) n_is

@@ -1,12 +1,13 @@
 -- Decompose in local arrays, against the plain model. After i steps the curve has i entries that may not be zero, so that each step
 -- touches one more. No row's a is read, only its inverse: all that is said here holds of every list a that has these inverses.
---   Decomposes f u out                       f has the inverses of some a in the place of the a: of every such a, out is Decompose of u
+--   Decomposes f u output output'            f has the inverses of some a in the place of the a: of every such a, Decompose of the first
+--                                            entries of u stands at the front of output', and the rest of output behind it
 --   negative_product m xs ys i               - xs_i ys_i, modulo m
 --   Tables m n v b c rise stay fall          the arrays of multiplication by x in the basis; v holds the inverses of the a
 --   Decomposing m n v b c p current i        the array matches the model's state after i steps
 -- Proved: how the arrays are filled, and how the loop starts. What its step is lent, how it goes on, and that it ends with Decompose stands in
 -- Decomposing of proofs/. Assumes nothing.
-use Rattle.std.specs.Prelude.{◌≡◌, List, ℕ, ◌*◌, ◌-◌, ◌%◌, ◌≤◌, take}
+use Rattle.std.specs.Prelude.{◌≡◌, List, ◌++◌, ℕ, ◌*◌, ◌-◌, ◌%◌, ◌≤◌, take, drop}
 use Rattle.std.proofs.Math.Path.{sym, ap}
 use Rattle.std.proofs.Common.{◌∙◌, arith}
 use Rattle.std.proofs.Math.ListN.{length, get_or}
@@ -19,8 +20,9 @@ use Rattle.lists.specs.Lent.{lent}
 use Rattle.plain_model.specs.PlainModels.{zeros, zeros-entry, decompose_state}
 use Rattle.plain.specs.Matching.{Match}
 
-abbrev pub Decomposes : Family → List ℕ → List ℕ → Type 0
-Decomposes f u out = (a : List ℕ) → Inverts f.m 0 (rows f) a f.a 1 1 → out ≡ decompose (lent f.m (rows f) a f.b f.c ones) u
+abbrev pub Decomposes : Family → List ℕ → List ℕ → List ℕ → Type 0
+Decomposes f u output output' = (a : List ℕ) → Inverts f.m 0 (rows f) a f.a 1 1
+    → output' ≡ decompose (lent f.m (rows f) a f.b f.c ones) (take (size f) u) ++ drop (size f) output
 
 unfoldable pub negative_product : ℕ → List ℕ → List ℕ → ℕ → ℕ
 negative_product m xs ys i = negative m (get_or xs i 0) * get_or ys i 0 % m

@@ -1,18 +1,18 @@
 // The plain ways, on input that is already checked: row by row, one remainder for each coefficient and no division, in local arrays.
-// The lists are as long as the family and its curve: n entries of the curve and of the output, n - 1 rows. The 1 that stands for a row's
-// number past these is the closing row's.
+// The family has n - 1 rows. The curve and the output are lent whole: the first n entries of the curve take part, and the first n of the
+// output are written. The 1 that stands for a row's number past the rows is the closing row's.
 #![tactic(auto)]
 
-ghost use Rattle.std.specs.Prelude.{◌≡◌, List, ℕ, ◌-◌, ◌<◌, ◌≤◌, length};
+ghost use Rattle.std.specs.Prelude.{◌≡◌, List, ◌++◌, ℕ, ◌-◌, ◌<◌, ◌≤◌, length, take, drop};
 ghost use Rattle.definitions.specs.Conversion.{expand, adjoint};
-ghost use Rattle.definitions.specs.Family.{row_of, Curve};
+ghost use Rattle.definitions.specs.Family.{row_of, size};
 ghost use Rattle.definitions.specs.Orthogonality.{norms};
 ghost use Rattle.definitions.specs.Family as definition;
 ghost use Rattle.lists.specs.Inverses.{Inverts};
 ghost use Rattle.lists.specs.Lent.{lent};
 ghost use Rattle.numbers.specs.Lists.{filled};
 ghost use Rattle.plain.specs.Decomposing.{Decomposes, negative_product};
-ghost use Rattle.plain.specs.Input.{NormsCoreInput};
+ghost use Rattle.plain.specs.Input.{ConvertInput, NormsCoreInput};
 
 use lists::{Family, copy, row_entry, zeros};
 use reduction::Modulus;
@@ -22,12 +22,13 @@ use row_steps::{adjoint_row, decompose_row, expand_row};
 // The coefficients in powers of x, downwards (Clenshaw): after i steps current is B_{n-i}, of i coefficients, and older
 // B_{n-i+1}, where B_k = u_k + (a_{k+1} x + b_{k+1}) B_{k+1} + c_{k+2} B_{k+2}. The closing row multiplies zeros.
 pub fn expand(family: &Family, curve: &[u32], output: &mut [u32])
-    requires curve { Curve family.now curve.now }
-    requires few { length curve.now ≤ 128 }
-    requires room { length output.old ≡ length curve.now }
-    ensures { output.new ≡ expand family.now curve.now }
+    requires { ConvertInput family.now.m family.now.a family.now.b family.now.c curve.now
+        (size family.now) output.old }
+    ensures { output.new
+        ≡ expand family.now (take (size family.now) curve.now)
+        ++ drop (size family.now) output.old }
 {
-    let n = curve.len();
+    let n = family.a.len() + 1;
     let last = n - 1;
     let mut current = zeros::<128>();
     let mut older = zeros::<128>();
@@ -45,13 +46,14 @@ pub fn expand(family: &Family, curve: &[u32], output: &mut [u32])
 // The transposed of expand, upwards: after j rows current[t] is the sum of u_i times the coefficient of x^i in x^t F_j, for t below
 // n - j, and older the same of F_{j-1}. Entry j of the output is the first of them.
 pub fn adjoint(family: &Family, curve: &[u32], output: &mut [u32])
-    requires curve { Curve family.now curve.now }
-    requires few { length curve.now ≤ 128 }
-    requires room { length output.old ≡ length curve.now }
-    ensures { output.new ≡ adjoint family.now curve.now }
+    requires { ConvertInput family.now.m family.now.a family.now.b family.now.c curve.now
+        (size family.now) output.old }
+    ensures { output.new
+        ≡ adjoint family.now (take (size family.now) curve.now)
+        ++ drop (size family.now) output.old }
 {
     let m = family.modulus;
-    let n = curve.len();
+    let n = family.a.len() + 1;
     let last = n - 1;
     let mut current = zeros::<128>();
     let mut older = zeros::<128>();
@@ -71,10 +73,11 @@ pub trait Conversion {
     ghost converted: { definition.Family → List ℕ → List ℕ };
 
     fn convert(family: &Family, curve: &[u32], output: &mut [u32])
-        requires curve { Curve family.now curve.now }
-        requires few { length curve.now ≤ 128 }
-        requires room { length output.old ≡ length curve.now }
-        ensures { output.new ≡ converted family.now curve.now };
+        requires { ConvertInput family.now.m family.now.a family.now.b family.now.c curve.now
+            (size family.now) output.old }
+        ensures { output.new
+            ≡ converted family.now (take (size family.now) curve.now)
+            ++ drop (size family.now) output.old };
 }
 
 #[derive(Clone, Copy)]
@@ -120,12 +123,11 @@ fn negative_products(m: u32, list: &[u32], factors: &[u32], output: &mut [u32])
 // place.
 // The clause speaks of every a that they invert, so no `Inverted` is taken, which holds one.
 pub fn decompose(inverted: &Family, coefficients: &[u32], output: &mut [u32])
-    requires curve { Curve inverted.now coefficients.now }
-    requires few { length coefficients.now ≤ 128 }
-    requires room { length output.old ≡ length coefficients.now }
-    ensures { Decomposes inverted.now coefficients.now output.new }
+    requires { ConvertInput inverted.now.m inverted.now.a inverted.now.b inverted.now.c
+        coefficients.now (size inverted.now) output.old }
+    ensures { Decomposes inverted.now coefficients.now output.old output.new }
 {
-    let n = coefficients.len();
+    let n = inverted.a.len() + 1;
     // No n is greater. The compiler is told so, and leaves out its own comparisons in the rows.
     if 128 < n {
         return;
@@ -153,7 +155,7 @@ pub fn decompose(inverted: &Family, coefficients: &[u32], output: &mut [u32])
 }
 
 // The norms (-1)^i c_2 .. c_{i+1} / a_{i+1}, n of them; a_inverses[i] is the inverse of a_{i+1}. The closing row's numbers are handed in
-// beside, and the lists may be longer than the n - 1 rows.
+// beside, and the lists may be longer than the n - 1 rows, the output than n.
 // No a and no b is read, and the clause speaks of all that fit, so no `Inverted` is taken, which would ask for them.
 pub fn norms(
     m: u32,
@@ -161,15 +163,14 @@ pub fn norms(
     c: &[u32],
     close_a_inverse: u32,
     close_c: u32,
+    n: usize,
     output: &mut [u32],
 )
-    requires { NormsCoreInput m a_inverses.now c.now (length output.old) output.old }
-    ensures { (a b : List ℕ) (close_a close_b : ℕ)
-        → Inverts m 0 (length output.old - 1) a a_inverses.now close_a close_a_inverse
+    requires { NormsCoreInput m a_inverses.now c.now n output.old }
+    ensures { (a b : List ℕ) (close_a close_b : ℕ) → Inverts m 0 (n - 1) a a_inverses.now close_a close_a_inverse
         → output.new
-        ≡ norms (lent m (length output.old - 1) a b c.now (row_of close_a close_b close_c)) }
+        ≡ norms (lent m (n - 1) a b c.now (row_of close_a close_b close_c)) ++ drop n output.old }
 {
-    let n = output.len();
     let last = n - 1;
     let modulus = Modulus::new(m);
     let mut signed: u32 = 1;

@@ -1,17 +1,13 @@
 -- From what a plain call accepts, its lists lent whole, to what its core asks, and from what the core writes to the definition's list.
 -- Proved: both, for Expand, Adjoint and Decompose and for Norms. Assumes nothing.
 use Rattle.std.specs.Prelude.{◌≡◌, List, ◌++◌, ℕ, suc, ◌+◌, ◌-◌, length, take, drop}
-use Rattle.std.proofs.Common.{◌∙◌, sym, subst, ap, ap₂, arith, take_all, length-take-le}
-use Rattle.definitions.specs.Family.{Family, Accepted, Curve, family, ones}
-use Rattle.definitions.specs.Conversion.{decompose}
+use Rattle.std.proofs.Common.{◌∙◌, ap, ap₂, arith, take_all}
+use Rattle.definitions.specs.Family.{Family, Accepted, family, ones}
 use Rattle.definitions.specs.Orthogonality.{norms}
 use Rattle.acceptance.specs.Acceptance.{PlainInput, NormsInput}
-use Rattle.inverses.specs.InverseArray.{InverseArray, family-inverts}
+use Rattle.inverses.specs.InverseArray.{InverseArray}
 use Rattle.lists.specs.Held.{Holds}
-use Rattle.lists.specs.Lending.{Lending, taken-lending}
-use Rattle.lists.specs.Lent.{Long, lent, lent-whole, accepted-rows}
-use Rattle.plain.proofs.Taken.{decomposed-by}
-use Rattle.plain.specs.Decomposing.{Decomposes}
+use Rattle.lists.specs.Lent.{Long, lent, accepted-rows}
 use Rattle.plain.specs.Input.{ConvertInput, NormsCoreInput, accepted-convert, accepted-norms}
 use Rattle.lists.specs.Whole.{accepted-long, accepted-lent, lent-family, curve-held, written-whole}
 
@@ -40,27 +36,13 @@ module _ {m : ℕ} {a b c u : List ℕ} (output : List ℕ) (input : PlainInput 
       written-whole _ output (length a + 1) (omega (arith, input.output_length))
       ∙ ap₂ convert (lent-family input.accepted) (take_all (length a + 1) u (omega arith))
 
-module _ {m : ℕ} {a b c v : List ℕ} (accepted : Accepted (family m a b c)) (array : InverseArray m 0 (length a) a v) where
-  by-inverses : family m (take (length a) v) b c ≡ lent m (length a) v b c ones
-  by-inverses = rw (take_all (length a) b (omega (arith, accepted.b_length)), take_all (length a) c (omega (arith, accepted.c_length)))
-
-  -- the inverses in the place of the a
-  pub inverted-lending : Lending (family m (take (length a) v) b c)
-  inverted-lending =
-      let own = accepted-rows m (length a) a b c ones (accepted-long accepted) (accepted-lent accepted) in
-      rw by-inverses (taken-lending
-      (record { modulus = own.modulus; a_holds = array.holds; b_holds = own.b_holds; c_holds = own.c_holds }))
-
-  pub inverted-curve : {u : List ℕ} → Curve (family m a b c) u → Curve (family m (take (length a) v) b c) u
-  inverted-curve curve =
-      let count : length (take (length a) v) ≡ length a = length-take-le (length a) v array.holds.long in
-      record { long = curve.long ∙ ap suc (sym count); below = λ i l. curve.below i (omega (arith, count)) }
-
-  pub inverted-made : {out : List ℕ} (u : List ℕ) → Decomposes (family m (take (length a) v) b c) u out
-      → out ≡ decompose (family m a b c) u
-  inverted-made {out} u made =
-      decomposed-by a b c u (family-inverts accepted array) (subst (λ f. Decomposes f u out) by-inverses made)
-      ∙ ap (λ f. decompose f u) (lent-whole m a b c accepted.b_length accepted.c_length)
+-- the family that Decompose is lent, of the first rows with the inverses in the place of the a
+pub by-inverses : {m : ℕ} {a b c : List ℕ} → Accepted (family m a b c) → (v : List ℕ)
+    → lent m (length a + 1 - 1) v b c ones ≡ family m (take (length a) v) b c
+by-inverses {m} {a} {b} {c} accepted v =
+    let rows_are : length a + 1 - 1 ≡ length a = omega arith in
+    ap (λ r. lent m r v b c ones) rows_are
+    ∙ rw (take_all (length a) b (omega (arith, accepted.b_length)), take_all (length a) c (omega (arith, accepted.c_length)))
 
 module _ {m : ℕ} {a b c : List ℕ} (output : List ℕ) (input : NormsInput (family m a b c) (length output)) where
   pub norms-core : {v : List ℕ} → InverseArray m 0 (length a) a v → NormsCoreInput m v c (length a + 1) output
@@ -70,9 +52,3 @@ module _ {m : ℕ} {a b c : List ℕ} (output : List ℕ) (input : NormsInput (f
 
   pub norms-written : norms (lent m (length a + 1 - 1) a b c ones) ++ drop (length a + 1) output ≡ norms (family m a b c)
   norms-written = written-whole _ output (length a + 1) (omega (arith, input.output_length)) ∙ ap norms (lent-family input.accepted)
-
-  pub norms-count : length output ≡ length a + 1
-  norms-count = omega (arith, input.output_length)
-
-  pub norms-made : norms (lent m (length output - 1) a b c ones) ≡ norms (family m a b c)
-  norms-made = ap norms (ap (λ n. lent m (n - 1) a b c ones) norms-count ∙ lent-family input.accepted)

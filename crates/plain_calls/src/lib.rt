@@ -116,6 +116,6 @@ pub fn norms(m: u32, a: &[u32], b: &[u32], c: &[u32], output: &mut [u32]) -> Res
     verdicts::norms(m, a, b, c, output.len())?;
     let mut a_inverses = lists::zeros::<128>();
     inverses::of_list(m, a, 0, a.len(), &mut a_inverses);
-    plain::norms(m, &a_inverses, c, 1, 1, output);
+    plain::norms(m, &a_inverses, c, 1, 1, a.len() + 1, output);
     Ok(())
 }

@@ -3,10 +3,10 @@
 -- Decompose, which is lent the stored inverses, and for Norms, which are copied. Assumes nothing.
 use Rattle.std.specs.Prelude.{◌≡◌, List, [], ◌++◌, ℕ, ◌+◌, ◌-◌, ◌≤◌, length, get_or, take, drop, Ok}
 use Rattle.std.proofs.Math.Path.{sym}
-use Rattle.std.proofs.Common.{◌∙◌, arith, length-take-le}
+use Rattle.std.proofs.Common.{◌∙◌, ap, arith}
 use Rattle.definitions.specs.Answers.{Answer, answered}
 use Rattle.definitions.specs.Conversion.{decompose}
-use Rattle.definitions.specs.Family.{Family, Curve, ones}
+use Rattle.definitions.specs.Family.{Family, ones}
 use Rattle.definitions.specs.Prepared.{Prepared, Right, own_rows}
 use Rattle.definitions.specs.PreparedCalls.{prepared_plain_tests, prepared_norms_tests, PreparedPlainCall, PreparedNormsCall}
 use Rattle.definitions.specs.Refusals.{verdict}
@@ -16,17 +16,18 @@ use Rattle.acceptance.specs.Promises.{tests-finish}
 use Rattle.acceptance.specs.Stages.{stage-none}
 use Rattle.lists.specs.Held.{Holds}
 use Rattle.lists.specs.Inverses.{Inverts}
-use Rattle.lists.specs.Lending.{Lending, accepted-lending, taken-lending}
-use Rattle.lists.specs.Lent.{LentRows, lent, accepted-rows}
+use Rattle.lists.specs.Lent.{lent, accepted-rows}
 use Rattle.lists.specs.Whole.{written-whole}
-use Rattle.plain.proofs.Taken.{decomposed-by}
-use Rattle.plain.specs.Decomposing.{Decomposes}
 use Rattle.plain.specs.Input.{ConvertInput, accepted-convert}
 use Rattle.prepared_model.specs.Accepting.{prepared-plain-passes, prepared-norms-passes}
 use Rattle.prepared_model.specs.Lending.{right-size, right-curve, right-converts, right-inverts-a, right-stored-norms}
-use Rattle.prepared_model.specs.Rightness.{right-few, right-rows, right-long, right-sized, right-a-inverses}
+use Rattle.prepared_model.specs.Rightness.{right-few, right-long, right-sized, right-a-inverses}
 
 -- ---- the conversions
+-- the family that a core is lent
+pub lent-rows : (m r : ℕ) (a b c : List ℕ) → lent m (r + 1 - 1) a b c ones ≡ lent m r a b c ones
+lent-rows m r a b c = let rows_are : r + 1 - 1 ≡ r = omega arith in ap (λ k. lent m k a b c ones) rows_are
+
 module _ (p : Prepared) (u output : List ℕ) {r : Answer} (is : answered r ≡ verdict (prepared_plain_tests p u (length output)) [])
     (q : r ≡ Ok tt) where
   accepted : Right p × PlainInput (own_rows p) u (length output)
@@ -35,38 +36,8 @@ module _ (p : Prepared) (u output : List ℕ) {r : Answer} (is : answered r ≡ 
   right : Right p
   right = accepted.0
 
-  pub record-input : PlainInput (own_rows p) u (length output)
-  record-input = accepted.1
-
   pub record-few : p.rows ≤ 127
   record-few = right-few right
-
-  pub record-lending : Lending (own_rows p)
-  record-lending = accepted-lending right.accepted
-
-  -- the stored inverses in the place of the a
-  own : LentRows p.modulus p.rows p.a p.b p.c
-  own = accepted-rows p.modulus p.rows p.a p.b p.c ones (right-long right) right.accepted
-
-  stored_long : p.rows ≤ length p.a_inverses
-  stored_long = (right-a-inverses right).holds.long
-
-  pub inverted-lending : Lending (lent p.modulus p.rows p.a_inverses p.b p.c ones)
-  inverted-lending = taken-lending
-      (record { modulus = own.modulus; a_holds = (right-a-inverses right).holds; b_holds = own.b_holds; c_holds = own.c_holds })
-
-  pub inverted-curve : Curve (lent p.modulus p.rows p.a_inverses p.b p.c ones) u
-  inverted-curve =
-      let count = length-take-le p.rows p.a_inverses stored_long in
-      let rows_are = right-rows right in
-      let curve = accepted.1.curve in
-      record { long = curve.long ∙ omega (arith, count, rows_are); below = λ i l. curve.below i (omega (arith, count, rows_are)) }
-
-  pub inverted-made : {output' : List ℕ} → Decomposes (lent p.modulus p.rows p.a_inverses p.b p.c ones) u output'
-      → PreparedPlainCall decompose p u (answered (Ok tt)) output output'
-  inverted-made made =
-      let rows_are : p.rows ≡ p.rows + 1 - 1 = omega arith in
-      tests-finish _ r is q (decomposed-by p.a p.b p.c u (rw rows_are (right-inverts-a right)) made)
 
   -- v stands in the place of the a
   core-input : {v : List ℕ} → Holds p.modulus p.rows v → ConvertInput p.modulus v p.b p.c u (p.rows + 1) output

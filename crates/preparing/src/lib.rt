@@ -30,6 +30,6 @@ pub fn norms_of(m: u32, a_inverses: &[u32], c: &[u32], count: usize) -> [u32; 12
         → result ≡ padded most_norms (Orthogonality.norms (lent m count a b c.now ones)) }
 {
     let mut result = zeros::<128>();
-    plain::norms(m, a_inverses, c, 1, 1, &mut result[..count + 1]);
+    plain::norms(m, a_inverses, c, 1, 1, count + 1, &mut result);
     result
 }

@@ -1,7 +1,6 @@
--- Lists that the recursions are lent whole.
--- Proved: the tree of a family is that of the family's first rows, as many as it has; the way up takes of a curve what it takes of the
--- curve's first entries, as many as the curve has. Assumes nothing.
-use Rattle.std.proofs.Common.{◌≡◌, refl, ◌∙◌, sym, ap, subst, List, ℕ, ◌+◌, length, get_or, take, take_all, arith}
+-- Lists that the tree's recursion is lent whole.
+-- Proved: the tree of a family is that of the family's first rows, as many as it has. Assumes nothing.
+use Rattle.std.proofs.Common.{◌≡◌, refl, ◌∙◌, sym, ap, List, ℕ, ◌+◌, length, get_or, take, take_all, arith}
 use Rattle.definitions.specs.Family.{family, row_of}
 use Rattle.lists.specs.Lending.{Lending}
 use Rattle.lists.specs.Lent.{lent-whole}
@@ -10,9 +9,7 @@ use Rattle.tree_model.specs.Tree.{padded, leaf}
 use Rattle.subproduct.specs.Layout.{matrix_list, tree_list}
 use Rattle.subproduct.specs.Leaf.{LeafInput}
 use Rattle.subproduct.specs.Build.{BuildInput, first_rows, leaf-input, leaf-stored}
-use Rattle.subproduct.specs.Climb.{ClimbInput, ClimbOutput}
 
--- ---- the tree of a family
 module _ {m : ℕ} {a b c : List ℕ} (lending : Lending (family m a b c)) where
   pub tree-first : padded (first_rows (family m a b c) (length a)) ≡ padded (family m a b c)
   tree-first = ap padded (lent-whole m a b c lending.b_length lending.c_length)
@@ -34,16 +31,3 @@ module _ {m : ℕ} {a b c : List ℕ} (lending : Lending (family m a b c)) where
         (epa ∙ first a (t + 1) refl) (epb ∙ first b (t + 1) lending.b_length) (epc ∙ first c (t + 1) lending.c_length)
         (eqa ∙ first a (t + 2) refl) (eqb ∙ first b (t + 2) lending.b_length) (eqc ∙ first c (t + 2) lending.c_length) e
         ∙ ap (λ f. written w at (tree_list f 0 t)) tree-first
-
--- ---- the way up
-module _ {m : ℕ} {curve w : List ℕ} {tree at level t : ℕ} where
-  pub climb-curve : {pairs : ℕ} → ClimbInput m curve (length curve) w tree at level pairs t → take (length curve) curve ≡ curve
-  climb-curve h = take_all (length curve) curve (omega arith)
-
-  pub climb-first : {w' : List ℕ} → ClimbOutput m curve w tree at level t w'
-      → ClimbOutput m (take (length curve) curve) w tree at level t w'
-  climb-first {w'} = subst (λ u. ClimbOutput m u w tree at level t w') (sym (take_all (length curve) curve (omega arith)))
-
-  pub climb-whole : {w' : List ℕ} → ClimbOutput m (take (length curve) curve) w tree at level t w'
-      → ClimbOutput m curve w tree at level t w'
-  climb-whole {w'} = subst (λ u. ClimbOutput m u w tree at level t w') (take_all (length curve) curve (omega arith))

@@ -4,7 +4,7 @@
 // of them is written, and there is no heap.
 #![tactic(auto)]
 
-ghost use Rattle.std.specs.Prelude.{◌≡◌, ◌+◌, ◌*◌, ◌-◌, ◌≤◌, length};
+ghost use Rattle.std.specs.Prelude.{◌≡◌, ◌+◌, ◌*◌, ◌-◌, ◌≤◌, take};
 ghost use Rattle.definitions.specs.Family.{row_of, rows};
 ghost use Rattle.numbers.specs.Regions.{written};
 ghost use Rattle.tree_model.specs.Tree.{padded, leaf, join, expand_pair, adjoint_pair};
@@ -16,7 +16,7 @@ ghost use Rattle.subproduct.specs.Climb.{ClimbInput, ClimbOutput};
 ghost use Rattle.subproduct.specs.Descend.{DescendInput, DescendOutput};
 ghost use Rattle.subproduct.specs.AdjointPair.{AdjointPlaces};
 
-use lists::{Family, entry, store};
+use lists::{Family, entry, row_entry, store};
 use products::{add_products, transposed};
 use reduction::Modulus;
 use residue::combine;
@@ -153,11 +153,12 @@ pub fn build(family: &Family, w: &mut [u32], at: usize, level: usize, pairs: usi
     join(m, w, end, pairs + k, end - lists, right - lists, k);
 }
 
-// Writes the pair over the 2 pairs entries of the curve from t on, from place at on, by the tree that is stored from place tree on.
-// Behind the pair lie the pairs of both halves, and their scratch.
+// Writes the pair over the 2 pairs entries of the curve from t on, from place at on, by the tree that is stored from place tree on. The first
+// n entries take part, and past them there are zeros. Behind the pair lie the pairs of both halves, and their scratch.
 pub fn climb(
     m: u32,
     curve: &[u32],
+    n: usize,
     w: &mut [u32],
     tree: usize,
     at: usize,
@@ -165,12 +166,12 @@ pub fn climb(
     pairs: usize,
     t: usize,
 )
-    requires { ClimbInput m curve.now (length curve.now) w.old tree at level pairs t }
-    ensures { ClimbOutput m curve.now w.old tree at level t w.new }
+    requires { ClimbInput m curve.now n w.old tree at level pairs t }
+    ensures { ClimbOutput m (take n curve.now) w.old tree at level t w.new }
 {
     if pairs == 1 {
-        let x = entry(curve, t);
-        let y = entry(curve, t + 1);
+        let x = row_entry(curve, n, t, 0);
+        let y = row_entry(curve, n, t + 1, 0);
         store(w, at, [x, 0, y, 0]);
         return;
     }
@@ -180,8 +181,8 @@ pub fn climb(
     let right = left + 2 * pairs;
     let end = tree + size;
     let k = pairs + 1;
-    climb(m, curve, w, tree, left, level - 1, half, t);
-    climb(m, curve, w, end, right, level - 1, half, t + pairs);
+    climb(m, curve, n, w, tree, left, level - 1, half, t);
+    climb(m, curve, n, w, end, right, level - 1, half, t + pairs);
     expand_pair(
         m,
         w,

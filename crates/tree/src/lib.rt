@@ -1,21 +1,24 @@
 // Expand and Adjoint by the subproduct tree, on input that is already checked. Both work in the first 16,384 numbers of the working list and
-// leave zeros there: the tree from place 0 on, the vectors and their scratch from place 9,212 on. The lists are as long as the family and its
-// curve: n entries of the curve and of the output, n - 1 rows.
+// leave zeros there: the tree from place 0 on, the vectors and their scratch from place 9,212 on. Of n - 1 rows the first n entries of the curve
+// take part, and of the output the first n are written: `expand` and `adjoint` are lent lists of these lengths or longer, and the functions
+// that they hand them to (`expand_whole`, `adjoint_whole`) lists that are just as long.
 // root_pair takes places: slices of that one list cannot be lent side by side where one of them is written, and there is no heap.
 #![tactic(auto)]
 
-ghost use Rattle.std.specs.Prelude.{◌≡◌, List, ℕ, ◌+◌, ◌≤◌, length, get_or};
+ghost use Rattle.std.specs.Prelude.{◌≡◌, List, ℕ, ◌+◌, ◌≤◌, length, get_or, take};
 ghost use Rattle.definitions.specs.Answers.{cleared};
 ghost use Rattle.definitions.specs.Conversion.{expand, adjoint};
-ghost use Rattle.definitions.specs.Family.{Curve};
+ghost use Rattle.definitions.specs.Family.{Curve, size};
 ghost use Rattle.definitions.specs.Family as definition;
 ghost use Rattle.definitions.specs.Refusals.{work_length};
+ghost use Rattle.lists.specs.Held.{Output};
 ghost use Rattle.numbers.specs.Lists.{filled};
 ghost use Rattle.numbers.specs.Regions.{part, written};
 ghost use Rattle.numbers.specs.Products.{plus_product};
 ghost use Rattle.subproduct.specs.Layout.{Level};
 ghost use Rattle.tree.specs.Root.{LevelOf, RootInput, CoefficientInput, root_entry};
 ghost use Rattle.tree.specs.RootPair.{StretchInput, stretched, PairInput, PairOutput};
+ghost use Rattle.tree.specs.Input.{Input};
 ghost use Rattle.tree.specs.Core.{TreeOutput, expand_vectors, adjoint_vectors};
 
 use convolution::products_at;
@@ -99,7 +102,7 @@ fn root_pair(m: u32, b: u32, a: u32, curve: &[u32], w: &mut [u32], at: usize, sp
 }
 
 // Expand with two entries at least: the tree is stored, the pairs climb it to the root, and the root's pair gives the coefficients. The
-// tree and that pair are left in the working list, for `expand` to clear.
+// tree and that pair are left in the working list, for `expand_whole` to clear.
 fn expand_tree(family: &Family, curve: &[u32], output: &mut [u32], work: &mut [u32])
     requires curve { Curve family.now curve.now }
     requires many { 2 ≤ length curve.now }
@@ -115,7 +118,7 @@ fn expand_tree(family: &Family, curve: &[u32], output: &mut [u32], work: &mut [u
     let pairs = pairs_for(level);
     let first = [family.b[0], family.a[0]];
     build(family, work, 0, level, pairs, 0);
-    climb(m, curve, work, 0, 9212, level, pairs, 0);
+    climb(m, curve, n, work, 0, 9212, level, pairs, 0);
     expand_root(m, work, 9212, pairs + pairs, &first, output);
 }
 
@@ -132,7 +135,7 @@ fn copy_out(from: &[u32], count: usize, to: &mut [u32])
 }
 
 // Adjoint with two entries at least: the tree is stored, and the root's pair descends it to the entries. The tree, that pair and the
-// entries are left in the working list, and scratch behind them, for `adjoint` to clear.
+// entries are left in the working list, and scratch behind them, for `adjoint_whole` to clear.
 fn adjoint_tree(family: &Family, curve: &[u32], output: &mut [u32], work: &mut [u32])
     requires curve { Curve family.now curve.now }
     requires many { 2 ≤ length curve.now }
@@ -162,10 +165,10 @@ fn adjoint_tree(family: &Family, curve: &[u32], output: &mut [u32], work: &mut [
     copy_out(&work[at..], n, output);
 }
 
-// Expand: the coefficients of the sum of the u_j F_j. Up to 256 entries the tree fits.
-// expand and adjoint differ in the function with the tree alone. Above them the choice is a type, `Conversion`; a trait for these two would be
-// no plainer.
-pub fn expand(family: &Family, curve: &[u32], output: &mut [u32], work: &mut [u32])
+// Expand on lists that are just as long: the coefficients of the sum of the u_j F_j. Up to 256 entries the tree fits.
+// expand_whole and adjoint_whole differ in the function with the tree alone. Above them the choice is a type, `Conversion`; a trait for these
+// two would be no plainer.
+pub fn expand_whole(family: &Family, curve: &[u32], output: &mut [u32], work: &mut [u32])
     requires curve { Curve family.now curve.now }
     requires few { length curve.now ≤ 256 }
     requires room { length output.old ≡ length curve.now }
@@ -182,8 +185,8 @@ pub fn expand(family: &Family, curve: &[u32], output: &mut [u32], work: &mut [u3
     clear(work);
 }
 
-// Adjoint: entry j is the sum over i of u_i times the coefficient of x^i in F_j.
-pub fn adjoint(family: &Family, curve: &[u32], output: &mut [u32], work: &mut [u32])
+// Adjoint on lists that are just as long: entry j is the sum over i of u_i times the coefficient of x^i in F_j.
+pub fn adjoint_whole(family: &Family, curve: &[u32], output: &mut [u32], work: &mut [u32])
     requires curve { Curve family.now curve.now }
     requires few { length curve.now ≤ 256 }
     requires room { length output.old ≡ length curve.now }
@@ -200,18 +203,39 @@ pub fn adjoint(family: &Family, curve: &[u32], output: &mut [u32], work: &mut [u
     clear(work);
 }
 
+// Expand: the n first coefficients of the sum of the u_j F_j, of n - 1 rows and the first n entries of the curve. What lies behind the n first
+// numbers of the output stays.
+pub fn expand(family: &Family, curve: &[u32], output: &mut [u32], work: &mut [u32])
+    requires { Input family.now.m family.now.a family.now.b family.now.c
+        curve.now (size family.now) output.old work.old }
+    ensures { Output (expand family.now (take (size family.now) curve.now)) (size family.now)
+        output.old output.new work.old work.new }
+{
+    let n = family.a.len() + 1;
+    expand_whole(family, &curve[..n], &mut output[..n], work);
+}
+
+// Adjoint: entry j is the sum over i of u_i times the coefficient of x^i in F_j, for j below n; curve and output are as for expand.
+pub fn adjoint(family: &Family, curve: &[u32], output: &mut [u32], work: &mut [u32])
+    requires { Input family.now.m family.now.a family.now.b family.now.c
+        curve.now (size family.now) output.old work.old }
+    ensures { Output (adjoint family.now (take (size family.now) curve.now)) (size family.now)
+        output.old output.new work.old work.new }
+{
+    let n = family.a.len() + 1;
+    adjoint_whole(family, &curve[..n], &mut output[..n], work);
+}
+
 // A conversion by the tree, on input that is already checked.
 // The plain way has a trait of its own by this name: its conversions are lent no working list.
 pub trait Conversion {
     ghost converted: { definition.Family → List ℕ → List ℕ };
 
     fn convert(family: &Family, curve: &[u32], output: &mut [u32], work: &mut [u32])
-        requires curve { Curve family.now curve.now }
-        requires few { length curve.now ≤ 256 }
-        requires room { length output.old ≡ length curve.now }
-        requires work { work_length ≤ length work.old }
-        ensures written { output.new ≡ converted family.now curve.now }
-        ensures wiped { work.new ≡ cleared work.old };
+        requires { Input family.now.m family.now.a family.now.b family.now.c
+            curve.now (size family.now) output.old work.old }
+        ensures { Output (converted family.now (take (size family.now) curve.now)) (size family.now)
+            output.old output.new work.old work.new };
 }
 
 #[derive(Clone, Copy)]

@@ -1,7 +1,5 @@
 -- `norms` meets its contract: the laws of `Norming` at the loop. Assumes nothing.
 use Rattle.plain.specs.Norming.{norming-starts, norming-next, norming-ends}
-use Rattle.std.proofs.Common.{refl, ◌∙◌}
-use Rattle.lists.specs.Whole.{written-whole}
 use Rattle.plain.proofs.norms.Goals as goal
 
 pub loop-i-init : goal.loop-i-init
@@ -14,9 +12,5 @@ loop-i-preserved c =
     c.row_entry-p.ensures (rw c.new-modulus.ensures at c.product.ensures)
     c.row_entry-r.ensures (rw c.new-modulus.ensures at c.negative.ensures) (rw c.new-modulus.ensures at c.product-signed.ensures)
 
-pub shape_of-output : goal.shape_of-output
-shape_of-output c = c.loop-i.invariant.written.same_length
-
 pub returns : goal.returns
-returns c = λ a b close_a close_b inverts. norming-ends c.requires c.loop-i-test.false c.loop-i.invariant a b close_a close_b inverts
-    ∙ written-whole _ c.args.output.now _ refl
+returns c = norming-ends c.requires c.loop-i-test.false c.loop-i.invariant

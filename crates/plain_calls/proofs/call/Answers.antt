@@ -1,20 +1,25 @@
-use Rattle.std.proofs.Common.{arith}
+-- `call` meets its promise: it answers the verdict of its tests, and its core writes the definition's list. Assumes nothing.
+use Rattle.std.proofs.Common.{◌∙◌}
+use Rattle.acceptance.specs.Promises.{tests-finish}
 use Rattle.lists.specs.Lending.{accepted-lending}
+use Rattle.lists.specs.Whole.{lent-family}
+use Rattle.plain.proofs.Taken.{written}
+use Rattle.plain.specs.Input.{convert-asked}
 use Rattle.plain_calls.specs.PlainCall.{plain-input}
+use Rattle.plain_calls.specs.PlainCore.{plain-core, plain-written}
 use Rattle.plain_calls.proofs.call.Goals as goal
 
 pub invariant_of-family : goal.invariant_of-family
 invariant_of-family g c = accepted-lending (plain-input _ c.plain.ensures c.in_ok-plain.was).accepted
 
-pub convert-requires-clause-curve : goal.convert-requires-clause-curve
-convert-requires-clause-curve g c = (plain-input _ c.plain.ensures c.in_ok-plain.was).curve
-
-pub convert-requires-clause-few : goal.convert-requires-clause-few
-convert-requires-clause-few g c =
+pub convert-requires : goal.convert-requires
+convert-requires g c =
     let input = plain-input _ c.plain.ensures c.in_ok-plain.was in
-    omega (arith, input.curve.long, input.accepted.row_count)
+    convert-asked (plain-core _ input) (lent-family input.accepted)
 
-pub convert-requires-clause-room : goal.convert-requires-clause-room
-convert-requires-clause-room g c =
+pub returns : goal.returns
+returns g c =
     let input = plain-input _ c.plain.ensures c.in_ok-plain.was in
-    omega (arith, input.output_length, input.curve.long)
+    tests-finish _ _ c.plain.ensures c.in_ok-plain.was
+    (written (plain-core _ input) (lent-family input.accepted) g.C.Conversion.converted c.convert.ensures
+    ∙ plain-written c.args.output.now input g.C.Conversion.converted)

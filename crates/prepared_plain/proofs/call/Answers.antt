@@ -1,23 +1,24 @@
--- `call` keeps the promise of a conversion on a record: the rows that its core is lent are those of an accepted family. Assumes nothing.
-use native.Mathlib.Omega.{arith}
-use Rattle.prepared_plain.specs.RecordCore.{record-input, record-few, record-lending}
+-- `call` keeps the promise of a conversion on a record: its core, lent the rows, writes the definition's list. Assumes nothing.
+use Rattle.plain.proofs.Taken.{written}
+use Rattle.plain.specs.Input.{convert-lent, convert-asked}
+use Rattle.prepared_plain.specs.RecordCore.{record-few, plain-core, lent-rows, plain-made}
 use Rattle.prepared_plain.proofs.call.Goals as goal
 
 pub shared_ref_as_front-lent : goal.shared_ref_as_front-lent
 shared_ref_as_front-lent g c = record-few _ _ _ c.plain_verdict.ensures c.in_ok-plain_verdict.was
 
 pub invariant_of-lent : goal.invariant_of-lent
-invariant_of-lent g c = record-lending _ _ _ c.plain_verdict.ensures c.in_ok-plain_verdict.was
+invariant_of-lent g c =
+    convert-lent (plain-core _ _ _ c.plain_verdict.ensures c.in_ok-plain_verdict.was)
+    (lent-rows _ _ _ _ _)
 
-pub convert-requires-clause-curve : goal.convert-requires-clause-curve
-convert-requires-clause-curve g c = (record-input _ _ _ c.plain_verdict.ensures c.in_ok-plain_verdict.was).curve
+pub convert-requires : goal.convert-requires
+convert-requires g c =
+    convert-asked (plain-core _ _ _ c.plain_verdict.ensures c.in_ok-plain_verdict.was)
+    (lent-rows _ _ _ _ _)
 
-pub convert-requires-clause-few : goal.convert-requires-clause-few
-convert-requires-clause-few g c =
-    let input = record-input _ _ _ c.plain_verdict.ensures c.in_ok-plain_verdict.was in
-    omega (arith, input.curve.long, input.accepted.row_count)
-
-pub convert-requires-clause-room : goal.convert-requires-clause-room
-convert-requires-clause-room g c =
-    let input = record-input _ _ _ c.plain_verdict.ensures c.in_ok-plain_verdict.was in
-    omega (arith, input.output_length, input.curve.long)
+pub returns : goal.returns
+returns g c =
+    plain-made _ _ _ c.plain_verdict.ensures c.in_ok-plain_verdict.was g.C.Conversion.converted
+    (written (plain-core _ _ _ c.plain_verdict.ensures c.in_ok-plain_verdict.was)
+    (lent-rows _ _ _ _ _) g.C.Conversion.converted c.convert.ensures)

@@ -3,13 +3,12 @@
 use mathlib.Core.Path.{◌∙◌}
 use native.Mathlib.Omega.{arith}
 use Rattle.subproduct.specs.Climb.{climb-one, climb-left, climb-right, climb-pair, climb-output}
-use Rattle.subproduct.proofs.Lent.{climb-curve, climb-first, climb-whole}
 use Rattle.subproduct.proofs.+climb.Goals as goal
 
 pub returns-then-pairs-eq1 : goal.returns-then-pairs-eq1
 returns-then-pairs-eq1 t c =
-    climb-whole (climb-one c.requires c.if-pairs-eq1.true
-    (rw (← climb-curve c.requires) at c.entry-x.ensures) (rw (← climb-curve c.requires) at c.entry-y.ensures) c.store.ensures)
+    climb-one c.requires c.if-pairs-eq1.true
+    c.row_entry-x.ensures c.row_entry-y.ensures c.store.ensures
 
 pub climb-requires : goal.climb-requires
 climb-requires t c =
@@ -17,12 +16,12 @@ climb-requires t c =
 
 pub climb-requires-2 : goal.climb-requires-2
 climb-requires-2 t c =
-    (omega arith, climb-right c.requires c.half_size-size.ensures (climb-first c.climb.ensures))
+    (omega arith, climb-right c.requires c.half_size-size.ensures c.climb.ensures)
 
 pub expand_pair-requires : goal.expand_pair-requires
 expand_pair-requires t c =
     climb-pair c.requires c.half_size-size.ensures
-    (climb-first c.climb.ensures) (climb-first c.climb-2.ensures)
+    c.climb.ensures c.climb-2.ensures
 
 pub shape_of-w : goal.shape_of-w
 shape_of-w t c =
@@ -30,5 +29,5 @@ shape_of-w t c =
 
 pub returns : goal.returns
 returns t c =
-    climb-whole (climb-output c.requires c.half_size-size.ensures
-    (climb-first c.climb.ensures) (climb-first c.climb-2.ensures) c.expand_pair.ensures)
+    climb-output c.requires c.half_size-size.ensures
+    c.climb.ensures c.climb-2.ensures c.expand_pair.ensures

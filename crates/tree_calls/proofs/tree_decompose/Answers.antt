@@ -1,10 +1,12 @@
 -- `tree_decompose` meets its promise: it answers the verdict of its tests, and its core, lent the inverses of the a and of the c, writes
 -- the definition's list and leaves the working list clear. Assumes nothing.
-use Rattle.std.proofs.Common.{arith}
-use Rattle.acceptance.specs.Promises.{both-made}
-use Rattle.inverses.specs.InverseArray.{a-room, c-room, array-is, family-inverts, family-inverts-c}
-use Rattle.lists.specs.Lending.{accepted-lending}
-use Rattle.tree_calls.specs.TreeCore.{tree-input}
+use Rattle.std.proofs.Common.{arith, subst, take}
+use Rattle.definitions.specs.Conversion.{decompose}
+use Rattle.definitions.specs.Family.{size}
+use Rattle.inverses.specs.InverseArray.{a-room, c-room, array-is}
+use Rattle.lists.specs.Held.{Output}
+use Rattle.tree_calls.specs.MomentCore.{decompose-input, decompose-lending, decompose-beside, decompose-beside-c, decompose-curve}
+use Rattle.tree_calls.specs.TreeCore.{tree-input, core-made}
 use Rattle.tree_calls.proofs.tree_decompose.Goals as goal
 
 pub of_list-requires : goal.of_list-requires
@@ -18,34 +20,63 @@ of_list-requires-2 c =
     c-room input.plain.accepted c.zeros-c_inverses.ensures
 
 pub invariant_of-family : goal.invariant_of-family
-invariant_of-family c = accepted-lending (tree-input c.tree.ensures c.in_ok-tree.was).plain.accepted
+invariant_of-family c =
+    let input = tree-input c.tree.ensures c.in_ok-tree.was in
+    let accepted = input.plain.accepted in
+    let core = decompose-input accepted (array-is accepted c.zeros-a_inverses.ensures c.of_list.ensures)
+    (array-is accepted c.zeros-c_inverses.ensures c.of_list-2.ensures) input in
+    decompose-lending accepted core
 
 pub by_ones-inverted-requires : goal.by_ones-inverted-requires
 by_ones-inverted-requires c =
-    let accepted = (tree-input c.tree.ensures c.in_ok-tree.was).plain.accepted in
-    family-inverts accepted (array-is accepted c.zeros-a_inverses.ensures c.of_list.ensures)
+    let input = tree-input c.tree.ensures c.in_ok-tree.was in
+    let accepted = input.plain.accepted in
+    let core = decompose-input accepted (array-is accepted c.zeros-a_inverses.ensures c.of_list.ensures)
+    (array-is accepted c.zeros-c_inverses.ensures c.of_list-2.ensures) input in
+    decompose-beside accepted core
 
 pub decompose-requires-clause-inverses : goal.decompose-requires-clause-inverses
 decompose-requires-clause-inverses c =
-    let accepted = (tree-input c.tree.ensures c.in_ok-tree.was).plain.accepted in
-    rw c.by_ones-inverted.ensures (family-inverts-c accepted (array-is accepted c.zeros-c_inverses.ensures c.of_list-2.ensures))
+    let input = tree-input c.tree.ensures c.in_ok-tree.was in
+    let accepted = input.plain.accepted in
+    let core = decompose-input accepted (array-is accepted c.zeros-a_inverses.ensures c.of_list.ensures)
+    (array-is accepted c.zeros-c_inverses.ensures c.of_list-2.ensures) input in
+    rw c.by_ones-inverted.ensures (decompose-beside-c accepted core)
 
 pub decompose-requires-clause-curve : goal.decompose-requires-clause-curve
-decompose-requires-clause-curve c = rw c.by_ones-inverted.ensures (tree-input c.tree.ensures c.in_ok-tree.was).plain.curve
+decompose-requires-clause-curve c =
+    let input = tree-input c.tree.ensures c.in_ok-tree.was in
+    let accepted = input.plain.accepted in
+    let core = decompose-input accepted (array-is accepted c.zeros-a_inverses.ensures c.of_list.ensures)
+    (array-is accepted c.zeros-c_inverses.ensures c.of_list-2.ensures) input in
+    rw c.by_ones-inverted.ensures (decompose-curve accepted core)
 
 pub decompose-requires-clause-few : goal.decompose-requires-clause-few
 decompose-requires-clause-few c =
     let input = tree-input c.tree.ensures c.in_ok-tree.was in
-    omega (arith, input.plain.curve.long, input.plain.accepted.row_count)
+    let accepted = input.plain.accepted in
+    let core = decompose-input accepted (array-is accepted c.zeros-a_inverses.ensures c.of_list.ensures)
+    (array-is accepted c.zeros-c_inverses.ensures c.of_list-2.ensures) input in
+    rw c.by_ones-inverted.ensures (omega (arith, core.closed.most))
 
 pub decompose-requires-clause-room : goal.decompose-requires-clause-room
 decompose-requires-clause-room c =
     let input = tree-input c.tree.ensures c.in_ok-tree.was in
-    omega (arith, input.plain.curve.long, input.plain.output_length)
+    let accepted = input.plain.accepted in
+    let core = decompose-input accepted (array-is accepted c.zeros-a_inverses.ensures c.of_list.ensures)
+    (array-is accepted c.zeros-c_inverses.ensures c.of_list-2.ensures) input in
+    rw c.by_ones-inverted.ensures (omega (arith, core.output_long))
 
 pub decompose-requires-clause-work : goal.decompose-requires-clause-work
-decompose-requires-clause-work c = (tree-input c.tree.ensures c.in_ok-tree.was).work_long
+decompose-requires-clause-work c =
+    let input = tree-input c.tree.ensures c.in_ok-tree.was in
+    let accepted = input.plain.accepted in
+    let core = decompose-input accepted (array-is accepted c.zeros-a_inverses.ensures c.of_list.ensures)
+    (array-is accepted c.zeros-c_inverses.ensures c.of_list-2.ensures) input in
+    core.work_long
 
 pub returns : goal.returns
 returns c =
-    both-made c.tree.ensures c.in_ok-tree.was (rw c.by_ones-inverted.ensures at c.decompose.ensures.written) c.decompose.ensures.wiped
+    core-made (tree-input c.tree.ensures c.in_ok-tree.was) decompose c.tree.ensures c.in_ok-tree.was
+    (subst (λ f. Output (decompose f (take (size f) c.args.coefficients.now)) (size f)
+    c.args.output.now c.decompose.new.output c.args.work.now c.decompose.new.work) c.by_ones-inverted.ensures c.decompose.ensures)

@@ -1,8 +1,8 @@
--- `decompose` meets its contract: with one coefficient there is no tree; otherwise the answer by the moments stands. Assumes nothing.
+-- `decompose_whole` meets its contract: with one coefficient there is no tree; otherwise the answer by the moments stands. Assumes nothing.
 use Rattle.std.proofs.Common.{refl, arith}
 use Rattle.moment_way.proofs.DecomposeByMoments.{decompose-one}
 use Rattle.moment_way.proofs.Taken.{decompose-asked, decompose-whole}
-use Rattle.moment_way.proofs.decompose.Goals as goal
+use Rattle.moment_way.proofs.decompose_whole.Goals as goal
 
 pub returns-then-coefficients-eq1-clause-written : goal.returns-then-coefficients-eq1-clause-written
 returns-then-coefficients-eq1-clause-written c =

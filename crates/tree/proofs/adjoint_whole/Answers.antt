@@ -1,4 +1,4 @@
--- `tree::adjoint` meets its contract: with one entry there is no tree; otherwise the tree's answer stands, and the working list is cleared
+-- `tree::adjoint_whole` meets its contract: with one entry there is no tree; otherwise the tree's answer stands, and the working list is cleared
 -- behind it. Assumes nothing.
 use Rattle.std.proofs.Common.{refl, ◌∙◌}
 use Rattle.definitions.specs.Conversion.{adjoint}
@@ -8,7 +8,7 @@ use Rattle.tree_model.proofs.TreeAdjoint.{tree-adjoint}
 use Rattle.tree.specs.Core.{wiped-output}
 use Rattle.tree.proofs.Core.{alone-adjoint}
 use Rattle.tree.proofs.Taken.{taken, alone-made}
-use Rattle.tree.proofs.adjoint.Goals as goal
+use Rattle.tree.proofs.adjoint_whole.Goals as goal
 
 pub returns-then-curve-eq1-clause-written : goal.returns-then-curve-eq1-clause-written
 returns-then-curve-eq1-clause-written c =

@@ -1,11 +1,11 @@
--- `moments` meets its contract: F_n and G_{n-1}, the inverse of the leading coefficient, and the quotient.
+-- `moments_whole` meets its contract: F_n and G_{n-1}, the inverse of the leading coefficient, and the quotient.
 -- Assumes nothing.
 use Rattle.std.proofs.Common.{refl, ◌∙◌, ap, add-one, arith}
 use Rattle.definitions.specs.Orthogonality.{moments}
 use Rattle.lists.specs.Whole.{written-whole}
 use Rattle.moment_way.specs.Moments.{leading-lent, moments-quotient, moments-are}
 use Rattle.moment_way.proofs.Taken.{closed-lent, polynomials-lent, moments-input}
-use Rattle.moment_way.proofs.moments.Goals as goal
+use Rattle.moment_way.proofs.moments_whole.Goals as goal
 
 pub quotient-requires : goal.quotient-requires
 quotient-requires c =
