@@ -5,7 +5,7 @@
 
 ghost use Rattle.std.specs.Prelude.{◌≡◌, List, ◌++◌, ℕ, ◌-◌, ◌<◌, ◌≤◌, length, take, drop};
 ghost use Rattle.definitions.specs.Conversion.{expand, adjoint};
-ghost use Rattle.definitions.specs.Family.{row_of, size};
+ghost use Rattle.definitions.specs.Family.{Curve, row_of, size};
 ghost use Rattle.definitions.specs.Orthogonality.{norms};
 ghost use Rattle.definitions.specs.Family as definition;
 ghost use Rattle.lists.specs.Inverses.{Inverts};
@@ -13,6 +13,9 @@ ghost use Rattle.lists.specs.Lent.{lent};
 ghost use Rattle.numbers.specs.Lists.{filled};
 ghost use Rattle.plain.specs.Decomposing.{Decomposes, negative_product};
 ghost use Rattle.plain.specs.Input.{ConvertInput, NormsCoreInput};
+
+#[cfg(test)]
+mod tests;
 
 use lists::{Family, copy, row_entry, zeros};
 use reduction::Modulus;
@@ -67,17 +70,29 @@ pub fn adjoint(family: &Family, curve: &[u32], output: &mut [u32])
     }
 }
 
-// A conversion by the plain way, on input that is already checked.
+// A conversion by the plain way, on input that is already checked. convert is lent a curve and an output that are just as long as the family asks.
+// From it the trait gives convert_front, which may be lent longer ones: the first n entries of the curve take part, and what lies behind the n
+// first numbers of the output stays. Expanding and Adjoining write both, since expand and adjoint take longer lists by themselves.
 // The tree has a trait of its own by this name: its conversions are lent a working list, which is cleared.
 pub trait Conversion {
     ghost converted: { definition.Family → List ℕ → List ℕ };
 
     fn convert(family: &Family, curve: &[u32], output: &mut [u32])
+        requires curve { Curve family.now curve.now }
+        requires few { length curve.now ≤ 128 }
+        requires room { length output.old ≡ length curve.now }
+        ensures { output.new ≡ converted family.now curve.now };
+
+    fn convert_front(family: &Family, curve: &[u32], output: &mut [u32])
         requires { ConvertInput family.now.m family.now.a family.now.b family.now.c curve.now
             (size family.now) output.old }
         ensures { output.new
             ≡ converted family.now (take (size family.now) curve.now)
-            ++ drop (size family.now) output.old };
+            ++ drop (size family.now) output.old }
+    {
+        let n = family.a.len() + 1;
+        Self::convert(family, &curve[..n], &mut output[..n]);
+    }
 }
 
 #[derive(Clone, Copy)]
@@ -87,6 +102,12 @@ impl Conversion for Expanding {
     ghost converted = { expand };
 
     fn convert(family: &Family, curve: &[u32], output: &mut [u32]) {
+        // What expand asks of the rows is the family's invariant, which a proof has where a field is read.
+        let _ = &family.a;
+        expand(family, curve, output);
+    }
+
+    fn convert_front(family: &Family, curve: &[u32], output: &mut [u32]) {
         expand(family, curve, output);
     }
 }
@@ -98,6 +119,12 @@ impl Conversion for Adjoining {
     ghost converted = { adjoint };
 
     fn convert(family: &Family, curve: &[u32], output: &mut [u32]) {
+        // What adjoint asks of the rows is the family's invariant, which a proof has where a field is read.
+        let _ = &family.a;
+        adjoint(family, curve, output);
+    }
+
+    fn convert_front(family: &Family, curve: &[u32], output: &mut [u32]) {
         adjoint(family, curve, output);
     }
 }

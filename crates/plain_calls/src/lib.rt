@@ -41,7 +41,7 @@ fn call<C: Conversion>(
         b,
         c,
     };
-    C::convert(&family, curve, output);
+    C::convert_front(&family, curve, output);
     Ok(())
 }
 

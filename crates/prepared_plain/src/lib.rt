@@ -61,7 +61,7 @@ fn call<C: Conversion>(family: Prepared, curve: &[u32], output: &mut [u32]) -> R
         b: &family.b[..rows],
         c: &family.c[..rows],
     };
-    C::convert(&lent, curve, output);
+    C::convert_front(&lent, curve, output);
     Ok(())
 }
 

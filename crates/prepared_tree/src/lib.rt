@@ -75,7 +75,7 @@ fn call<C: Conversion>(
         b: &family.b[..rows],
         c: &family.c[..rows],
     };
-    C::convert(&lent, curve, output, work);
+    C::convert_front(&lent, curve, output, work);
     Ok(())
 }
 

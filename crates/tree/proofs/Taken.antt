@@ -1,8 +1,10 @@
 -- A family and a curve of it, lent whole, are what the tree's steps take: n is the number of entries, one more than the rows.
 -- Proved: that; what the steps leave of the first n entries, by the tree model, is what the definitions say of all; a step that is lent a
--- list whole does what it does with that list's length as a count. Assumes nothing.
+-- list whole does what it does with that list's length as a count; what is written over the first numbers of a longer output stands at its
+-- front (front-output). Assumes nothing.
 use Rattle.std.proofs.Common.{◌≡◌, refl, ◌∙◌, sym, ap, subst, List, ◌++◌, ℕ, suc, ◌+◌, ◌-◌, ◌<◌, ◌≤◌, length, take, drop, take_all, arith}
-use Rattle.definitions.specs.Family.{Family, Curve, family, ones, rows}
+use Rattle.definitions.specs.Answers.{cleared}
+use Rattle.definitions.specs.Family.{Family, Curve, family, ones, rows, size}
 use Rattle.definitions.specs.Refusals.{work_length}
 use Rattle.lists.specs.Held.{Output}
 use Rattle.lists.specs.Lent.{lent}
@@ -33,6 +35,15 @@ pub root-whole : {m : ℕ} {w : List ℕ} {at span : ℕ} {first output : List �
     → {now : List ℕ} {k : ℕ} → k ≡ length output → Filling (root_entry m w at span first) k output now
     → now ≡ plus_product m (length output) (part w at span) (part w (at + span) span) first
 root-whole {output = output} h e f = root_ends h e f ∙ written-whole _ output (length output) refl
+
+-- a conversion of lists that are just as long, over the front of longer ones
+pub front-output : (convert : Family → List ℕ → List ℕ) (u : List ℕ) {f : Family} {output front work work' : List ℕ} {k : ℕ} → k ≡ size f
+    → front ≡ convert f (take k u) → work' ≡ cleared work
+    → Output (convert f (take (size f) u)) (size f) output (front ++ drop k output) work work'
+front-output convert u {f} {output} {k = k} is made wiped = record {
+  written = ap (λ r. r ++ drop k output) made ∙ ap (λ n. convert f (take n u) ++ drop n output) is;
+  wiped = wiped;
+}
 
 module _ {m : ℕ} {a b c u : List ℕ} (output work : List ℕ) (lending : Lending (family m a b c)) (curve : Curve (family m a b c) u)
     (few : length u ≤ 256) (room : length output ≡ length u) (working : work_length ≤ length work) where

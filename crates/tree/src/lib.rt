@@ -21,6 +21,9 @@ ghost use Rattle.tree.specs.RootPair.{StretchInput, stretched, PairInput, PairOu
 ghost use Rattle.tree.specs.Input.{Input};
 ghost use Rattle.tree.specs.Core.{TreeOutput, expand_vectors, adjoint_vectors};
 
+#[cfg(test)]
+mod tests;
+
 use convolution::products_at;
 use lists::{Family, clear, entry, store};
 use products::transposed;
@@ -226,16 +229,30 @@ pub fn adjoint(family: &Family, curve: &[u32], output: &mut [u32], work: &mut [u
     adjoint_whole(family, &curve[..n], &mut output[..n], work);
 }
 
-// A conversion by the tree, on input that is already checked.
+// A conversion by the tree, on input that is already checked. convert is lent a curve and an output that are just as long as the family asks.
+// From it the trait gives convert_front, which may be lent longer ones: the first n entries of the curve take part, and what lies behind the n
+// first numbers of the output stays. Expanding and Adjoining take expand and adjoint for it, which do the same.
 // The plain way has a trait of its own by this name: its conversions are lent no working list.
 pub trait Conversion {
     ghost converted: { definition.Family → List ℕ → List ℕ };
 
     fn convert(family: &Family, curve: &[u32], output: &mut [u32], work: &mut [u32])
+        requires curve { Curve family.now curve.now }
+        requires few { length curve.now ≤ 256 }
+        requires room { length output.old ≡ length curve.now }
+        requires work { work_length ≤ length work.old }
+        ensures written { output.new ≡ converted family.now curve.now }
+        ensures wiped { work.new ≡ cleared work.old };
+
+    fn convert_front(family: &Family, curve: &[u32], output: &mut [u32], work: &mut [u32])
         requires { Input family.now.m family.now.a family.now.b family.now.c
             curve.now (size family.now) output.old work.old }
         ensures { Output (converted family.now (take (size family.now) curve.now)) (size family.now)
-            output.old output.new work.old work.new };
+            output.old output.new work.old work.new }
+    {
+        let n = family.a.len() + 1;
+        Self::convert(family, &curve[..n], &mut output[..n], work);
+    }
 }
 
 #[derive(Clone, Copy)]
@@ -245,6 +262,10 @@ impl Conversion for Expanding {
     ghost converted = { expand };
 
     fn convert(family: &Family, curve: &[u32], output: &mut [u32], work: &mut [u32]) {
+        expand_whole(family, curve, output, work);
+    }
+
+    fn convert_front(family: &Family, curve: &[u32], output: &mut [u32], work: &mut [u32]) {
         expand(family, curve, output, work);
     }
 }
@@ -256,6 +277,10 @@ impl Conversion for Adjoining {
     ghost converted = { adjoint };
 
     fn convert(family: &Family, curve: &[u32], output: &mut [u32], work: &mut [u32]) {
+        adjoint_whole(family, curve, output, work);
+    }
+
+    fn convert_front(family: &Family, curve: &[u32], output: &mut [u32], work: &mut [u32]) {
         adjoint(family, curve, output, work);
     }
 }

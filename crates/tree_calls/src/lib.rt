@@ -33,7 +33,7 @@ fn call<C: Conversion>(
         b,
         c,
     };
-    C::convert(&family, curve, output, work);
+    C::convert_front(&family, curve, output, work);
     Ok(())
 }
 

@@ -12,8 +12,8 @@ use Rattle.plain_calls.proofs.call.Goals as goal
 pub invariant_of-family : goal.invariant_of-family
 invariant_of-family g c = accepted-lending (plain-input _ c.plain.ensures c.in_ok-plain.was).accepted
 
-pub convert-requires : goal.convert-requires
-convert-requires g c =
+pub convert_front-requires : goal.convert_front-requires
+convert_front-requires g c =
     let input = plain-input _ c.plain.ensures c.in_ok-plain.was in
     convert-asked (plain-core _ input) (lent-family input.accepted)
 
@@ -21,5 +21,5 @@ pub returns : goal.returns
 returns g c =
     let input = plain-input _ c.plain.ensures c.in_ok-plain.was in
     tests-finish _ _ c.plain.ensures c.in_ok-plain.was
-    (written (plain-core _ input) (lent-family input.accepted) g.C.Conversion.converted c.convert.ensures
+    (written (plain-core _ input) (lent-family input.accepted) g.C.Conversion.converted c.convert_front.ensures
     ∙ plain-written c.args.output.now input g.C.Conversion.converted)

@@ -12,8 +12,8 @@ invariant_of-lent g c =
     convert-lent (plain-core _ _ _ c.plain_verdict.ensures c.in_ok-plain_verdict.was)
     (lent-rows _ _ _ _ _)
 
-pub convert-requires : goal.convert-requires
-convert-requires g c =
+pub convert_front-requires : goal.convert_front-requires
+convert_front-requires g c =
     convert-asked (plain-core _ _ _ c.plain_verdict.ensures c.in_ok-plain_verdict.was)
     (lent-rows _ _ _ _ _)
 
@@ -21,4 +21,4 @@ pub returns : goal.returns
 returns g c =
     plain-made _ _ _ c.plain_verdict.ensures c.in_ok-plain_verdict.was g.C.Conversion.converted
     (written (plain-core _ _ _ c.plain_verdict.ensures c.in_ok-plain_verdict.was)
-    (lent-rows _ _ _ _ _) g.C.Conversion.converted c.convert.ensures)
+    (lent-rows _ _ _ _ _) g.C.Conversion.converted c.convert_front.ensures)

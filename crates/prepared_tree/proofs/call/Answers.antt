@@ -9,8 +9,8 @@ shared_ref_as_front-lent g c = right-few (record-right _ _ _ _ c.tree_verdict.en
 pub invariant_of-lent : goal.invariant_of-lent
 invariant_of-lent g c = core-lending _ _ _ _ c.tree_verdict.ensures c.in_ok-tree_verdict.was
 
-pub convert-requires : goal.convert-requires
-convert-requires g c = core-asked _ _ _ _ c.tree_verdict.ensures c.in_ok-tree_verdict.was
+pub convert_front-requires : goal.convert_front-requires
+convert_front-requires g c = core-asked _ _ _ _ c.tree_verdict.ensures c.in_ok-tree_verdict.was
 
 pub returns : goal.returns
-returns g c = core-made _ _ _ _ c.tree_verdict.ensures c.in_ok-tree_verdict.was g.C.Conversion.converted c.convert.ensures
+returns g c = core-made _ _ _ _ c.tree_verdict.ensures c.in_ok-tree_verdict.was g.C.Conversion.converted c.convert_front.ensures
